@@ -1,12 +1,12 @@
 -- Where the length of a record ends.
 use Rattle.std.proofs.Common.{◌≡◌, ℕ, ◌+◌, ◌*◌, ◌≤◌, ◌<◌, List, [], ◌∷◌, ◌++◌, length, take, drop, arith, sym, ap, ◌∙◌, subst, zero, suc, append-nil}
 use Rattle.std.proofs.Common.{take-append-drop, take_all, le_refl, length-append}
-use Rattle.mv_uleb.specs.Uleb.{IsUleb}
+use Rattle.mv_uleb.specs.Uleb.{IsUleb, AreHigh}
 use Rattle.std.specs.Prelude.{Some, None}
 use Rattle.mv_uleb.specs.Parsing.{number_from}
 use Rattle.mv_uleb.proofs.Spelled.{spelled-front, number_from-some}
 use Rattle.mv_move_types.specs.Limits.{most_payload_bytes}
-use Rattle.moveledger.specs.Reading.{NoLength, AreHigh}
+use Rattle.moveledger.specs.Reading.{NoLength}
 
 pub AreHigh-push : (bs : List ℕ) (b : ℕ) → AreHigh bs → 128 ≤ b → AreHigh (bs ++ b ∷ [])
 AreHigh-push [] b h ge = (ge, tt)

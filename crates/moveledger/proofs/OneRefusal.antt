@@ -22,7 +22,7 @@ use Rattle.mv_ledger.specs.Publishing.{Spells, Passes, FailsAt, no_text, no_boun
 use Rattle.mv_ledger.specs.Publishing.{no_certificate, no_locals, no_edges, no_acquires, AllPass, FailsAmong, IsLinked, HasRoom, IsPublished}
 use Rattle.mv_ledger.specs.Publishing.{IsRefusedAt, in_offer, in_linking, in_room}
 use Rattle.mv_ledger.proofs.Spelling.{OffersAreBytes, module-one}
-use Rattle.mv_ledger.proofs.SavedFails.{never-fails, passed-one}
+use Rattle.mv_ledger.proofs.SavedFails.{never-fails, passed-one, locals-same, edges-same}
 
 -- ---- one offer
 
@@ -72,13 +72,6 @@ holds_at o p (suc q) all lt = by_case (holds_at o p q all.0) (nat_lt p q) refl
         let same : q ≡ p = omega (arith, lt, le) in
         subst (Holds o) same all.1
 
--- what holds of a module and its certificate holds of the same two
-locals-same : (m n : Module) (c d : Certificate) → m ≡ n → c ≡ d → IsTrue (all_locals_hold n d) → IsTrue (all_locals_hold m c)
-locals-same m n c d i j h = rw (i, j) h
-
-edges-same : (m n : Module) (c d : Certificate) → m ≡ n → c ≡ d → IsTrue (all_edges_hold n d) → IsTrue (all_edges_hold m c)
-edges-same m n c d i j h = rw (i, j) h
-
 module _ (reads : IsReadByText) (o : Offer) (are : AreBytes o.text) where
   -- an offer spells one module
   module-is : (m n : Module) → Spells o.text m → Spells o.text n → m ≡ n
@@ -104,9 +97,9 @@ module _ (reads : IsReadByText) (o : Offer) (are : AreBytes o.text) where
   fails_here (not_typed m e b d s a f out) h = out (moved TypesHold m h.0 e h.1 h.2)
   fails_here (no_certificate m e sound out) h = out h.1 (moved (λ (k : Module). IsCertificateText k o.certificate h.1) m h.0 e h.2 h.3)
   fails_here (no_locals m c e sound written out) h =
-      out (locals-same m h.0 c h.1 (module-is m h.0 e h.2) (certificate-one m h.0 c h.1 e h.2 written h.3) h.4)
+      out (locals-same h.0 m h.1 c (module-is m h.0 e h.2) (certificate-one m h.0 c h.1 e h.2 written h.3) h.4)
   fails_here (no_edges m c e sound written locals out) h =
-      out (edges-same m h.0 c h.1 (module-is m h.0 e h.2) (certificate-one m h.0 c h.1 e h.2 written h.3) h.4)
+      out (edges-same h.0 m h.1 c (module-is m h.0 e h.2) (certificate-one m h.0 c h.1 e h.2 written h.3) h.4)
   fails_here (no_acquires m c e sound written holds out) h = out (moved AcquiresHold m h.0 e h.1 h.2)
 
   -- for those before it, it does

@@ -1,5 +1,5 @@
 -- The task of the matches.
-use Rattle.std.proofs.Common.{◌≡◌, ◌∙◌, List, [], Option, Some, None, option_map, unwrap_or, true, false, Bool, refl, ap, inl, inr, Bor}
+use Rattle.std.proofs.Common.{◌≡◌, ◌∙◌, List, [], Option, Some, None, option_map, unwrap_or, true, refl, ap, inl, inr, Bor}
 use Rattle.clap.specs.Words.{App, HasKind, IsAmong, Kinds, Row, Text, is_simple_and_free, kind_of}
 use Rattle.clap.specs.declared.error.Error.{Error}
 use Rattle.clap.specs.declared.error.kind.ErrorKind.TheVariants.{OutOfMemory}
@@ -28,10 +28,6 @@ task_of_named (Some p) name rows task n r t =
 pub task_of_none : (o : Option (Text × List Row)) → o ≡ None → Applies [] None None ≡ task_in o
 task_of_none None e = refl
 task_of_none (Some p) e = cc
-
-pub not_true : (b : Bool) → (b ≡ true → ⊥) → b ≡ false
-not_true true h = absurd (h refl)
-not_true false h = refl
 
 -- where memory didn't run out, the error has one of the kinds
 pub among : (kinds : Kinds) (e : Error) → HasKind kinds e → (kind_of e ≡ OutOfMemory → ⊥) → IsAmong (kind_of e) kinds

@@ -1,9 +1,9 @@
 -- What is unfinished or cut is no whole record.
 use Rattle.std.proofs.Common.{◌≡◌, ◌≢◌, ℕ, ◌<◌, ◌≤◌, List, [], ◌∷◌, ◌++◌, length, take, drop, arith, sym, subst, inl, inr, append-nil, take-append-drop, length-take-le}
-use Rattle.mv_uleb.specs.Uleb.{IsUleb}
+use Rattle.mv_uleb.specs.Uleb.{IsUleb, AreHigh}
 use Rattle.mv_move_types.specs.Limits.{most_payload_bytes}
 use Rattle.moveledger.specs.Records.{NoWhole}
-use Rattle.moveledger.specs.Reading.{AreHigh, NoLength, IsLengthBegun, HasNoLength, LengthFails, IsUnfinished, IsCutAt, has_no_end, is_no_number, at_kind, in_length, in_payload, at_end, at_length}
+use Rattle.moveledger.specs.Reading.{NoLength, IsLengthBegun, HasNoLength, LengthFails, IsUnfinished, IsCutAt, has_no_end, is_no_number, at_kind, in_length, in_payload, at_end, at_length}
 use Rattle.moveledger.proofs.Lengths.{NoLength-bad, NoLength-high, NoLength-ten}
 use Rattle.moveledger.proofs.Whole.{NoWhole-length, NoWhole-nil, NoWhole-payload}
 

@@ -1,21 +1,14 @@
 -- Lines that are written one after the other.
-use Rattle.std.proofs.Common.{◌≡◌, ℕ, List, [], ◌∷◌, ◌++◌, length, take, drop, refl, sym, ap, ◌∙◌, subst, append-nil, append_assoc, Option, flat_map}
+use Rattle.std.proofs.Common.{◌≡◌, ℕ, List, [], ◌∷◌, ◌++◌, length, drop, refl, sym, ap, ◌∙◌, subst, append-nil, append_assoc, Option, flat_map}
 use Rattle.std.proofs.lemmas.Grind.{flat_map-append}
-use Rattle.std.proofs.lemmas.List.{take-append-drop}
-use Rattle.std.proofs.Math.Seq.{take-append_seam}
 use Rattle.std.specs.Io.{StartsWith}
 use Rattle.std.specs.Io.KnownBytes.{Appends}
-use Rattle.std.proofs.KnownBytes.{Appends-nil, Appends-trans}
+use Rattle.std.proofs.KnownBytes.{Appends-nil, Appends-trans, starts_with_rest}
 use Rattle.mv_machine.specs.Lines.{numbered}
 use Rattle.moveledger.specs.Answered.{Writes, WritesPart}
+use Rattle.std.proofs.Transfers.{starts_with_of_append}
 
 -- a text and its prefix
-
-starts_with : (xs part rest : List ℕ) → xs ≡ part ++ rest → StartsWith xs part
-starts_with xs part rest e = ap (take (length part)) e ∙ take-append_seam part rest
-
-after_part : (xs part : List ℕ) → StartsWith xs part → xs ≡ part ++ drop (length part) xs
-after_part xs part h = sym (take-append-drop (length part) xs) ∙ ap (λ l. l ++ drop (length part) xs) h
 
 -- a writer took those of all these lines that are not left
 abbrev pub HasWritten : ℕ → List (List ℕ) → List (List ℕ) → Option (List ℕ) → Option (List ℕ) → Type 0
@@ -39,7 +32,7 @@ HasWritten-end n all left a b h e =
 pub HasWritten-part : (n : ℕ) (all left : List (List ℕ)) (a b : Option (List ℕ)) → HasWritten n all left a b → WritesPart n all a b
 HasWritten-part n all left a b h =
     let f : List (List ℕ) → List ℕ = flat_map (numbered n) in
-    (f h.0, starts_with (f all) (f h.0) (f left) (ap f h.1.0 ∙ flat_map-append (numbered n) h.0 left), h.1.1)
+    (f h.0, starts_with_of_append (f all) (f h.0) (f left) (ap f h.1.0 ∙ flat_map-append (numbered n) h.0 left), h.1.1)
 
 pub HasWritten-begun : (n : ℕ) (all left rest : List (List ℕ)) (line part : List ℕ) (a b c : Option (List ℕ)) → HasWritten n all left a b → left ≡ line ∷ rest → StartsWith (numbered n line) part
     → Appends b c part
@@ -47,6 +40,6 @@ pub HasWritten-begun : (n : ℕ) (all left rest : List (List ℕ)) (line part : 
 HasWritten-begun n all left rest line part a b c h e front w =
     let f : List (List ℕ) → List ℕ = flat_map (numbered n) in
     let more : List ℕ = drop (length part) (numbered n line) in
-    let tail : f left ≡ part ++ (more ++ f rest) = ap f e ∙ ap (λ l. l ++ f rest) (after_part (numbered n line) part front) ∙ append_assoc part more (f rest) in
+    let tail : f left ≡ part ++ (more ++ f rest) = ap f e ∙ ap (λ l. l ++ f rest) (starts_with_rest (numbered n line) part front) ∙ append_assoc part more (f rest) in
     let text : f all ≡ (f h.0 ++ part) ++ (more ++ f rest) = ap f h.1.0 ∙ flat_map-append (numbered n) h.0 left ∙ ap (λ l. f h.0 ++ l) tail ∙ sym (append_assoc (f h.0) part (more ++ f rest)) in
-    (f h.0 ++ part, starts_with (f all) (f h.0 ++ part) (more ++ f rest) text, Appends-trans a b c (f h.0) part h.1.1 w)
+    (f h.0 ++ part, starts_with_of_append (f all) (f h.0 ++ part) (more ++ f rest) text, Appends-trans a b c (f h.0) part h.1.1 w)

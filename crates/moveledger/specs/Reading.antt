@@ -1,6 +1,6 @@
 -- What was read of a record.
 use Rattle.std.specs.Prelude.{◌≡◌, ◌≢◌, ℕ, ◌≤◌, ◌<◌, List, [], ◌∷◌, ◌++◌, length, ◌⊎◌}
-use Rattle.mv_uleb.specs.Uleb.{IsUleb}
+use Rattle.mv_uleb.specs.Uleb.{IsUleb, AreHigh}
 use Rattle.mv_move_types.specs.Limits.{most_payload_bytes}
 use Rattle.moveledger.specs.Records.{Record, Whole, Cut, IsText}
 
@@ -11,11 +11,6 @@ piece_limit = 65536
 -- no length stands at the front
 abbrev pub NoLength : List ℕ → Type 0
 NoLength bytes = (n : ℕ) (len more : List ℕ) → n ≤ most_payload_bytes → IsUleb len n → bytes ≡ len ++ more → ⊥
-
--- each byte says that another one follows
-abbrev pub AreHigh : List ℕ → Type 0
-AreHigh [] = Unit {0}
-AreHigh (b ∷ bs) = (128 ≤ b) × AreHigh bs
 
 -- bytes behind which a length goes on: each says that another one follows, and they are fewer than ten
 abbrev pub IsLengthBegun : List ℕ → Type 0

@@ -6,13 +6,11 @@ use Rattle.std.proofs.lemmas.Bool.{and_parts, false_from_ne_true, both_ways}
 use Rattle.std.proofs.lemmas.Bool.Decides.{same_from_decides, Decides-eqb}
 use Rattle.mv_bounds.specs.Definitions.{all_differ}
 use Rattle.mv_acquires.specs.Acquires.{has_member}
-
-turned : (a b : ℕ) → (a == b) ≡ (b == a)
-turned a b = same_from_decides (a == b) (b == a) (Decides-eqb a b) ((λ e. sym ((Decides-eqb b a).0 e)), (λ e. (Decides-eqb b a).1 (sym e)))
+use Rattle.std.specs.Cmp.{nat_eq_equiv}
 
 any-turned : (x : ℕ) (xs : List ℕ) → list_any (λ z. x == z) xs ≡ has_member xs x
 any-turned x [] = refl
-any-turned x (z ∷ zs) = rw (turned x z, any-turned x zs) refl
+any-turned x (z ∷ zs) = rw (nat_eq_equiv.symm x z, any-turned x zs) refl
 
 -- the numbers from one on are it and those after it
 from-one : (xs : List ℕ) (i left : ℕ) → left ≡ i + 1 → i < length xs → drop i xs ≡ get_or xs i 0 ∷ drop left xs

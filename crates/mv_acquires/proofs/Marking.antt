@@ -7,14 +7,7 @@ use Rattle.mv_acquires.specs.Marks.{is_marked, IsWithin}
 use Rattle.std.specs.Bool.{Decides}
 use Rattle.std.proofs.lemmas.Bool.{false≢true, eqb-true, eq-eqb, and_parts, and_from, or_cases, or_left, or_right}
 use Rattle.std.proofs.lemmas.Bool.Decides.{same_from_decides}
-
-or_true : (b : Bool) → (b || true) ≡ true
-or_true true = refl
-or_true false = refl
-
-pub or_false : (b : Bool) → (b || false) ≡ b
-or_false true = refl
-or_false false = refl
+use Rattle.std.proofs.Math.Bool.{or-true, or-false}
 
 none_marked : (k y : ℕ) → is_marked (replicate k false) y ≡ false
 none_marked zero y = refl
@@ -30,9 +23,9 @@ marked-extended (x ∷ xs) k (suc y) = marked-extended xs k y
 -- a mark is set at one place
 pub marked-set : (xs : List Bool) (x y : ℕ) → x < length xs → is_marked (set xs x true) y ≡ (is_marked xs y || x == y)
 marked-set [] x y h = absurd (omega arith)
-marked-set (b ∷ bs) zero zero h = sym (or_true b)
-marked-set (b ∷ bs) zero (suc y) h = sym (ap (λ e. is_marked bs y || e) (eqb-zero-suc y) ∙ or_false (is_marked bs y))
-marked-set (b ∷ bs) (suc x) zero h = sym (ap (λ e. b || e) (eqb-suc-zero x) ∙ or_false b)
+marked-set (b ∷ bs) zero zero h = sym (or-true b)
+marked-set (b ∷ bs) zero (suc y) h = sym (ap (λ e. is_marked bs y || e) (eqb-zero-suc y) ∙ or-false (is_marked bs y))
+marked-set (b ∷ bs) (suc x) zero h = sym (ap (λ e. b || e) (eqb-suc-zero x) ∙ or-false b)
 marked-set (b ∷ bs) (suc x) (suc y) h = marked-set bs x y (omega arith) ∙ sym (ap (λ e. is_marked bs y || e) (eqb-suc-suc x y))
 
 all_members : (p : ℕ → Bool) (xs : List ℕ) → ((y : ℕ) → has_member xs y ≡ true → p y ≡ true) → list_all p xs ≡ true

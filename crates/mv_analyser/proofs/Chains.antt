@@ -18,10 +18,11 @@ use Rattle.mv_locals_safety.specs.LocalsRules.{locals_leq}
 use Rattle.mv_locals_safety.specs.Domain.{IsOfLocals}
 use Rattle.mv_locals_safety.specs.Laws.{leq_reflexive}
 use Rattle.mv_borrow_graph.specs.BorrowRules.{is_reference_token}
-use Rattle.mv_borrow_graph.specs.Domain.{point_at}
 use Rattle.mv_borrow_graph.specs.Nodes.{leads_in, edge_is_there, may_begin_with, are_few}
 use Rattle.mv_borrow_graph.specs.Laws.There.{there_parts}
 use Rattle.mv_analyser.specs.Principal.{HasPlainLocals}
+use Rattle.mv_lattice.proofs.Rises.{risen_has}
+use Rattle.mv_type_states.specs.TypesHold.{point_at}
 
 -- how many are unknown
 abbrev maybes : List Availability → ℕ
@@ -51,15 +52,10 @@ grows (Maybe ∷ a) (Unavailable ∷ b) p = absurd (true≢false (sym p))
 grows (Maybe ∷ a) (Available ∷ b) p = absurd (true≢false (sym p))
 grows (Maybe ∷ a) (Maybe ∷ b) p = ⊎_elim (λ h. inl (omega (arith, h))) (λ e. inr (ap (λ r. Maybe ∷ r) e)) (grows a b p)
 
-abbrev Leq : List Availability → List Availability → Type 0
+abbrev pub Leq : List Availability → List Availability → Type 0
 Leq a b = IsTrue (locals_leq a b)
 
 module _ (P : List Availability → Type 0) where
-  risen_has : (n : ℕ) (s : List Availability) → IsRisen P Leq n s → P s
-  unfolding IsRisen
-  risen_has zero s r = r
-  risen_has (suc n) s r = r.0
-
   risen_few : (n : ℕ) (s : List Availability) → IsRisen P Leq n s → n ≤ maybes s
   unfolding IsRisen
   risen_few zero s r = omega arith
@@ -70,7 +66,7 @@ module _ (P : List Availability → Type 0) where
 -- availabilities of so few locals do not rise so often
 pub few_rises : (m : Module) (d : FunctionDefinition) → local_count m d ≤ 64 → HasChain (IsOfLocals m d) (λ s. ⊤) (λ a b. IsTrue (locals_leq a b)) → ⊥
 few_rises m d few chain =
-    let is = (risen_has (λ s. IsOfLocals m d s × ⊤) 256 chain.0 chain.1).0 in
+    let is = (risen_has (λ s. IsOfLocals m d s × ⊤) Leq 256 chain.0 chain.1).0 in
     let h = risen_few (λ s. IsOfLocals m d s × ⊤) 256 chain.0 chain.1 in
     let most = maybes_few chain.0 in
     omega (arith, is, h, most, few)

@@ -14,7 +14,7 @@ use Rattle.mv_move_types.specs.Module.{Module, FunctionDefinition, StructDefinit
 use Rattle.mv_cfg.specs.declared.Cfg.{Cfg}
 use Rattle.mv_cfg.specs.Blocks.{blocks}
 use Rattle.mv_cfg.specs.FlowGraph.{IsFlowGraph, basic_block_of}
-use Rattle.mv_type_states.specs.TypesHold.{function_is_typed}
+use Rattle.mv_type_states.specs.TypesHold.{function_is_typed, point_at}
 use Rattle.mv_lattice.specs.Flow.{IsFlow, IsClosed, IsStated, IsFlowBelow}
 use Rattle.mv_lattice.specs.Search.{MeetsLimit}
 use Rattle.mv_lattice.specs.Work.{AllStated}
@@ -22,13 +22,12 @@ use Rattle.mv_locals_safety.specs.LocalsRules.{locals_after, locals_leq}
 use Rattle.mv_edges.specs.Edges.{Edge, same_node, edges_leq}
 use Rattle.mv_edges.specs.Ascending.{are_ascending}
 use Rattle.mv_borrow_graph.specs.BorrowRules.{is_reference_token}
-use Rattle.mv_borrow_graph.specs.Domain.{edges_step, point_at}
-use Rattle.mv_borrow_graph.specs.Nodes.{leads_out, leads_in, edge_is_there, may_begin_with, are_few, IsGraphOf}
-use Rattle.mv_borrow_graph.specs.Laws.There.{there_parts}
+use Rattle.mv_borrow_graph.specs.Domain.{edges_step}
+use Rattle.mv_borrow_graph.specs.Nodes.{edge_is_there, may_begin_with, are_few, IsGraphOf}
 use Rattle.mv_certificate.specs.Certificate.{Known, Stated, flow_holds, known_at_start}
 use Rattle.mv_certificate.specs.Functions.{LocalsHoldAt, EdgesHoldAt}
 use Rattle.mv_certificate.specs.Reads.{FitsAt}
-use Rattle.mv_certificate.specs.Shape.{StatedFits, known_fits, edge_fits, is_source, is_target}
+use Rattle.mv_certificate.specs.Shape.{StatedFits, known_fits, edge_fits}
 use Rattle.mv_certificate.proofs.Texts.{block_fits}
 use Rattle.mv_certificate.proofs.Marks.{stated-fits}
 use Rattle.mv_certificate.proofs.States.{edges-flow-at}
@@ -100,34 +99,12 @@ with_next blocks new view ss es i k x e pushed made same low read_k high read_e 
 
 -- ---- the shape
 
-source_from : (m : Module) (d : FunctionDefinition) (n : Node) → leads_out (point_at m d []) n ≡ true → is_source m d n ≡ true
-source_from m d (Slot l) h = h
-source_from m d (Own l) h = h
-source_from m d (Glob t) h = h
-source_from m d (Temp k) h = h
-
-target_from : (m : Module) (d : FunctionDefinition) (n : Node) → leads_in (point_at m d []) n ≡ true → is_target m d n ≡ true
-target_from m d (Slot l) h = h
-target_from m d (Own l) h = h
-target_from m d (Glob t) h = h
-target_from m d (Temp k) h = h
-
-edge_has_shape : (m : Module) (d : FunctionDefinition) (e : Edge) → edge_is_there (point_at m d []) e ≡ true → nat_le (length e.label.path) 8 ≡ true → edge_fits m d e ≡ true
-edge_has_shape m d e h short =
-    let t = there_parts (point_at m d []) e h in
-    and_from (is_source m d e.from && is_target m d e.to && not (same_node e.from e.to) && nat_le (length e.label.path) 8) (list_all (λ i. nat_lt i 32) e.label.path)
-    (and_from (is_source m d e.from && is_target m d e.to && not (same_node e.from e.to)) (nat_le (length e.label.path) 8)
-    (and_from (is_source m d e.from && is_target m d e.to) (not (same_node e.from e.to))
-    (and_from (is_source m d e.from) (is_target m d e.to) (source_from m d e.from t.out) (target_from m d e.to t.into)) (ap not t.apart))
-    short)
-    t.small
-
 edges_have_shape : (m : Module) (d : FunctionDefinition) (es : List Edge) → may_begin_with m d es ≡ true → list_all (λ e. nat_le (length e.label.path) 8) es ≡ true → list_all (edge_fits m d) es ≡ true
 edges_have_shape m d [] h g = refl
 edges_have_shape m d (e ∷ es) h g =
     let there = and_parts (edge_is_there (point_at m d []) e) (may_begin_with m d es) h in
     let short = and_parts (nat_le (length e.label.path) 8) (list_all (λ e. nat_le (length e.label.path) 8) es) g in
-    and_from (edge_fits m d e) (list_all (edge_fits m d) es) (edge_has_shape m d e there.0 short.0) (edges_have_shape m d es there.1 short.1)
+    and_from (edge_fits m d e) (list_all (edge_fits m d) es) (and_from (edge_is_there (point_at m d []) e) (nat_le (length e.label.path) 8) there.0 short.0) (edges_have_shape m d es there.1 short.1)
 
 known_has_shape : (m : Module) (d : FunctionDefinition) (k : Known) (es : List Edge) → known_fits m d k ≡ true → are_ascending es ≡ true → may_begin_with m d es ≡ true → are_few es ≡ true
     → known_fits m d (record { locals = k.locals; edges = es }) ≡ true

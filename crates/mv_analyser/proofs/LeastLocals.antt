@@ -16,8 +16,8 @@ use Rattle.mv_type_states.specs.TypesHold.{function_is_typed}
 use Rattle.mv_lattice.specs.Flow.{IsFlow, IsClosed, IsStated, IsFlowBelow}
 use Rattle.mv_lattice.specs.declared.search.SolveError.{SolveError}
 use Rattle.mv_lattice.specs.declared.search.SolveError.TheVariants.{Need as NeedFails, TooComplex as SearchTooComplex, Memory as MemoryOut}
-use Rattle.mv_locals_safety.specs.LocalsRules.{locals_leq}
-use Rattle.mv_locals_safety.specs.Domain.{IsOfLocals, locals_step, start_locals}
+use Rattle.mv_locals_safety.specs.LocalsRules.{locals_leq, start_locals}
+use Rattle.mv_locals_safety.specs.Domain.{IsOfLocals, locals_step}
 use Rattle.mv_certificate.specs.Certificate.{Stated}
 use Rattle.mv_certificate.specs.Functions.{LocalsHoldAt}
 use Rattle.mv_certificate.specs.Reads.{FitsAt}
@@ -29,6 +29,7 @@ use Rattle.mv_certificate.proofs.Holds.{locals_exact_at}
 use Rattle.mv_analyser.specs.Least.{HasLeastLocals, stated_locals}
 use Rattle.mv_analyser.specs.States.{without_edges, locals_alone, error_of, IsErrorAt}
 use Rattle.mv_analyser.proofs.Marks.{flow-marks}
+use Rattle.mv_analyser.proofs.Chains.{Leq}
 
 -- ---- availabilities, with no edges
 
@@ -73,9 +74,6 @@ at_function m f d P at p x e = subst P (same_Some d x (sym at ∙ e)) p
 
 module _ (m m' : Module) (f : ℕ) (d d' : FunctionDefinition) (g : Cfg) (home : m' ≡ m) (at : slice_get m.functions f ≡ Some d) (at' : slice_get m.functions f ≡ Some d')
     (fg : IsFlowGraph d.code g) (typed : IsTrue (function_is_typed m d)) (start : List Availability) (begin : start_locals m' d' ≡ Some start) where
-  abbrev Below : List Availability → List Availability → Type 0
-  Below a b = IsTrue (locals_leq a b)
-
   same : d' ≡ d
   same = same_Some d' d (sym at' ∙ at)
 
@@ -94,23 +92,23 @@ module _ (m m' : Module) (f : ℕ) (d d' : FunctionDefinition) (g : Cfg) (home :
       (stated-fits m d g (locals_alone v) fg (alone_marks v ∙ flow-marks (IsOfLocals m d) g (length d.code) v fg.graph here) (alone_fits m d tokens.0 tokens.1.0 v here.states)))
 
   -- and they hold
-  pub least_holds : (v : List (Option (List Availability))) (stated : Stated) → stated ≡ locals_alone v → IsFlow (IsOfLocals m' d') g v → IsClosed Below (locals_step m' d') g start v
+  pub least_holds : (v : List (Option (List Availability))) (stated : Stated) → stated ≡ locals_alone v → IsFlow (IsOfLocals m' d') g v → IsClosed Leq (locals_step m' d') g start v
       → LocalsHoldAt m f stated
   least_holds v stated is flow closed =
       subst (LocalsHoldAt m f) (sym is) ((locals_exact_at m m' f d d' g (locals_alone v) home at at' fg typed start v begin (sym (alone_locals v)) flow).0 closed)
 
   -- and they are below all that fit and hold
   pub least_of_all : (v : List (Option (List Availability))) (stated : Stated) → stated ≡ locals_alone v
-      → ((flow : List (Option (List Availability))) → IsFlow (IsOfLocals m' d') g flow → IsClosed Below (locals_step m' d') g start flow → IsFlowBelow Below v flow) → HasLeastLocals m f stated
+      → ((flow : List (Option (List Availability))) → IsFlow (IsOfLocals m' d') g flow → IsClosed Leq (locals_step m' d') g start flow → IsFlowBelow Leq v flow) → HasLeastLocals m f stated
   least_of_all v stated is least = λ other fits holds.
       let all : List (Option (List Availability)) = stated_locals other in
       let flow = locals-flow-at m m' f d d' g other all home at at' fg fits refl in
-      let below : IsFlowBelow Below v all = least all flow ((locals_exact_at m m' f d d' g other home at at' fg typed start all begin refl flow).1 holds) in
+      let below : IsFlowBelow Leq v all = least all flow ((locals_exact_at m m' f d d' g other home at at' fg typed start all begin refl flow).1 holds) in
       let same_states : stated_locals stated ≡ v = ap stated_locals is ∙ alone_locals v in
-      subst (λ z. IsFlowBelow Below z all) (sym same_states) below
+      subst (λ z. IsFlowBelow Leq z all) (sym same_states) below
 
   -- where there is no closed flow, none holds
-  pub none_holds : ((flow : List (Option (List Availability))) → IsFlow (IsOfLocals m' d') g flow → IsClosed Below (locals_step m' d') g start flow → ⊥) → (stated : Stated) → FitsAt m f stated
+  pub none_holds : ((flow : List (Option (List Availability))) → IsFlow (IsOfLocals m' d') g flow → IsClosed Leq (locals_step m' d') g start flow → ⊥) → (stated : Stated) → FitsAt m f stated
       → LocalsHoldAt m f stated → ⊥
   none_holds never stated fits holds =
       let all : List (Option (List Availability)) = map (option_map (λ k. k.locals)) stated in

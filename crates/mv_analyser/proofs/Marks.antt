@@ -5,7 +5,8 @@ use Rattle.mv_cfg.specs.declared.Block.{Block}
 use Rattle.mv_cfg.specs.declared.Cfg.{Cfg}
 use Rattle.mv_cfg.specs.Graph.{IsGraph}
 use Rattle.mv_lattice.specs.Flow.{IsFlow}
-use Rattle.mv_certificate.proofs.Whole.{same_marks, same_bools}
+use Rattle.mv_certificate.proofs.Whole.{same_marks}
+use Rattle.mv_edges.proofs.Settled.{same_truth}
 
 there : {S : Type 0} (o : Option S) → is_some o ≡ true → (s : S) × (o ≡ Some s)
 there None h = absurd (true≢false (sym h))
@@ -15,6 +16,6 @@ pub flow-marks : {S : Type 0} (P : S → Type 0) (g : Cfg) (size : ℕ) (v : Lis
 flow-marks P g size v graph flow =
     same_marks is_some (λ (b : Block). b.reached) v g.blocks.items flow.entries (λ i o b vi bi.
     let marks = graph.marks i b bi in
-    same_bools (is_some o) b.reached
+    same_truth (is_some o) b.reached
     (λ h. let s = there o h in marks.1 (flow.reached i s.0 (vi ∙ ap Some s.1)))
     (λ h. let s = flow.stated i (marks.0 h) in ap is_some (same_Some o (Some s.0) (sym vi ∙ s.1))))

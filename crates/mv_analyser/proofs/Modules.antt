@@ -6,19 +6,18 @@ use Rattle.std.proofs.lemmas.Option.{slice_get_within}
 use Rattle.mv_move_types.specs.Module.{Module, FunctionDefinition}
 use Rattle.mv_move_types.specs.declared.refusal.Refusal.TheVariants.{Phase, Memory as OutOfMemory}
 use Rattle.mv_acquires.specs.Acquires.{AcquiresHold}
-use Rattle.mv_cfg.proofs.Tables.{slice_get-push}
 use Rattle.mv_certificate.specs.Answers.{FailsCertificate, bad_locals, bad_borrows, bad_acquires}
 use Rattle.mv_certificate.specs.Certificate.{Stated, Certificate, locals_hold, edges_hold, all_locals_hold, all_edges_hold, certificate_holds}
 use Rattle.mv_certificate.specs.Functions.{LocalsHoldAt, EdgesHoldAt}
 use Rattle.mv_certificate.specs.Reads.{FitsAt}
 use Rattle.mv_certificate.specs.Shape.{StatedFits, AllStatedFit}
-use Rattle.mv_certificate.proofs.Marks.{at_below}
 use Rattle.mv_certificate.proofs.States.{fit-length, fit-at}
 use Rattle.mv_certificate.proofs.Holds.{each-passes, passes-each}
 use Rattle.mv_analyser.specs.Principal.{FailsEach, no_locals, no_edges, no_lists, IsUnproved, IsOfLimits, IsProvable, PassesCheck}
 use Rattle.mv_analyser.specs.States.{IsErrorAt, IsComplexAt}
 use Rattle.mv_analyser.specs.declared.ProveError.{ProveError}
 use Rattle.mv_analyser.specs.declared.ProveError.TheVariants.{Refused, TooComplex, Memory}
+use Rattle.mv_bounds.proofs.Entries.{last_or_before, element_at}
 
 -- what is stated of the first functions
 pub record UpTo (P : ℕ → Stated → Type 0) (n : ℕ) (cs : List Stated) : Type 0 where
@@ -33,7 +32,7 @@ pub up_to_more : (P : ℕ → Stated → Type 0) (n : ℕ) (cs new : List Stated
 up_to_more P n cs new s is p before =
     subst (UpTo P (n + 1)) (sym is) (record {
       long = let sum = length-append cs (s ∷ []) in let was = before.long in omega (arith, sum, was);
-      each = λ k z e. ⊎_elim (λ old. before.each k z old) (λ last. subst (λ i. P i z) (sym (last.0 ∙ before.long)) (subst (P n) (sym last.1) p)) (slice_get-push cs s k z e);
+      each = λ k z e. ⊎_elim (λ old. before.each k z old) (λ last. subst (λ i. P i z) (sym (last.0 ∙ before.long)) (subst (P n) last.1 p)) (last_or_before cs s k z e);
     })
 
 fit_each : (m : Module) (ds : List FunctionDefinition) (cs : List Stated) → length ds ≡ length cs
@@ -59,7 +58,7 @@ both_hold m c a b = and_from (all_locals_hold m c) (all_edges_hold m c) a b
 -- what is stated of the function at a place
 module _ (m : Module) (f : ℕ) (inside : f < length m.functions) (c : Certificate) (fits : AllStatedFit m m.functions c) where
   stated_there : (s : Stated) × (slice_get c f ≡ Some s)
-  stated_there = let long = fit-length m m.functions c fits in at_below c f (omega (arith, inside, long))
+  stated_there = let long = fit-length m m.functions c fits in element_at c f (omega (arith, inside, long))
 
   pub locals_there : IsTrue (all_locals_hold m c) → (s : Stated) × (FitsAt m f s × LocalsHoldAt m f s)
   locals_there holds =

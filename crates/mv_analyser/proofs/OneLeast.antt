@@ -11,10 +11,10 @@ use Rattle.mv_certificate.proofs.OneCertificate.{one-marks}
 use Rattle.mv_certificate.specs.Certificate.{Stated, Certificate, locals_hold, edges_hold, all_locals_hold, all_edges_hold}
 use Rattle.mv_certificate.specs.Functions.{LocalsHoldAt, EdgesHoldAt}
 use Rattle.mv_certificate.specs.Reads.{FitsAt}
-use Rattle.mv_certificate.proofs.Marks.{at_below}
 use Rattle.mv_certificate.proofs.States.{fit-at, fit-length}
 use Rattle.mv_certificate.proofs.Holds.{passes-each}
 use Rattle.mv_analyser.specs.Least.{stated_locals, IsPrincipal, LeastIsOne}
+use Rattle.mv_bounds.proofs.Entries.{element_at}
 
 -- ---- availabilities that are below each other are the same
 
@@ -73,7 +73,7 @@ module _ (m : Module) (c : Certificate) (p : IsPrincipal m c) (f : ℕ) (a : Sta
 
 pub least_is_one : LeastIsOne
 least_is_one m c other p q f a b at bt =
-    let d = at_below m.functions f (omega (arith, slice_get_within c f a at, fit-length m m.functions c p.shape)) in
+    let d = element_at m.functions f (omega (arith, slice_get_within c f a at, fit-length m m.functions c p.shape)) in
     let marks : map is_some (stated_locals a) ≡ map is_some (stated_locals b) =
     locals_marks a ∙ one-marks m d.0 a b (fits_there m c p f a at d.0 d.1) (fits_there m other q f b bt d.0 d.1) ∙ sym (locals_marks b) in
     let low = p.least f a at in

@@ -15,7 +15,7 @@ use Rattle.std.proofs.lemmas.Slice.Eq.{bytes_eq-Decides}
 use Rattle.mv_module_text.specs.Fits.{is_index}
 use Rattle.mv_module_text.specs.Laws.{StandsByText}
 use Rattle.mv_binary_format.proofs.Versions.{version-sound, version-complete}
-use Rattle.mv_binary_format.proofs.Binds.{bind_some}
+use Rattle.mv_binary_format.proofs.Binds.{bind_some, cond_parts}
 use Rattle.mv_binary_format.proofs.Taken.{without-none}
 use Rattle.mv_binary_format.proofs.Sums.{SameSums, SameSums-from_permutation, Tells, found-alone, found-none, others-in_all, all-SameSums, empty-SameSums, length-SameSums}
 use Rattle.mv_binary_format.proofs.Sound.{bytes-behind, bytes-before, rest-bytes, has_bytes, tells_bytes, header_fits, marks-sound, header-sound, counted-sound, contents-sound}
@@ -156,11 +156,6 @@ all-weaker q r weaker [] h = refl
 all-weaker q r weaker (x ∷ xs) h =
     let p = and_parts (q x) (list_all q xs) h in
     and_from _ _ (weaker x p.0) (all-weaker q r weaker xs p.1)
-
--- a test that was passed, and what stands after it
-cond_parts : {A : Type 0} (b : Bool) (o : Option A) (y : A) → cond b o None ≡ Some y → (b ≡ true) × (o ≡ Some y)
-cond_parts true o y e = (refl, e)
-cond_parts false o y e = absurd (none-some y e)
 
 -- the bytes of contents
 abbrev all_contents : List Table → List ℕ

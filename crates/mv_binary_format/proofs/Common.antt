@@ -26,8 +26,8 @@ pub use Rattle.mv_module_text.specs.Laws.{AreBytes, StandAsTexts}
 pub use Rattle.mv_module_text.specs.Parsing.{Read, address_from, all_from, bytes_from, constant_from, counted_from, entries_from, field_handle_from, function_definition_from}
 pub use Rattle.mv_module_text.specs.Parsing.{function_handle_from, identifier_from, index_from, module_handle_from, signature_from, struct_definition_from, struct_handle_from}
 pub use Rattle.mv_binary_format.specs.Kinds.{header_of, headers_of, table_code}
-pub use Rattle.mv_binary_format.specs.ModuleText.{HasText, Header, IsModuleText, Table, header_text, headers_from, ordered_text, table, tables}
+pub use Rattle.mv_binary_format.specs.ModuleText.{HasText, Header, IsModuleText, Table, header_text, headers_from, ordered_text, table, tables, all_tables}
 pub use Rattle.mv_binary_format.specs.Parsing.{begins_at, content_of, is_of, kinds, magic, marks_from, version_from, without}
 unfoldable pub use Rattle.mv_binary_format.specs.Parsing.{contents_from, entries_of, header_from, module_from, module_of}
 pub use Rattle.mv_binary_format.specs.Tables.{table_of, tables_of}
-pub use Rattle.mv_binary_format.specs.Written.{AreOf, all_tables, written_headers}
+pub use Rattle.mv_binary_format.specs.Written.{AreOf, written_headers}

@@ -5,7 +5,7 @@ use Rattle.mv_binary_format.proofs.Common.{ordered_text, tables, AreOf}
 use Rattle.std.proofs.lemmas.List.Elements.{filter-append}
 use Rattle.std.proofs.lemmas.List.Concat.{flat_map-append}
 use Rattle.std.proofs.lemmas.Bool.{le-ltb}
-use Rattle.mv_binary_format.specs.Written.{with_bytes}
+use Rattle.mv_binary_format.specs.ModuleText.{with_bytes}
 
 -- the headers of more tables
 headers_from-append : (offset : ℕ) (ts us : List Table) → headers_from offset (ts ++ us) ≡ headers_from offset ts ++ headers_from (offset + length (flat_map (λ t. t.content) ts)) us

@@ -25,10 +25,10 @@ pub record Header : Type 0 where
 abbrev pub table : {A : Type 0} → ℕ → (A → List ℕ) → List A → Table
 table kind each entries = record { kind = kind; content = flat_map each entries }
 
--- the tables that have entries, by ascending kind
-abbrev pub tables : Module → List Table
-tables m = filter (λ t. nat_lt 0 (length t.content))
-    (table 0x01 module_handle_text m.module_handles
+-- a module's tables by ascending kind, those without entries among them
+abbrev pub all_tables : Module → List Table
+all_tables m =
+    table 0x01 module_handle_text m.module_handles
     ∷ table 0x02 struct_handle_text m.struct_handles
     ∷ table 0x03 function_handle_text m.function_handles
     ∷ table 0x05 signature_text m.signatures
@@ -38,7 +38,15 @@ tables m = filter (λ t. nat_lt 0 (length t.content))
     ∷ table 0x0A struct_definition_text m.structs
     ∷ table 0x0C function_definition_text m.functions
     ∷ table 0x0D field_handle_text m.field_handles
-    ∷ [])
+    ∷ []
+
+-- the tables that have bytes
+abbrev pub with_bytes : List Table → List Table
+with_bytes = filter (λ t. nat_lt 0 (length t.content))
+
+-- a module's tables that have entries, by ascending kind
+abbrev pub tables : Module → List Table
+tables m = with_bytes (all_tables m)
 
 -- the headers of tables whose contents follow one another from this offset
 abbrev pub headers_from : ℕ → List Table → List Header

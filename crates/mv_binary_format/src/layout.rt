@@ -1,11 +1,11 @@
 // The text of a module, with its tables in ascending order of kind.
 
 ghost use Rattle.std.specs.Prelude.{◌≡◌, ◌≤◌, ◌-◌, ◌++◌, ◌∷◌, [], List, nat_lt, cond, OnOk, IfOk, Some, flat_map};
-ghost use Rattle.mv_binary_format.specs.ModuleText.{Table, table, header_text, ordered_text, IsModuleText};
+ghost use Rattle.mv_binary_format.specs.ModuleText.{Table, table, header_text, ordered_text, IsModuleText, all_tables};
 ghost use Rattle.mv_module_text.specs.Laws.{AreBytes};
 ghost use Rattle.mv_binary_format.specs.Parsing.{module_of};
 ghost use Rattle.mv_binary_format.specs.Kinds.{table_code};
-ghost use Rattle.mv_binary_format.specs.Written.{written_headers, AreOf, all_tables};
+ghost use Rattle.mv_binary_format.specs.Written.{written_headers, AreOf};
 
 use super::Module;
 use super::entries::Entry;

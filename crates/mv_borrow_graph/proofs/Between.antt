@@ -7,16 +7,11 @@ use Rattle.mv_edges.specs.Edges.{Edge, same_node, agrees, out_of}
 use Rattle.mv_edges.specs.Composition.{any_between}
 use Rattle.mv_edges.proofs.Between.{list_any-alike, list_any-filter}
 use Rattle.mv_borrow_graph.specs.BorrowRules.{is_mutable, is_root_node, is_temp}
-
-swapped : (x y : Bool) → (x && y) ≡ (y && x)
-swapped false false = refl
-swapped false true = refl
-swapped true false = refl
-swapped true true = refl
+use Rattle.std.proofs.Math.Bool.{and_comm}
 
 swapped_behind : (b x y : Bool) → (b && (x && y)) ≡ (b && (y && x))
 swapped_behind false x y = refl
-swapped_behind true x y = swapped x y
+swapped_behind true x y = and_comm x y
 
 module _ (p : Point) (s : List Edge) where
   -- from a node to a mutable reference
@@ -35,4 +30,4 @@ module _ (p : Point) (s : List Edge) where
       ≡ list_any (λ e. is_temp e.to && (is_root_node e.from || is_temp e.from && is_mutable p e.from)) s
   to_results =
       list_any-alike (λ e. (is_root_node e.from || is_temp e.from && is_mutable p e.from) && is_temp e.to) (λ e. is_temp e.to && (is_root_node e.from || is_temp e.from && is_mutable p e.from))
-      (λ e. swapped (is_root_node e.from || is_temp e.from && is_mutable p e.from) (is_temp e.to)) s
+      (λ e. and_comm (is_root_node e.from || is_temp e.from && is_mutable p e.from) (is_temp e.to)) s

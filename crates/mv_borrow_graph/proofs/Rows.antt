@@ -17,21 +17,15 @@ use Rattle.mv_move_types.specs.Options.{◌>>=◌}
 use Rattle.mv_move_types.specs.Module.{own_acquires}
 use Rattle.mv_type_states.specs.TypesHold.{Point}
 use Rattle.mv_lattice.specs.declared.StepError.{StepError}
-use Rattle.mv_edges.specs.Edges.{Edge, is_global_node, same_node, here, inherited, an_edge}
+use Rattle.mv_edges.specs.Edges.{Edge, is_global_node, same_node, here, inherited, an_edge, without_each}
 use Rattle.mv_edges.specs.Ascending.{are_ascending}
 use Rattle.mv_edges.specs.Sorted.{sorted}
-use Rattle.mv_edges.proofs.Sorting.{sorted-ascending, ascending-sorted, sorted-append_swap, sorted-append_sorted}
+use Rattle.mv_edges.proofs.Sorting.{ascending-sorted}
 use Rattle.mv_borrow_graph.specs.BorrowRules.{next_temp, no_edge_out, copy_edges, field_edges, position_of, opened_edges, result_edges}
-use Rattle.mv_borrow_graph.specs.BorrowRules.{reference_nodes, without_all, call_edges, is_mutable_token, is_reference_token}
+use Rattle.mv_borrow_graph.specs.BorrowRules.{reference_nodes, call_edges, is_mutable_token, is_reference_token}
 use Rattle.mv_borrow_graph.specs.Domain.{ordered, Follows}
-
--- edges that ascend are in their order
-pub kept_order : (es : List Edge) → are_ascending es ≡ true → sorted es ≡ es
-kept_order = sorted-ascending
-
--- the first part may be sorted first
-pub sorted_first : (es fs : List Edge) → sorted (sorted es ++ fs) ≡ sorted (es ++ fs)
-sorted_first es fs = sorted-append_swap (sorted es) fs ∙ sorted-append_sorted fs es ∙ sorted-append_swap fs es
+use Rattle.mv_edges.proofs.InOrder.{sorted_first}
+pub use Rattle.mv_edges.proofs.Sorting.{sorted-ascending as kept_order}
 
 -- a part may be sorted before a test
 ordered_first : (test : Bool) (es fs : List Edge) → ordered (then_some test (sorted es ++ fs)) ≡ ordered (then_some test (es ++ fs))
@@ -80,7 +74,7 @@ pub called : (p : Point) (i : ℕ) (s : List Edge) (found : Option FunctionHandl
     → found ≡ slice_get p.home.function_handles i → found ≡ Some h → Some ps ≡ slice_get p.home.signatures h.parameters
     → Some rs ≡ slice_get p.home.signatures h.results → base ≡ length p.types - length ps
     → holds ≡ (list_all (λ n. no_edge_out n s) (reference_nodes is_mutable_token base ps) && list_all (λ t. no_edge_out (Glob t) s) (own_acquires p.home i))
-    → ordered (then_some holds (without_all (reference_nodes is_reference_token base ps) s
+    → ordered (then_some holds (without_each (reference_nodes is_reference_token base ps) s
     ++ result_edges (reference_nodes is_mutable_token base ps) (reference_nodes is_reference_token base ps) base rs s))
     ≡ ordered (call_edges p i s)
 called p i s found h ps rs base holds is_found some is_ps is_rs is_base is_holds =
@@ -89,7 +83,7 @@ called p i s found h ps rs base holds is_found some is_ps is_rs is_base is_holds
     let results : slice_get p.home.signatures h.results ≡ Some rs = sym is_rs in
     let acquired : Bool = list_all (λ t. no_edge_out (Glob t) s) (own_acquires p.home i) in
     let after : Bool → ℕ → Option (List Edge) = λ tested b.
-    ordered (then_some tested (without_all (reference_nodes is_reference_token b ps) s ++ result_edges (reference_nodes is_mutable_token b ps) (reference_nodes is_reference_token b ps) b rs s)) in
+    ordered (then_some tested (without_each (reference_nodes is_reference_token b ps) s ++ result_edges (reference_nodes is_mutable_token b ps) (reference_nodes is_reference_token b ps) b rs s)) in
     rw (handle, parameters, results)
     (ap (λ x. after x base) is_holds ∙ ap (λ b. after (list_all (λ n. no_edge_out n s) (reference_nodes is_mutable_token b ps) && acquired) b) is_base)
 

@@ -1,5 +1,5 @@
 -- The rules for borrows, as a partial step on edges.
-use Rattle.std.specs.Prelude.{ℕ, ◌+◌, ◌-◌, Bool, true, false, not, ◌&&◌, ◌||◌, ◌==◌, List, [], ◌∷◌, ◌++◌, filter, flat_map, fold, length, reverse, Option, Some, slice_get, if◌then◌else◌}
+use Rattle.std.specs.Prelude.{ℕ, ◌+◌, ◌-◌, Bool, true, false, not, ◌&&◌, ◌||◌, ◌==◌, List, [], ◌∷◌, ◌++◌, filter, flat_map, length, reverse, Option, Some, slice_get, if◌then◌else◌}
 use Rattle.std.specs.Bool.{then_some}
 use Rattle.std.specs.List.{list_all, list_any}
 use Rattle.std.specs.Option.{option_map_or}
@@ -14,7 +14,7 @@ use Rattle.mv_move_types.specs.declared.instruction.Instruction.TheVariants.{Imm
 use Rattle.mv_move_types.specs.Options.{◌>>=◌}
 use Rattle.mv_move_types.specs.Module.{local_type, own_acquires}
 use Rattle.mv_type_states.specs.TypesHold.{Point}
-use Rattle.mv_edges.specs.Edges.{Edge, same_node, here, extended, opened, agrees, out_of, inherited, without, renamed, an_edge}
+use Rattle.mv_edges.specs.Edges.{Edge, same_node, here, extended, opened, agrees, out_of, inherited, without, renamed, an_edge, without_each}
 
 -- the next place on the stack
 abbrev pub next_temp : Point → Node
@@ -104,10 +104,6 @@ abbrev pub reference_nodes : (Token → Bool) → ℕ → List Token → List No
 reference_nodes test k [] = []
 reference_nodes test k (t ∷ ts) = (if test t then (Temp k ∷ []) else []) ++ reference_nodes test (k + 1) ts
 
--- the edges without those at any of these nodes
-abbrev pub without_all : List Node → List Edge → List Edge
-without_all nodes edges = fold (λ es n. without n es) edges nodes
-
 -- the opened incoming edges of these nodes, for another
 abbrev pub opened_edges : List Node → Node → List Edge → List Edge
 opened_edges nodes new edges = flat_map (λ n. inherited opened n new edges) nodes
@@ -130,7 +126,7 @@ call_edges p i edges = do
       let all = reference_nodes is_reference_token base parameters in
       then_some
       (list_all (λ n. no_edge_out n edges) mutable && list_all (λ t. no_edge_out (Glob t) edges) (own_acquires p.home i))
-      (without_all all edges ++ result_edges mutable all base results edges)
+      (without_each all edges ++ result_edges mutable all base results edges)
 
 -- whether a node is a local's value or a global
 abbrev pub is_root_node : Node → Bool

@@ -9,7 +9,7 @@ use Rattle.mv_move_types.specs.declared.instruction.Instruction.{Instruction}
 use Rattle.mv_move_types.specs.declared.instruction.Instruction.TheVariants.{CopyLoc, MoveLoc, StLoc, MutBorrowLoc, ImmBorrowLoc, MutBorrowField}
 use Rattle.mv_move_types.specs.declared.instruction.Instruction.TheVariants.{ImmBorrowField, Call, MutBorrowGlobal, ImmBorrowGlobal}
 use Rattle.mv_type_states.specs.TypeRules.{Types}
-use Rattle.mv_type_states.specs.TypesHold.{Point}
+use Rattle.mv_type_states.specs.TypesHold.{point_at}
 use Rattle.mv_type_states.specs.Sound.{types_before}
 use Rattle.mv_edges.specs.Edges.{Edge}
 use Rattle.mv_edges.specs.Sorted.{sorted}
@@ -21,10 +21,6 @@ use Rattle.mv_borrow_graph.specs.BorrowRules.{edges_after, is_mutable_token, is_
 pub record Function : Type 0 where
   pub home : Module
   pub function : FunctionDefinition
-
--- where the rules for edges stand
-abbrev pub point_at : Module → FunctionDefinition → Types → Point
-point_at m d types = record { home = m; function = d; types = types }
 
 -- the edges in their order, if there are any
 abbrev pub ordered : Option (List Edge) → Option (List Edge)

@@ -35,12 +35,9 @@ use Rattle.mv_borrow_graph.specs.BorrowRules.{edges_after}
 use Rattle.mv_borrow_graph.specs.Laws.Rising.{step_below}
 use Rattle.mv_borrow_graph.specs.Nodes.{may_begin_with, IsGraphOf}
 use Rattle.mv_borrow_graph.specs.Laws.BlocksThere.{begins_again}
-use Rattle.mv_borrow_graph.specs.Domain.{edges_step, ordered, point_at}
-
--- what comes of two steps comes of the second
-bind_parts : {A B : Type 0} (o : Option A) (f : A → Option B) (y : B) {P : Type 0} → (o >>= f) ≡ Some y → ((x : A) → o ≡ Some x → f x ≡ Some y → P) → P
-bind_parts None f y e k = cc
-bind_parts (Some x) f y e k = k x refl e
+use Rattle.mv_borrow_graph.specs.Domain.{edges_step, ordered}
+use Rattle.mv_module_text.proofs.Texts.{on_bind}
+use Rattle.mv_type_states.specs.TypesHold.{point_at}
 
 ordered_ascend : (found : Option (List Edge)) (b : List Edge) → ordered found ≡ Some b → IsTrue (are_ascending b)
 ordered_ascend None b e = cc
@@ -54,7 +51,7 @@ edges_lawful m d = record {
   monotone = λ at a b v _ _ _ le e. step_below m d at a b le v e;
   begins = λ g k n b a t graph block next _ begin e. begins_again m d g k n b a t graph block next begin e;
   keeps = λ at a b _ _ e.
-      bind_parts (slice_get d.code at) (λ i. slice_get (types_before m d) at >>= λ types. ordered (edges_after (point_at m d types) i a)) b e
-      (λ i _ e2. bind_parts (slice_get (types_before m d) at) (λ types. ordered (edges_after (point_at m d types) i a)) b e2
+      on_bind (slice_get d.code at) (λ i. slice_get (types_before m d) at >>= λ types. ordered (edges_after (point_at m d types) i a)) b e
+      (λ i _ e2. on_bind (slice_get (types_before m d) at) (λ types. ordered (edges_after (point_at m d types) i a)) b e2
       (λ types _ e3. ordered_ascend (edges_after (point_at m d types) i a) b e3));
 }

@@ -10,10 +10,9 @@ use Rattle.mv_move_types.specs.Module.{Module, FunctionDefinition, StructDefinit
 use Rattle.mv_cfg.specs.declared.Cfg.{Cfg}
 use Rattle.mv_cfg.specs.FlowGraph.{IsFlowGraph}
 use Rattle.mv_type_states.specs.TypeRules.{Types}
-use Rattle.mv_type_states.specs.TypesHold.{Point, function_is_typed}
+use Rattle.mv_type_states.specs.TypesHold.{Point, function_is_typed, point_at}
 use Rattle.mv_edges.specs.Edges.{Edge, same_node}
 use Rattle.mv_borrow_graph.specs.BorrowRules.{is_mutable_token, is_reference_token}
-use Rattle.mv_borrow_graph.specs.Domain.{point_at}
 
 -- whether the local is there and its type passes the test
 abbrev pub has_local : (Token → Bool) → Point → ℕ → Bool

@@ -4,8 +4,8 @@ ghost use Rattle.std.specs.List.{list_all};
 ghost use Rattle.std.specs.Option.{option_map_or};
 ghost use Rattle.mv_edges.specs.Ascending.{are_ascending};
 ghost use Rattle.mv_type_states.specs.Sound.{types_before};
-ghost use Rattle.mv_type_states.specs.TypesHold.{TypesHold};
-ghost use Rattle.mv_borrow_graph.specs.Domain.{point_at, is_low, edges_step, places_reference};
+ghost use Rattle.mv_type_states.specs.TypesHold.{TypesHold, point_at};
+ghost use Rattle.mv_borrow_graph.specs.Domain.{is_low, edges_step, places_reference};
 ghost use Rattle.mv_borrow_graph.specs.Nodes.{are_few as few};
 
 use super::site::{Site, leaves_edges};

@@ -57,8 +57,7 @@ pub struct Site<'d, 'm> {
 
 impl<'d, 'm> Model for Site<'d, 'm> {
     ghost use Rattle.std.specs.Prelude.{◌≡◌, ◌≤◌, Some, length, reverse, slice_get};
-    ghost use Rattle.mv_type_states.specs.TypesHold.{Point};
-    ghost use Rattle.mv_borrow_graph.specs.Domain.{point_at};
+    ghost use Rattle.mv_type_states.specs.TypesHold.{Point, point_at};
 
     ghost Value = { Point };
 

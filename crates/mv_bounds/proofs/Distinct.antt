@@ -5,18 +5,12 @@ use Rattle.std.proofs.Common.{◌||◌}
 use Rattle.std.specs.List.{list_any}
 use Rattle.std.specs.Set.{distinct_count, unique_keys}
 use Rattle.std.proofs.lemmas.Map.Made.{distinct_count-le}
-
--- numbers are equal where the next ones are
-eqb_next : (a b : ℕ) → eqb (suc a) (suc b) ≡ eqb a b
-eqb_next a b = elim (cases_eq a b) [
-  | inl e ↦ eq-eqb (suc a) (suc b) (ap (λ n. suc n) e) ∙ sym (eq-eqb a b e)
-  | inr ne ↦ ne_eqb (suc a) (suc b) (λ e. ne (omega (arith, e))) ∙ sym (ne_eqb a b ne)
-]
+use Rattle.std.proofs.Math.Dec.{eqb-suc-suc}
 
 -- one entry more, which is among the others or not
 count_step : {K : Type 0} (b : Bool) (x : K) (us : List K) (n : ℕ) (r : Bool) → length us ≤ n → eqb (length us) n ≡ r → eqb (length (cond b us (x ∷ us))) (suc n) ≡ (not b && r)
 count_step true x us n r le e = ne_eqb (length us) (suc n) (λ same. omega (arith, same, le))
-count_step false x us n r le e = eqb_next (length us) n ∙ e
+count_step false x us n r le e = eqb-suc-suc (length us) n ∙ e
 
 -- there are as many different entries as entries, exactly where no two are equal
 pub all_differ_by_count : {K : Type 0} (eq : K → K → Bool) (xs : List K) → eqb (distinct_count eq xs) (length xs) ≡ all_differ eq xs

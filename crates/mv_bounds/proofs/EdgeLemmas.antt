@@ -4,6 +4,7 @@ use Rattle.mv_bounds.proofs.Common.{replicate, set, subst, suc, sym, true, zero,
 use Rattle.mv_bounds.proofs.Common.{slice_get, IsAcyclic, LeadsTo, directly, further, edges_to, times}
 use Rattle.std.proofs.Common.{◌⊎◌}
 use Rattle.mv_bounds.proofs.TimesLemmas.{times_of, contains_from_times}
+use Rattle.mv_bounds.proofs.Entries.{none_within}
 
 -- a node that is removed takes its edges with it
 pub edges_removed : (graph : List (List ℕ)) (removed : List Bool) (i j : ℕ) (successors : List ℕ) → length removed ≡ length graph
@@ -152,11 +153,6 @@ none_remains R chain never removed (suc n) before z low remains = by_last (remov
 
         none : (x : ℕ) → x < n → removed x ≡ false → ⊥
         none = others (λ x l r. fewer x (before x (omega (arith, l)) r))
-
--- nothing stands in a list without entries
-none_within : (s : List ℕ) (k : ℕ) → length s ≡ 0 → Contains s k → ⊥
-none_within [] k none has = omega (arith, times_of k [] has)
-none_within (x ∷ s) k none has = omega (arith, none)
 
 -- a node of a graph without edges has no successor
 none_after : (graph : List (Vec ℕ Global)) (i k : ℕ) (s : List ℕ) → list_all (λ (v : Vec ℕ Global). length v.items == 0) graph ≡ true

@@ -5,12 +5,7 @@ use Rattle.std.proofs.Common.{IsSome}
 use Rattle.mv_move_types.specs.Options.{◌>>=◌}
 use Rattle.mv_move_types.specs.Module.{parameter_tokens, result_tokens, local_tokens, local_type}
 use Rattle.mv_bounds.specs.Bounds.{function_handle_in, local_count}
-
--- what holds of all holds of each
-pub all_at : {A : Type 0} (p : A → Bool) (xs : List A) (i : ℕ) (x : A) → list_all p xs ≡ true → slice_get xs i ≡ Some x → p x ≡ true
-all_at p [] i x h e = cc
-all_at p (y ∷ xs) zero x h e = let same : y ≡ x = cc in subst (λ z. p z ≡ true) same (and_parts (p y) (list_all p xs) h).0
-all_at p (y ∷ xs) (suc i) x h e = all_at p xs i x (and_parts (p y) (list_all p xs) h).1 e
+use Rattle.mv_bounds.proofs.Entries.{all_at}
 
 -- what an index below the length reads
 pub some_there : {A B : Type 0} (f : A → B) (o : Option A) (xs : List B) (i j : ℕ) → option_map f o ≡ slice_get xs i → i ≡ j → j < length xs → IsSome o

@@ -5,6 +5,7 @@ use Rattle.mv_bounds.proofs.Common.{same_Some, list_all, option_map, FunctionDef
 use Rattle.std.proofs.lemmas.List.{get_or_past}
 use Rattle.mv_bounds.specs.Places.{AreFunctionPlaces}
 use Rattle.mv_bounds.proofs.PlaceLemmas.{find-none, find-here, find-kept}
+use Rattle.mv_bounds.proofs.Entries.{place_below}
 
 -- whether a definition is a handle's
 abbrev is_of : ℕ → ℕ → Bool
@@ -58,19 +59,9 @@ pub find-map : {A B : Type 0} (f : A → B) (p : B → Bool) (xs : List A) → f
 find-map f p [] = refl
 find-map f p (x ∷ xs) = ap (λ o. cond (p (f x)) (Some 0) (option_map suc o)) (find-map f p xs)
 
--- what is found is there
-find-below : {A : Type 0} (p : A → Bool) (xs : List A) (k : ℕ) → find_index p xs ≡ Some k → k < length xs
-find-below p [] k e = absurd (none-some k e)
-find-below p (x ∷ xs) k e = by_test (p x) (find_index p xs) (find-below p xs) e
-  where
-    by_test : (b : Bool) (o : Option ℕ) → ((j : ℕ) → o ≡ Some j → j < length xs) → cond b (Some 0) (option_map suc o) ≡ Some k → k < suc (length xs)
-    by_test true o below e = let is : 0 ≡ k = same_Some 0 k e in omega (arith, is)
-    by_test false None below e = absurd (none-some k e)
-    by_test false (Some j) below e = let is : suc j ≡ k = same_Some (suc j) k e in omega (arith, is, below j refl)
-
 pub found-below : {A : Type 0} (p : A → Bool) (xs : List A) (o : Option ℕ) → o ≡ find_index p xs → IfSome o (λ k. k < length xs)
 found-below p xs None e = tt
-found-below p xs (Some k) e = find-below p xs k (sym e)
+found-below p xs (Some k) e = place_below p xs k (sym e)
 
 -- a handle past the table defines no function
 find-past : (m : Module) (h : ℕ) → length m.function_handles ≤ h → (ds : List FunctionDefinition) → list_all (function_in m) ds ≡ true

@@ -1,6 +1,6 @@
 -- A state that is carried from place to place becomes what the rule makes of it, one instruction after another.
-use Rattle.mv_certificate.proofs.Common.{[], ℕ, ◌+◌, ◌-◌, ◌<◌, ◌∷◌, ◌≡◌, IsTrue, List, None, Option, Some, arith, cond, is_some, length, nat_le, refl, slice_get, subst, suc, true}
-use Rattle.mv_certificate.proofs.Common.{false≢true, option_map_or, FunctionDefinition, Module, ◌>>=◌, Instruction, BasicBlock, blocks, IsFlowGraph, basic_block_of, Block, Cfg, list_all-at}
+use Rattle.mv_certificate.proofs.Common.{[], ℕ, ◌+◌, ◌-◌, ◌<◌, ◌∷◌, ◌≡◌, IsTrue, List, None, Option, Some, arith, cond, is_some, length, nat_le, refl, slice_get, subst, suc, true, all_at}
+use Rattle.mv_certificate.proofs.Common.{false≢true, option_map_or, FunctionDefinition, Module, ◌>>=◌, Instruction, BasicBlock, blocks, IsFlowGraph, basic_block_of, Block, Cfg}
 use Rattle.mv_certificate.proofs.Common.{types_before, Types, function_is_typed, block_at, Rule, instructions_of, through}
 use Rattle.std.proofs.Common.{option_and_then}
 use Rattle.mv_cfg.specs.Graph.{IsBlock}
@@ -61,4 +61,4 @@ module _ (S : Type 0) (rule : Rule S) (step : ℕ → S → Option S) (R : S →
       let size : length (instructions_of d st) ≡ b.last + 1 - b.first = length-range d.code b.first (b.last + 1) (omega arith) in
       subst (λ n. Alike (Ends R) (carried step b.first n s) (through rule m d (instructions_of d st) (s, []))) size
       (through_alike (instructions_of d st) b.first [] s s (Stands-range d.code b.first (b.last + 1)) (Stands-types m d k st typed at)
-      (typed_some m d st (list_all-at (block_is_typed m d) (blocks d.code) k st typed at)) (self s))
+      (typed_some m d st (all_at (block_is_typed m d) (blocks d.code) k st typed at)) (self s))

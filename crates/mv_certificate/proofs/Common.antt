@@ -40,7 +40,6 @@ pub use Rattle.mv_cfg.specs.declared.Cfg.{Cfg}
 pub use Rattle.mv_edges.specs.Ascending.{are_ascending}
 pub use Rattle.mv_edges.specs.Edges.{Edge, Label, edges_leq, extended, opened}
 pub use Rattle.mv_lattice.specs.Flow.{IsClosed, IsFlow, IsStated, states_of}
-pub use Rattle.mv_type_states.proofs.Stacks.{list_all-at}
 pub use Rattle.mv_type_states.specs.Sound.{types_before}
 pub use Rattle.mv_type_states.specs.TypeRules.{Types}
 pub use Rattle.mv_type_states.specs.TypesHold.{Point, function_is_typed}
@@ -54,3 +53,4 @@ pub use Rattle.mv_certificate.specs.Functions.{EdgesHoldAt, LocalsHoldAt}
 pub use Rattle.mv_certificate.specs.Parsing.{availability_from, block_from, edge_from, edges_from, known_from, label_from, node_from, openness_from, stated_from}
 pub use Rattle.mv_certificate.specs.Reads.{IsUnreadAt}
 pub use Rattle.mv_certificate.specs.Shape.{AllStatedFit, StatedFits, edge_fits, known_fits}
+pub use Rattle.mv_bounds.proofs.Entries.{all_at}

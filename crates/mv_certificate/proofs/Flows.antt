@@ -12,7 +12,8 @@ use Rattle.mv_lattice.specs.Flow.{IsClosedAt, through as carried_through}
 use Rattle.mv_certificate.specs.Certificate.{stated_at, flows_into, block_holds}
 use Rattle.mv_borrow_graph.specs.Laws.Standing.{tiles_after}
 use Rattle.mv_certificate.proofs.Carried.{Alike, DoAlike, Ends, block_alike}
-use Rattle.mv_certificate.proofs.Marks.{block_of, at_below}
+use Rattle.mv_certificate.proofs.Marks.{block_of}
+use Rattle.mv_bounds.proofs.Entries.{element_at}
 
 -- one test of each pair
 pub zip_all : {A B : Type 0} (p : A × B → Bool) (xs : List A) (ys : List B) → ((k : ℕ) (x : A) (y : B) → slice_get xs k ≡ Some x → slice_get ys k ≡ Some y → p (x, y) ≡ true)
@@ -76,14 +77,14 @@ module _ (S : Type 0) (rule : Rule S) (leq : S → S → Bool) (step : ℕ → S
   stated-found k u e =
       let size : length flow ≡ length g.blocks.items = fl.entries in
       let within : k < length flow = slice_get_within flow k (Some u) e in
-      let b = at_below g.blocks.items k (omega arith) in
+      let b = element_at g.blocks.items k (omega arith) in
       ap (λ o. stated_at pairs (option_map_or (λ (x : Block). x.first) o 0)) b.1
       ∙ found-tiled (blocks d.code) flow 0 (length d.code) k (basic_block_of g b.0) (Some u) (blocks-tile d.code) (block_at d.code g k b.0 fg b.1) e
 
   -- block 0 begins at the first instruction
   first-found : first_of g 0 ≡ 0
   first-found =
-      let b = at_below g.blocks.items 0 fg.graph.has_entry in
+      let b = element_at g.blocks.items 0 fg.graph.has_entry in
       ap (λ o. option_map_or (λ (x : Block). x.first) o 0) b.1
       ∙ first-tiled (blocks d.code) 0 (length d.code) (basic_block_of g b.0) (blocks-tile d.code) (block_at d.code g 0 b.0 fg b.1)
 

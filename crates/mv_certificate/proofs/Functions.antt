@@ -8,9 +8,10 @@ use Rattle.std.proofs.lemmas.List.{drop_all}
 use Rattle.std.proofs.lemmas.Option.{get_or_from_slice_get}
 use Rattle.mv_certificate.specs.Reads.{IsFunctionRead, IsReadAt}
 use Rattle.mv_certificate.proofs.Texts.{stated-parts}
-use Rattle.mv_certificate.proofs.Marks.{stated-fits, at_below}
+use Rattle.mv_certificate.proofs.Marks.{stated-fits}
 use Rattle.mv_certificate.proofs.States.{fit-length, fit-at}
 use Rattle.mv_certificate.proofs.Whole.{stated-whole, marks-fit}
+use Rattle.mv_bounds.proofs.Entries.{element_at}
 
 module _ (m : Module) (d : FunctionDefinition) (g : Cfg) (few : length m.structs ≤ 65536) (small : local_count m d ≤ 64) (fg : IsFlowGraph d.code g) where
   -- what fits the function is read, whatever follows
@@ -90,13 +91,13 @@ next-of : (m : Module) (f : ℕ) (bytes cur : List ℕ) (c : Certificate) (d : F
     → cur ≡ certificate_text (drop f c) → Next m f cur c d
 next-of m f bytes cur c d e lt h is =
     let long = fit-length m m.functions c h.1 in
-    let s = at_below c f (omega arith) in
+    let s = element_at c f (omega arith) in
     record { stated = s.0; text = is ∙ ap certificate_text (drop-at c f s.0 s.1); fits = fit-at m m.functions c f d s.0 h.1 e s.1 }
 
 pub CertOn-next : (m : Module) (f : ℕ) (bytes cur next : List ℕ) (cs : Certificate) (c : Stated) → f < length m.functions
     → IsReadAt m f cur next c → CertOn m f bytes cs cur → CertOn m (f + 1) bytes (cs ++ c ∷ []) next
 CertOn-next m f bytes cur next cs c lt read g =
-    let d = at_below m.functions f lt in
+    let d = element_at m.functions f lt in
     let r = read d.0 d.1 g.left in
     let is : get_or m.functions f d.0 ≡ d.0 = get_or_from_slice_get m.functions f d.0 d.0 d.1 in
     record {
@@ -118,7 +119,7 @@ CertOn-end m f bytes cur cs le none g =
 pub CertOn-unread : (m : Module) (f : ℕ) (bytes cur : List ℕ) (cs : Certificate) → f < length m.functions → IsUnreadAt m f cur → CertOn m f bytes cs cur → (c : Certificate)
     → IsCertificateText m bytes c → ⊥
 CertOn-unread m f bytes cur cs lt none g c h =
-    let d = at_below m.functions f lt in
+    let d = element_at m.functions f lt in
     let n = next-of m f bytes cur c d.0 d.1 lt h (g.others c h) in
     none d.0 d.1 n.stated (certificate_text (drop (f + 1) c)) n.text n.fits
 

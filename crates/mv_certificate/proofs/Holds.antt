@@ -9,20 +9,21 @@ use Rattle.mv_move_types.specs.declared.instruction.Instruction.TheVariants.{Ret
 use Rattle.mv_move_types.specs.Module.{parameter_tokens, local_type}
 use Rattle.mv_lattice.specs.declared.StepError.{StepError}
 use Rattle.mv_lattice.specs.declared.StepError.TheVariants.{Need}
-use Rattle.mv_locals_safety.specs.LocalsRules.{locals_after, locals_leq, may_overwrite, may_leave, has_drop}
-use Rattle.mv_locals_safety.specs.Domain.{locals_step, point_in, start_locals}
-use Rattle.mv_borrow_graph.specs.Domain.{edges_step, point_at}
+use Rattle.mv_locals_safety.specs.LocalsRules.{locals_after, locals_leq, may_overwrite, may_leave, has_drop, start_locals}
+use Rattle.mv_locals_safety.specs.Domain.{locals_step}
+use Rattle.mv_borrow_graph.specs.Domain.{edges_step}
 use Rattle.mv_certificate.specs.Certificate.{known_at_start, each_function, locals_hold, edges_hold}
 use Rattle.mv_certificate.proofs.Carried.{Alike, DoAlike}
 use Rattle.mv_certificate.proofs.Flows.{holds_from_closed, closed_from_holds}
 use Rattle.mv_certificate.proofs.SameEdges.{SameEdges, SameEdges-self, Alike-ordered, rule_alike, leq_same}
+use Rattle.mv_type_states.specs.TypesHold.{point_at}
 
 module _ (m : Module) (d : FunctionDefinition) (types : Types) where
   abbrev point : Point
   point = record { home = m; function = d; types = types }
 
   -- what may be left behind doesn't depend on the types on the stack
-  leave_free : (ts : List Token) (s : List Availability) → may_leave (point_in m d) ts s ≡ may_leave point ts s
+  leave_free : (ts : List Token) (s : List Availability) → may_leave (point_at m d []) ts s ≡ may_leave point ts s
   leave_free [] [] = refl
   leave_free [] (a ∷ s) = refl
   leave_free (t ∷ ts) [] = refl
@@ -31,12 +32,12 @@ module _ (m : Module) (d : FunctionDefinition) (types : Types) where
   leave_free (t ∷ ts) (Maybe ∷ s) = ap (λ b. has_drop point t && b) (leave_free ts s)
 
   -- nor does what may be overwritten
-  overwrite_free : (t : Token) (a : Availability) → may_overwrite (point_in m d) t a ≡ may_overwrite point t a
+  overwrite_free : (t : Token) (a : Availability) → may_overwrite (point_at m d []) t a ≡ may_overwrite point t a
   overwrite_free t Unavailable = refl
   overwrite_free t a = refl
 
   -- the rules for locals read no types
-  types_free : (i : Instruction) (s : List Availability) → locals_after (point_in m d) i s ≡ locals_after point i s
+  types_free : (i : Instruction) (s : List Availability) → locals_after (point_at m d []) i s ≡ locals_after point i s
   unfolding locals_after
   types_free (StLoc l) s = λ j. local_type m d l >>= λ t. slice_get s l >>= λ a. then_some (overwrite_free t a j) (slice_set s l Available)
   types_free Ret s = λ j. local_tokens m d >>= λ ts. then_some (leave_free ts s j) s
@@ -51,7 +52,7 @@ Alike-self (Some s) = refl
 locals_do : (m : Module) (d : FunctionDefinition) → DoAlike locals_after (locals_step m d) (λ s t. s ≡ t) m d
 locals_do m d = λ at i types s t code known same.
     let p : Point = record { home = m; function = d; types = types } in
-    let e : locals_step m d at s ≡ locals_after p i t = ap (λ o. o >>= λ x. locals_after (point_in m d) x s) code ∙ types_free m d types i s ∙ ap (locals_after p i) same in
+    let e : locals_step m d at s ≡ locals_after p i t = ap (λ o. o >>= λ x. locals_after (point_at m d []) x s) code ∙ types_free m d types i s ∙ ap (locals_after p i) same in
     subst (λ o. Alike (λ (a b : List Availability). a ≡ b) o (locals_after p i t)) (sym e) (Alike-self (locals_after p i t))
 
 -- a step at a place does as the rule for edges
@@ -67,16 +68,8 @@ edges_do m d = λ at i types s t code known same.
 abbrev beginning : List Availability → Known
 beginning s = record { locals = s; edges = [] }
 
--- what is known at the start, by its availabilities
-known_by : (o1 o2 : Option (List Token)) (first : List Token → List Token → List Availability) (s : List Availability) → (o1 >>= λ p. o2 >>= λ l. Some (first p l)) ≡ Some s
-    → (o1 >>= λ p. o2 >>= λ l. Some (beginning (first p l))) ≡ Some (beginning s)
-known_by None o2 first s e = absurd (none-some s e)
-known_by (Some p) None first s e = absurd (none-some s e)
-known_by (Some p) (Some l) first s e = ap (λ z. Some (beginning z)) (same_Some (first p l) s e)
-
 known_locals : (m : Module) (d : FunctionDefinition) (s : List Availability) → start_locals m d ≡ Some s → known_at_start m d ≡ Some (beginning s)
-known_locals m d s =
-    known_by (parameter_tokens m d) (local_tokens m d) (λ p l. replicate (length p) Available ++ replicate (length l - length p) Unavailable) s
+known_locals m d s e = ap (option_map beginning) e
 
 -- no edges are known at the start
 record Begins (o : Option Known) : Type 0 where
@@ -84,18 +77,16 @@ record Begins (o : Option Known) : Type 0 where
   is : o ≡ Some known
   free : known.edges ≡ []
 
-begins_by : (o1 o2 : Option (List Token)) (first : List Token → List Token → List Availability) → IsSome (o1 >>= λ p. o2 >>= λ l. Some (beginning (first p l)))
-    → Begins (o1 >>= λ p. o2 >>= λ l. Some (beginning (first p l)))
-begins_by None o2 first h = absurd (false≢true h)
-begins_by (Some p) None first h = absurd (false≢true h)
-begins_by (Some p) (Some l) first h = record { known = beginning (first p l); is = refl; free = refl }
+begins_by : (o : Option (List Availability)) → IsSome (option_map beginning o) → Begins (option_map beginning o)
+begins_by None h = absurd (false≢true h)
+begins_by (Some s) h = record { known = beginning s; is = refl; free = refl }
 
 begins : (m : Module) (d : FunctionDefinition) → IsSome (known_at_start m d) → Begins (known_at_start m d)
-begins m d = begins_by (parameter_tokens m d) (local_tokens m d) (λ p l. replicate (length p) Available ++ replicate (length l - length p) Unavailable)
+begins m d = begins_by (start_locals m d)
 
 -- what is known is there, where its parts are
 known_there : (o1 o2 : Option (List Token)) (first : List Token → List Token → List Availability) (p l : List Token) → o1 ≡ Some p → o2 ≡ Some l
-    → IsSome (o1 >>= λ p. o2 >>= λ l. Some (beginning (first p l)))
+    → IsSome (option_map beginning (o1 >>= λ p. o2 >>= λ l. Some (first p l)))
 known_there o1 o2 first p l e1 e2 = rw (e1, e2) refl
 
 locals_there : (m : Module) (d : FunctionDefinition) (p others : List Token) (o : Option FunctionHandle) → (o >>= λ h. slice_get m.signatures h.parameters) ≡ Some p
@@ -195,11 +186,6 @@ passes-each test (x ∷ ds) [] h f d c de ce = absurd (none-some c ce)
 passes-each test (x ∷ ds) (y ∷ cs) h zero d c de ce =
     subst (λ z. test d z ≡ true) (same_Some y c ce) (subst (λ z. test z y ≡ true) (same_Some x d de) ((and_parts (test x y) (each_function test ds cs) h).0))
 passes-each test (x ∷ ds) (y ∷ cs) h (suc f) d c de ce = passes-each test ds cs ((and_parts (test x y) (each_function test ds cs) h).1) f d c de ce
-
--- rules that don't hold in one place don't hold at all
-pub refused_one : (n : ℕ) (one all : Type 0) (e : Refusal) → (all → one) → IsRefusedIn n one e → IsRefusedIn n all e
-refused_one n one all (Phase p) on h = (h.0, λ a. h.1 (on a))
-refused_one n one all Memory on h = tt
 
 -- a flow that is not accepted is refused in the phase
 pub refused_flow : (n : ℕ) (holds flow : Type 0) (e : StepError) (r : Refusal) → (holds → flow) → (IsErrOf {T = Unit {0}} (Err e) Need → flow → ⊥)

@@ -1,19 +1,15 @@
 -- Reading the parts of a certificate one after another.
-use Rattle.mv_certificate.proofs.Common.{[], ℕ, ◌++◌, ◌+◌, ◌-◌, ◌<◌, ◌∙◌, ◌∷◌, ◌≡◌, ◌≤◌, Bool, List, None, Option, Some, ap, append-nil, append_assoc, arith, drop, false, get_or, length}
-use Rattle.mv_certificate.proofs.Common.{map, option_map, refl, subst, suc, sym, true, true≢false, zero, and_from, and_parts, then_some, FunctionDefinition, Module, ◌>>=◌, number_from}
+use Rattle.mv_certificate.proofs.Common.{[], ℕ, ◌++◌, ◌+◌, ◌-◌, ◌<◌, ◌∙◌, ◌∷◌, ◌≡◌, ◌≤◌, Bool, List, None, Option, Some, ap, append-nil, arith, drop, false, get_or, length}
+use Rattle.mv_certificate.proofs.Common.{map, option_map, refl, subst, suc, sym, true, true≢false, then_some, FunctionDefinition, Module, ◌>>=◌, number_from}
 use Rattle.mv_certificate.proofs.Common.{ReadsOn, ReadsOn-next, counted_from, entries_from, are_ascending, Edge, Label, extended, opened, Known, Stated, block_from, edge_from, edges_from}
 use Rattle.mv_certificate.proofs.Common.{label_from, openness_from, stated_from}
 use Rattle.std.proofs.Common.{drop-cons}
 use Rattle.std.specs.Prelude.{if◌then◌else◌}
-use Rattle.std.proofs.lemmas.List.{drop-map}
+use Rattle.std.proofs.lemmas.List.{drop-map, drop_all}
 use Rattle.std.proofs.lemmas.Bool.{false_from_ne_true}
 use Rattle.mv_module_text.specs.Parsing.{Read}
-use Rattle.mv_module_text.proofs.Entries.{after, after-nil, after-push, ReadsOn-stops, ReadsOn-end}
-use Rattle.mv_edges.specs.Ascending.{edge_before}
-
--- an entry that can't be read
-entries_from-none : {A : Type 0} (each : List ℕ → Read A) (k : ℕ) (cur : List ℕ) → each cur ≡ None → entries_from each (suc k) cur ≡ None
-entries_from-none each k cur e = rw e refl
+use Rattle.mv_module_text.proofs.Entries.{after, after-nil, after-push, ReadsOn-stops, ReadsOn-end, entries_from-stops}
+use Rattle.mv_edges.proofs.Sorting.{ascending_front}
 
 -- one of so many entries can't be read
 pub ReadsOn-breaks : {A : Type 0} (each : List ℕ → Read A) (n i : ℕ) (start : List ℕ) (items : List A) (cur : List ℕ)
@@ -21,7 +17,7 @@ pub ReadsOn-breaks : {A : Type 0} (each : List ℕ → Read A) (n i : ℕ) (star
 ReadsOn-breaks each n i start items cur lt none g =
     let k : n - i ≡ suc (n - (i + 1)) = omega arith in
     g.goes ∙ ap (λ z. option_map (after items) (entries_from each z cur)) k
-    ∙ ap (option_map (after items)) (entries_from-none each (n - (i + 1)) cur none)
+    ∙ ap (option_map (after items)) (entries_from-stops each (n - (i + 1)) cur none)
 
 -- all are read
 pub ReadsOn-whole : {A : Type 0} (each : List ℕ → Read A) (n i : ℕ) (start : List ℕ) (items : List A) (cur : List ℕ)
@@ -72,16 +68,8 @@ pub label-exact : (n i : ℕ) (bytes start cur next : List ℕ) (exact : Label) 
 label-exact n i bytes start cur next exact b e le read is_false (g, closed) =
     label-at n i bytes start exact.path cur e le g ∙ ap (with_openness exact.path) read ∙ ap (λ z. Some (of exact.path z, next)) (is_false ∙ sym closed)
 
--- the first of ascending edges ascend
-pub ascending-front : (xs ys : List Edge) → are_ascending (xs ++ ys) ≡ true → are_ascending xs ≡ true
-ascending-front [] ys h = refl
-ascending-front (a ∷ []) ys h = refl
-ascending-front (a ∷ b ∷ xs) ys h =
-    let p = and_parts (edge_before a b) (are_ascending (b ∷ (xs ++ ys))) h in
-    and_from (edge_before a b) (are_ascending (b ∷ xs)) p.0 (ascending-front (b ∷ xs) ys p.1)
-
 not_ascending : (xs ys : List Edge) → are_ascending xs ≡ false → are_ascending (xs ++ ys) ≡ false
-not_ascending xs ys h = false_from_ne_true (are_ascending (xs ++ ys)) (λ t. true≢false (sym (ascending-front xs ys t) ∙ h))
+not_ascending xs ys h = false_from_ne_true (are_ascending (xs ++ ys)) (λ t. true≢false (sym (ascending_front xs ys t) ∙ h))
 
 -- edges of which the first don't ascend
 test_fails : (items : List Edge) (o : Read (List Edge)) → are_ascending items ≡ false
@@ -145,18 +133,11 @@ StatedOn-next f blocks b m d i start items cur next x lt is e g = record {
       ∙ after-push items x (stated_from m d (drop (i + 1) (map f blocks)) next);
 }
 
--- nothing is after the end
-drop_after : {A : Type 0} (i : ℕ) (xs : List A) → length xs ≤ i → drop i xs ≡ []
-drop_after zero [] le = refl
-drop_after zero (x ∷ xs) le = absurd (omega arith)
-drop_after (suc i) [] le = refl
-drop_after (suc i) (x ∷ xs) le = drop_after i xs (omega arith)
-
 -- all are read
 pub StatedOn-end : (m : Module) (d : FunctionDefinition) (marks : List Bool) (i : ℕ) (start : List ℕ) (items : Stated) (cur : List ℕ)
     → length marks ≤ i → StatedOn m d marks i start items cur → stated_from m d marks start ≡ Some (items, cur)
 StatedOn-end m d marks i start items cur le g =
-    g.goes ∙ ap (λ z. option_map (after items) (stated_from m d z cur)) (drop_after i marks le) ∙ ap (λ z. Some (z, cur)) (append-nil items)
+    g.goes ∙ ap (λ z. option_map (after items) (stated_from m d z cur)) (drop_all i marks le) ∙ ap (λ z. Some (z, cur)) (append-nil items)
 
 -- what reading nothing gives
 stated-none : (m : Module) (d : FunctionDefinition) (b : Bool) (marks : List Bool) (cur : List ℕ) → block_from m d b cur ≡ None → stated_from m d (b ∷ marks) cur ≡ None

@@ -5,7 +5,6 @@ use Rattle.mv_certificate.proofs.Common.{IsFlowGraph, basic_block_of, Block, Cfg
 use Rattle.mv_cfg.specs.Blocks.{IsReached}
 use Rattle.mv_certificate.proofs.Texts.{block_fits}
 pub use Rattle.mv_binary_format.proofs.Back.{all-are_bytes as all-bytes}
-pub use Rattle.mv_cfg.proofs.Graphs.{element_at as at_below}
 
 -- what a mapped option holds
 abbrev pub Comes : {A B : Type 0} → (A → B) → Option A → B → Type 0

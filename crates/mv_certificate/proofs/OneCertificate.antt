@@ -1,24 +1,21 @@
 -- No bytes are texts of two certificates of one module.
-use Rattle.mv_certificate.proofs.Common.{[], ℕ, ◌++◌, ◌∙◌, ◌∷◌, ◌≡◌, ◌≤◌, List, None, Option, Some, ap, arith, flat_map, is_some, length, map, nat_le, refl, slice_get, suc, sym, true, zero}
-use Rattle.mv_certificate.proofs.Common.{and_parts, leb-true, same_Some, slice_get_within, some_pair_parts, list_all, option_map_or, FunctionDefinition, Module, ◌>>=◌, FunctionHandle, Token}
+use Rattle.mv_certificate.proofs.Common.{[], ℕ, ◌++◌, ◌∙◌, ◌∷◌, ◌≡◌, ◌≤◌, List, None, Option, Some, ap, arith, flat_map, is_some, length, map, nat_le, refl, slice_get, sym, true}
+use Rattle.mv_certificate.proofs.Common.{and_parts, leb-true, slice_get_within, some_pair_parts, list_all, option_map_or, FunctionDefinition, Module, ◌>>=◌, FunctionHandle, Token}
 use Rattle.mv_certificate.proofs.Common.{local_count, blocks, Certificate, Stated, IsCertificateText, certificate_text, stated_text, stated_from, AllStatedFit, StatedFits}
 use Rattle.std.proofs.lemmas.List.{length-append}
 use Rattle.mv_module_text.specs.Fits.{signature_fits, token_fits}
 use Rattle.mv_binary_format.specs.ModuleText.{HasText}
 use Rattle.mv_binary_format.proofs.Fitting.{few_structs}
-use Rattle.mv_certificate.proofs.Marks.{at_below}
-use Rattle.mv_certificate.proofs.Whole.{stated-whole, same_marks, same_bools}
+use Rattle.mv_certificate.proofs.Whole.{stated-whole, same_marks}
+use Rattle.mv_edges.proofs.Settled.{same_truth}
+use Rattle.mv_bounds.proofs.Entries.{all_at, element_at}
 
 -- a signature that is there is short
-signature_short : (version : ℕ) (ss : List (List Token)) (i : ℕ) (s : List Token) → list_all (signature_fits version) ss ≡ true → slice_get ss i ≡ Some s → length s ≤ 64
-signature_short version [] i s h e = cc
-signature_short version (x ∷ ss) zero s h e =
-    let p = and_parts (signature_fits version x) (list_all (signature_fits version) ss) h in
-    let q = and_parts (nat_le (length x) 64) (list_all (token_fits version) x) p.0 in
-    let le : length x ≤ 64 = leb-true (length x) 64 q.0 in
-    let same : x ≡ s = same_Some x s e in
-    omega (arith, ap length same)
-signature_short version (x ∷ ss) (suc i) s h e = signature_short version ss i s ((and_parts (signature_fits version x) (list_all (signature_fits version) ss) h).1) e
+pub signature_short : (version : ℕ) (signatures : List (List Token)) (i : ℕ) (tokens : List Token) → list_all (signature_fits version) signatures ≡ true
+    → slice_get signatures i ≡ Some tokens → length tokens ≤ 64
+signature_short version signatures i tokens fits is =
+    let one : signature_fits version tokens ≡ true = all_at (signature_fits version) signatures i tokens fits is in
+    leb-true (length tokens) 64 (and_parts (nat_le (length tokens) 64) (list_all (token_fits version) tokens) one).0
 
 -- so a function of a module that has a text has few locals
 few_locals : (m : Module) (d : FunctionDefinition) → HasText m → local_count m d ≤ 65536
@@ -46,10 +43,10 @@ few_locals m d has = by_handle (slice_get m.function_handles d.handle)
 pub one-marks : (m : Module) (d : FunctionDefinition) (ks ls : Stated) → StatedFits m d ks → StatedFits m d ls → map is_some ks ≡ map is_some ls
 one-marks m d ks ls p q =
     same_marks is_some is_some ks ls (p.long ∙ sym q.long) (λ i k l ki li.
-    let b = at_below (blocks d.code) i (omega (arith, slice_get_within ks i k ki, p.long)) in
+    let b = element_at (blocks d.code) i (omega (arith, slice_get_within ks i k ki, p.long)) in
     let r = p.marks i b.0 k b.1 ki in
     let s = q.marks i b.0 l b.1 li in
-    same_bools (is_some k) (is_some l) (λ e. s.1 (r.0 e)) (λ e. r.1 (s.0 e)))
+    same_truth (is_some k) (is_some l) (λ e. s.1 (r.0 e)) (λ e. r.1 (s.0 e)))
 
 -- bytes begin with the text of one statement alone that fits the function
 one-stated : (m : Module) (d : FunctionDefinition) → HasText m → (ks ls : Stated) (rest behind : List ℕ) → flat_map stated_text ks ++ rest ≡ flat_map stated_text ls ++ behind

@@ -1,12 +1,13 @@
 -- What is stated of a function is a flow over its graph.
-use Rattle.mv_certificate.proofs.Common.{[], ℕ, ◌&&◌, ◌<◌, ◌==◌, ◌∙◌, ◌∷◌, ◌≡◌, IsTrue, List, None, Option, Some, ap, arith, false, is_some, length, map, nat_le, option_map, refl, slice_get}
+use Rattle.mv_certificate.proofs.Common.{[], ℕ, ◌&&◌, ◌<◌, ◌==◌, ◌∙◌, ◌∷◌, ◌≡◌, IsTrue, List, None, Option, Some, ap, arith, false, is_some, length, map, nat_le, option_map, refl, slice_get, all_at}
 use Rattle.mv_certificate.proofs.Common.{subst, suc, sym, true, true≢false, zero, and_parts, eqb-true, length-map, All-contains, none-some, same_Some, slice_get-map, slice_get_within}
 use Rattle.mv_certificate.proofs.Common.{list_all, option_map_or, FunctionDefinition, Module, local_tokens, Availability, Token, blocks, IsFlowGraph, basic_block_of, along, at_entry, Cfg}
-use Rattle.mv_certificate.proofs.Common.{are_ascending, Edge, IsFlow, IsStated, list_all-at, IsOfLocals, Certificate, Known, Stated, AllStatedFit, StatedFits, edge_fits, known_fits}
+use Rattle.mv_certificate.proofs.Common.{are_ascending, Edge, IsFlow, IsStated, IsOfLocals, Certificate, Known, Stated, AllStatedFit, StatedFits, edge_fits, known_fits}
 use Rattle.mv_cfg.specs.Graph.{IsGraph, IsReached as IsReachedBlock}
 use Rattle.mv_certificate.specs.Reads.{FitsAt}
 use Rattle.mv_certificate.proofs.Texts.{block_fits}
-use Rattle.mv_certificate.proofs.Marks.{comes, at_below}
+use Rattle.mv_certificate.proofs.Marks.{comes}
+use Rattle.mv_bounds.proofs.Entries.{element_at}
 
 -- a reached block is there
 reached_below : (g : Cfg) (size : ℕ) → IsGraph g size → (k : ℕ) → IsReachedBlock g k → k < length g.blocks.items
@@ -45,12 +46,12 @@ flow-of {S} part IsState m d g ks each fg sf =
       entries = length-map ks (option_map part) ∙ same;
       states = λ k s e.
           let q = source part ks k s e in
-          subst IsState q.same (each q.known (list_all-at (block_fits m d) ks k (Some q.known) sf.fits q.stated));
+          subst IsState q.same (each q.known (all_at (block_fits m d) ks k (Some q.known) sf.fits q.stated));
       stated = λ k r.
           let lt : k < length g.blocks.items = reached_below g (length d.code) fg.graph k r in
           let lt2 : k < length ks = omega arith in
-          let b = at_below g.blocks.items k lt in
-          let o = at_below ks k lt2 in
+          let b = element_at g.blocks.items k lt in
+          let o = element_at ks k lt2 in
           let here : slice_get (blocks d.code) k ≡ Some (basic_block_of g b.0) = ap (λ z. slice_get z k) (sym fg.basic_blocks) ∙ slice_get-map (basic_block_of g) g.blocks.items k ∙ ap (option_map (basic_block_of g)) b.1 in
           let mark : b.0.reached ≡ true = (fg.graph.marks k b.0 b.1).1 r in
           let known = some_stated o.0 ((sf.marks k (basic_block_of g b.0) o.0 here o.1).1 ((fg.reached k b.0 b.1).0 mark)) in
@@ -59,7 +60,7 @@ flow-of {S} part IsState m d g ks each fg sf =
           let q = source part ks k s e in
           let in1 : k < length ks = slice_get_within ks k (Some q.known) q.stated in
           let lt : k < length g.blocks.items = omega arith in
-          let b = at_below g.blocks.items k lt in
+          let b = element_at g.blocks.items k lt in
           let here : slice_get (blocks d.code) k ≡ Some (basic_block_of g b.0) = ap (λ z. slice_get z k) (sym fg.basic_blocks) ∙ slice_get-map (basic_block_of g) g.blocks.items k ∙ ap (option_map (basic_block_of g)) b.1 in
           (fg.graph.marks k b.0 b.1).0 ((fg.reached k b.0 b.1).1 ((sf.marks k (basic_block_of g b.0) (Some q.known) here q.stated).0 refl));
     }

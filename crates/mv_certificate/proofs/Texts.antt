@@ -8,10 +8,11 @@ use Rattle.mv_certificate.proofs.Common.{openness_from, stated_from, edge_fits, 
 use Rattle.std.proofs.Common.{eqb}
 use Rattle.mv_module_text.specs.Fits.{is_index}
 use Rattle.mv_module_text.specs.Parsing.{index_from, byte_from, mark_from}
-use Rattle.mv_module_text.proofs.Texts.{Front, Parts, on_bind, then_some-parts, Front-from, Front-join, Front-as, number-front, index-parts, byte-front, mark-front, entries-front}
+use Rattle.mv_module_text.proofs.Texts.{Front, Parts, on_bind, Front-from, Front-join, Front-as, number-front, index-parts, byte-front, mark-front, entries-front}
 use Rattle.mv_module_text.proofs.Texts.{counted-parts}
 use Rattle.mv_module_text.proofs.Tokens.{cond-parts}
 use Rattle.mv_certificate.specs.Parsing.{availability_of, node_of, openness_of}
+use Rattle.mv_uleb.proofs.Spelled.{then_some-parts}
 
 -- an availability's byte alone
 abbrev pub availability_text : Availability → List ℕ

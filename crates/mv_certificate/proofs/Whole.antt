@@ -9,10 +9,12 @@ use Rattle.mv_certificate.proofs.Common.{known_fits}
 use Rattle.std.proofs.Common.{not}
 use Rattle.std.proofs.lemmas.Bool.{ltb-true}
 use Rattle.mv_borrow_graph.specs.BorrowRules.{is_mutable_token, is_reference_token}
-use Rattle.mv_edges.specs.Edges.{same_node}
 use Rattle.mv_module_text.proofs.Texts.{Whole, number-whole, index-whole, entries-whole, counted-whole}
-use Rattle.mv_certificate.specs.Shape.{is_typed_local, is_source, is_target}
+use Rattle.mv_borrow_graph.specs.Nodes.{has_local, leads_in, leads_out, edge_is_there}
+use Rattle.mv_borrow_graph.specs.Laws.There.{there_parts}
 use Rattle.mv_certificate.proofs.Texts.{availability_text, any, node_fits, is_small, path_fits, openness_text, label_text, label_fits, edge_as, edges_fit, block_fits}
+use Rattle.mv_edges.proofs.Settled.{same_truth}
+use Rattle.mv_type_states.specs.TypesHold.{point_at}
 
 -- a step that gives something
 bind_is : {A B : Type 0} (o : Option A) (f : A → Option B) (x : A) → o ≡ Some x → (o >>= f) ≡ f x
@@ -48,7 +50,7 @@ label-whole rest l ok =
 
 module _ (m : Module) (d : FunctionDefinition) (few : length m.structs ≤ 65536) (small : local_count m d ≤ 65536) where
   -- a local that is there has an index
-  local_small : (test : Token → Bool) (l : ℕ) → is_typed_local test m d l ≡ true → nat_lt l 65536 ≡ true
+  local_small : (test : Token → Bool) (l : ℕ) → has_local test (point_at m d []) l ≡ true → nat_lt l 65536 ≡ true
   local_small test l h = by_tokens (local_tokens m d) small h
     where
       by_token : (tokens : List Token) → length tokens ≤ 65536 → (o : Option Token) → slice_get tokens l ≡ o → option_map_or test o false ≡ true → nat_lt l 65536 ≡ true
@@ -60,14 +62,14 @@ module _ (m : Module) (d : FunctionDefinition) (few : length m.structs ≤ 65536
       by_tokens (Some tokens) le h = by_token tokens le (slice_get tokens l) refl h
 
   -- a node from which an edge may lead has an index
-  source_fits : (n : Node) → is_source m d n ≡ true → node_fits n ≡ true
+  source_fits : (n : Node) → leads_out (point_at m d []) n ≡ true → node_fits n ≡ true
   source_fits (Slot l) h = local_small is_mutable_token l h
   source_fits (Own l) h = local_small (λ t. not (is_reference_token t)) l h
   source_fits (Glob t) h = le-leb (suc t) 65536 (omega (arith, ltb-true t (length m.structs) h))
   source_fits (Temp k) h = absurd (false≢true h)
 
   -- and one to which it may
-  target_fits : (n : Node) → is_target m d n ≡ true → node_fits n ≡ true
+  target_fits : (n : Node) → leads_in (point_at m d []) n ≡ true → node_fits n ≡ true
   target_fits (Slot l) h = local_small is_reference_token l h
   target_fits n h = absurd (false≢true h)
 
@@ -79,16 +81,14 @@ module _ (m : Module) (d : FunctionDefinition) (few : length m.structs ≤ 65536
   -- an edge that fits is read, and so are edges that fit and ascend
   edge-whole : Whole (edge_from m d) edge_text (edge_fits m d)
   edge-whole rest e ok =
-      let p = and_parts (is_source m d e.from && is_target m d e.to && not (same_node e.from e.to) && nat_le (length e.label.path) 8) (list_all is_small e.label.path) ok in
-      let q = and_parts (is_source m d e.from && is_target m d e.to && not (same_node e.from e.to)) (nat_le (length e.label.path) 8) p.0 in
-      let r = and_parts (is_source m d e.from && is_target m d e.to) (not (same_node e.from e.to)) q.0 in
-      let s = and_parts (is_source m d e.from) (is_target m d e.to) r.0 in
+      let p = and_parts (edge_is_there (point_at m d []) e) (nat_le (length e.label.path) 8) ok in
+      let t = there_parts (point_at m d []) e p.0 in
       let two = label_text e.label ++ rest in
       let one = node_text e.to ++ two in
       let split : edge_text e ++ rest ≡ node_text e.from ++ one =
       ap (λ z. z ++ rest) (sym (edge_as e)) ∙ append_assoc (node_text e.from ++ node_text e.to) (label_text e.label) rest ∙ append_assoc (node_text e.from) (node_text e.to) two in
-      edge-read (edge_text e ++ rest) one two rest e (ap node_from split ∙ node-whole one e.from (source_fits e.from s.0)) (node-whole two e.to (target_fits e.to s.1))
-      (label-whole rest e.label (and_from (nat_le (length e.label.path) 8) (list_all is_small e.label.path) q.1 p.1)) ok
+      edge-read (edge_text e ++ rest) one two rest e (ap node_from split ∙ node-whole one e.from (source_fits e.from t.out)) (node-whole two e.to (target_fits e.to t.into))
+      (label-whole rest e.label (and_from (nat_le (length e.label.path) 8) (list_all is_small e.label.path) p.1 t.small)) ok
 
   edges-whole : Whole (edges_from m d) (counted edge_text) (edges_fit m d)
   edges-whole rest es ok =
@@ -154,12 +154,6 @@ same_marks f h [] (y ∷ ys) long each = absurd (omega arith)
 same_marks f h (x ∷ xs) [] long each = absurd (omega arith)
 same_marks f h (x ∷ xs) (y ∷ ys) long each = (λ i. each 0 x y refl refl i ∷ same_marks f h xs ys (omega arith) (λ j a b ea eb. each (suc j) a b ea eb) i)
 
--- two tests of which each passes where the other does
-pub same_bools : (a b : Bool) → (a ≡ true → b ≡ true) → (b ≡ true → a ≡ true) → a ≡ b
-same_bools true b f g = sym (f refl)
-same_bools false true f g = g refl
-same_bools false false f g = refl
-
 -- what fits the function has the marks of the flow graph
 pub marks-fit : (m : Module) (d : FunctionDefinition) (g : Cfg) (ks : Stated) → IsFlowGraph d.code g → StatedFits m d ks → map is_some ks ≡ map (λ (b : Block). b.reached) g.blocks.items
 marks-fit m d g ks fg sf =
@@ -167,4 +161,4 @@ marks-fit m d g ks fg sf =
     let here : slice_get (blocks d.code) i ≡ Some (basic_block_of g b) = ap (λ z. slice_get z i) (sym fg.basic_blocks) ∙ slice_get-map (basic_block_of g) g.blocks.items i ∙ ap (option_map (basic_block_of g)) bi in
     let mark = sf.marks i (basic_block_of g b) k here ki in
     let r = fg.reached i b bi in
-    same_bools (is_some k) b.reached (λ e. r.1 (mark.0 e)) (λ e. mark.1 (r.0 e)))
+    same_truth (is_some k) b.reached (λ e. r.1 (mark.0 e)) (λ e. mark.1 (r.0 e)))

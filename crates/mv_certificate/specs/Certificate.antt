@@ -1,30 +1,26 @@
 -- Certificates, and when one holds of a module.
-use Rattle.std.specs.Prelude.{List, Bool, ◌&&◌, Option, Some, ◌+◌, ◌-◌, [], ◌++◌, length, replicate, ◌∷◌, slice_range, ℕ, ◌==◌, find, option_and_then, false, true, zip, map, option_map}
+use Rattle.std.specs.Prelude.{List, Bool, ◌&&◌, Option, Some, ◌+◌, [], ◌∷◌, slice_range, ℕ, ◌==◌, find, option_and_then, false, true, zip, map, option_map}
 use Rattle.std.specs.Option.{option_map_or}
 use Rattle.std.specs.List.{list_all}
 use Rattle.mv_move_types.specs.declared.borrow.Availability.{Availability}
 use Rattle.mv_edges.specs.Edges.{Edge, edges_leq}
-use Rattle.mv_locals_safety.specs.LocalsRules.{locals_leq, locals_after}
+use Rattle.mv_locals_safety.specs.LocalsRules.{locals_leq, locals_after, start_locals}
 use Rattle.mv_move_types.specs.declared.instruction.Instruction.{Instruction}
-use Rattle.mv_move_types.specs.Options.{◌>>=◌}
 use Rattle.mv_borrow_graph.specs.BorrowRules.{edges_after}
 use Rattle.mv_type_states.specs.TypesHold.{Point}
-use Rattle.mv_move_types.specs.declared.borrow.Availability.TheVariants.{Unavailable, Available}
-use Rattle.mv_move_types.specs.Module.{Module, FunctionDefinition, local_tokens, parameter_tokens}
+use Rattle.mv_move_types.specs.Module.{Module, FunctionDefinition}
 use Rattle.mv_type_states.specs.TypeRules.{Types, types_after}
 use Rattle.mv_cfg.specs.Blocks.{BasicBlock, blocks}
+use Rattle.mv_move_types.specs.Options.{◌>>=◌}
 
 -- the availability of each local, and the edges
 pub record Known : Type 0 where
   pub locals : List Availability
   pub edges : List Edge
 
--- what is known where a function begins
+-- what is known where a function begins: the locals as they are then, and no edges
 abbrev pub known_at_start : Module → FunctionDefinition → Option Known
-known_at_start m d = do
-  parameters ← parameter_tokens m d
-  locals ← local_tokens m d
-  Some (record { locals = replicate (length parameters) Available ++ replicate (length locals - length parameters) Unavailable; edges = [] })
+known_at_start m d = option_map (λ locals. record { locals = locals; edges = [] }) (start_locals m d)
 
 -- for each block of a function, what is known where it begins, if it is reached
 abbrev pub Stated : Type 0

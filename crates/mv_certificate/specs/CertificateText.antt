@@ -3,33 +3,19 @@ use Rattle.std.specs.Prelude.{ℕ, List, ◌∷◌, cond, [], ◌++◌, map, Opt
 use Rattle.mv_move_types.specs.declared.borrow.Availability.{Availability}
 use Rattle.mv_move_types.specs.declared.borrow.Availability.TheVariants.{Unavailable, Available, Maybe}
 use Rattle.mv_move_types.specs.declared.borrow.Node.{Node}
-use Rattle.mv_move_types.specs.declared.borrow.Node.TheVariants.{Slot, Own, Glob, Temp}
 use Rattle.mv_uleb.specs.Uleb.{uleb}
 use Rattle.mv_edges.specs.Edges.{Edge}
 use Rattle.mv_module_text.specs.Entries.{counted}
 use Rattle.mv_certificate.specs.Certificate.{Known, Certificate}
 use Rattle.mv_move_types.specs.Module.{Module}
 use Rattle.mv_certificate.specs.Shape.{AllStatedFit}
+use Rattle.mv_edges.specs.Ascending.{node_kind, node_index}
 
 -- an availability's byte
 abbrev pub availability_code : Availability → ℕ
 availability_code Unavailable = 0
 availability_code Available = 1
 availability_code Maybe = 2
-
--- a node's kind byte
-abbrev pub node_kind : Node → ℕ
-node_kind (Slot l) = 0
-node_kind (Own l) = 1
-node_kind (Glob t) = 2
-node_kind (Temp k) = 3
-
--- a node's index
-abbrev pub node_index : Node → ℕ
-node_index (Slot l) = l
-node_index (Own l) = l
-node_index (Glob t) = t
-node_index (Temp k) = k
 
 -- a node: its kind and its index
 abbrev pub node_text : Node → List ℕ

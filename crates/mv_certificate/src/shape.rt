@@ -1,15 +1,16 @@
 // What a certificate's edges may lead from and to.
 
-ghost use Rattle.std.specs.Prelude.{◌≡◌, ◌++◌, length, ◌<◌, ◌≤◌, Some, slice_get, option_map, nat_lt, IsSome, IsTrue};
+ghost use Rattle.std.specs.Prelude.{◌≡◌, [], ◌++◌, length, ◌<◌, ◌≤◌, Some, slice_get, option_map, nat_lt, IsSome, IsTrue};
 ghost use Rattle.std.specs.List.{list_all};
 ghost use Rattle.mv_move_types.specs.Limits.{most_locals};
 ghost use Rattle.mv_bounds.specs.Bounds.{local_count as function_locals};
 ghost use Rattle.mv_cfg.specs.FlowGraph.{IsFlowGraph};
 ghost use Rattle.mv_move_types.specs.Module.{local_tokens, local_type as type_of_local};
-ghost use Rattle.mv_type_states.specs.TypesHold.{function_is_typed};
+ghost use Rattle.mv_type_states.specs.TypesHold.{function_is_typed, point_at};
 ghost use Rattle.mv_borrow_graph.specs.BorrowRules.{is_mutable_token, is_reference_token};
 ghost use Rattle.mv_certificate.specs.Certificate.{known_at_start};
-ghost use Rattle.mv_certificate.specs.Shape.{is_source, is_target, edge_fits};
+ghost use Rattle.mv_borrow_graph.specs.Nodes.{leads_in, leads_out};
+ghost use Rattle.mv_certificate.specs.Shape.{edge_fits};
 
 use mv_binary_format::{FunctionDefinition, Module};
 use mv_cfg::Cfg;
@@ -111,7 +112,7 @@ fn is_reference(token: Token) -> bool
 
 /// Whether an edge may lead out of the node.
 fn may_lead_from(m: &Module<'_>, d: &FunctionDefinition, node: Node) -> bool
-    ensures { result ≡ is_source m.now d.now node }
+    ensures { result ≡ leads_out (point_at m.now d.now []) node }
 {
     match node {
         Node::Slot(local) => match local_type(m, d, local) {
@@ -129,7 +130,7 @@ fn may_lead_from(m: &Module<'_>, d: &FunctionDefinition, node: Node) -> bool
 
 /// Whether an edge may lead to the node.
 fn may_lead_to(m: &Module<'_>, d: &FunctionDefinition, node: Node) -> bool
-    ensures { result ≡ is_target m.now d.now node }
+    ensures { result ≡ leads_in (point_at m.now d.now []) node }
 {
     match node {
         Node::Slot(local) => match local_type(m, d, local) {
@@ -154,6 +155,6 @@ pub fn fits(m: &Module<'_>, d: &FunctionDefinition, e: &Edge) -> bool
     may_lead_from(m, d, e.from())
         && may_lead_to(m, d, e.to())
         && !e.starts_at(e.to())
-        && e.label().path().len() <= 8
         && are_small(e.label().path())
+        && e.label().path().len() <= 8
 }

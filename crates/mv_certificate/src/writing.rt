@@ -3,7 +3,8 @@
 ghost use Rattle.std.specs.Prelude.{◌≡◌, ◌++◌, ◌∷◌, [], map, flat_map, cond, OnOk};
 ghost use Rattle.mv_uleb.specs.Uleb.{uleb};
 ghost use Rattle.mv_module_text.specs.Entries.{counted};
-ghost use Rattle.mv_certificate.specs.CertificateText.{availability_code, node_kind, node_index, node_text, edge_text, known_text, stated_text};
+ghost use Rattle.mv_edges.specs.Ascending.{node_kind, node_index};
+ghost use Rattle.mv_certificate.specs.CertificateText.{availability_code, node_text, edge_text, known_text, stated_text};
 
 use super::certificate::{Known, Stated};
 use mv_edges::{Edge, Edges};

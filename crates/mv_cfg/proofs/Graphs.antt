@@ -15,6 +15,7 @@ use Rattle.mv_cfg.specs.Steps.{starts, BranchesInside, IsPlaced, IsSplit, IsLink
 use Rattle.mv_cfg.proofs.Beginnings.{ascending-at, ascending-same, blocks_at-get, length-blocks_at}
 use Rattle.mv_cfg.proofs.Leads.{starts-ascending, leads-begin}
 use Rattle.mv_cfg.proofs.Tables.{placed-at}
+use Rattle.mv_bounds.proofs.Entries.{element_at, Contains-at, at-Contains, mapped-at}
 
 -- lists with the same elements
 same_elements : {A : Type 0} (xs ys : List A) → length xs ≡ length ys → ((k : ℕ) (x y : A) → slice_get xs k ≡ Some x → slice_get ys k ≡ Some y → x ≡ y) → xs ≡ ys
@@ -23,26 +24,15 @@ same_elements [] (y ∷ ys) size each = absurd (omega arith)
 same_elements (x ∷ xs) [] size each = absurd (omega arith)
 same_elements (x ∷ xs) (y ∷ ys) size each = rw (each zero x y refl refl, same_elements xs ys (omega arith) (λ k a b ea eb. each (suc k) a b ea eb)) refl
 
-pub element_at : {A : Type 0} (xs : List A) (k : ℕ) → k < length xs → (x : A) × (slice_get xs k ≡ Some x)
-element_at [] k h = absurd (omega arith)
-element_at (x ∷ xs) zero h = (x, refl)
-element_at (x ∷ xs) (suc k) h = element_at xs k (omega arith)
-
-contains_at : {A : Type 0} (xs : List A) (x : A) → Contains xs x → (k : ℕ) × (slice_get xs k ≡ Some x)
-contains_at xs x (k, h, e) = (k, slice_get_read xs (length xs) k x refl h (sym e))
-
-at_contains : {A : Type 0} (xs : List A) (x : A) (k : ℕ) → slice_get xs k ≡ Some x → Contains xs x
-at_contains xs x k e = (k, slice_get_within xs k x e, get_or_from_slice_get xs k x x e)
-
-map_back : {A B : Type 0} (f : A → B) (xs : List A) (k : ℕ) (y : B) → slice_get (map f xs) k ≡ Some y → (x : A) × (slice_get xs k ≡ Some x) × (f x ≡ y)
-map_back f [] k y e = absurd (none-some y e)
-map_back f (x ∷ xs) zero y e = (x, refl, same_Some (f x) y e)
-map_back f (x ∷ xs) (suc k) y e = map_back f xs k y e
-
 -- numbers that are found again
 found_again : (f h : ℕ → ℕ) (xs : List ℕ) → All (λ x. f (h x) ≡ x) xs → map f (map h xs) ≡ xs
 found_again f h [] all = refl
 found_again f h (x ∷ xs) all = rw (all 0 x (omega arith), found_again f h xs (λ k d less. all (suc k) d (omega arith))) refl
+
+-- the first block begins where the code does
+zero_first : (code : List Instruction) → get_or (starts code) 0 0 ≡ 0
+zero_first [] = refl
+zero_first (c ∷ cs) = refl
 
 -- a path of one graph is a path of another with its edges
 pub reached_along : (g new : Cfg) → ((k n : ℕ) → HasEdge g k n → HasEdge new k n) → (k : ℕ) → IsReached g k → IsReached new k
@@ -99,7 +89,7 @@ module _ (code : List Instruction) (places : List ℕ) (g : Cfg) (well : IsTrue 
       same_elements (map (basic_block_of g) g.blocks.items) (blocks code)
       (let a : length (map (basic_block_of g) g.blocks.items) ≡ length g.blocks.items = length-map g.blocks.items (basic_block_of g) in let b : length (blocks code) ≡ length (starts code) = length-blocks_at code (starts code) in omega (arith, split.count))
       (λ k x y mine its.
-      let back = map_back (basic_block_of g) g.blocks.items k x mine in
+      let back = mapped-at (basic_block_of g) g.blocks.items k x mine in
       let other = blocks_at-get code (starts code) k (within k back.0 back.1) in sym back.2 ∙ sym (block_is k back.0 back.1) ∙ same_Some _ y (sym other ∙ its))
 
   some_block : 0 < length (starts code)
@@ -108,13 +98,6 @@ module _ (code : List Instruction) (places : List ℕ) (g : Cfg) (well : IsTrue 
       some : (cs : List Instruction) → IsTrue (ends_well cs) → 0 < length (starts cs)
       some [] w = absurd (let none : ⊥ = cc in none)
       some (c ∷ cs) w = omega arith
-
-  first_is : get_or (starts code) 0 0 ≡ 0
-  first_is = zero_first code
-    where
-      zero_first : (cs : List Instruction) → get_or (starts cs) 0 0 ≡ 0
-      zero_first [] = refl
-      zero_first (c ∷ cs) = refl
 
   pub linked : IsLinked g
   linked = record { has_entry = omega (arith, some_block, split.count); inside = successors_inside }
@@ -126,26 +109,26 @@ module _ (code : List Instruction) (places : List ℕ) (g : Cfg) (well : IsTrue 
 
   -- a path of blocks is one of the code's blocks
   in_code : (k : ℕ) → IsReached g k → (b : Block) → IsBlock g k b → IsReachedInCode code b.first
-  in_code _ at_entry b at = subst (IsReachedInCode code) (sym ((split.each 0 b at).first ∙ first_is)) at_start
+  in_code _ at_entry b at = subst (IsReachedInCode code) (sym ((split.each 0 b at).first ∙ (zero_first code))) at_start
   in_code _ (along {k} {n} from (x, there, out)) b at =
       let found : Contains (blocks code) (basic_block_of g x) =
-      subst (λ (ss : List BasicBlock). Contains ss (basic_block_of g x)) basic_blocks_are (at_contains (map (basic_block_of g) g.blocks.items) (basic_block_of g x) k (slice_get-map (basic_block_of g) g.blocks.items k ∙ ap (option_map (basic_block_of g)) there)) in
-      let succ = contains_at x.successors.items n out in
+      subst (λ (ss : List BasicBlock). Contains ss (basic_block_of g x)) basic_blocks_are (at-Contains (map (basic_block_of g) g.blocks.items) k (basic_block_of g x) (slice_get-map (basic_block_of g) g.blocks.items k ∙ ap (option_map (basic_block_of g)) there)) in
+      let succ = Contains-at x.successors.items n out in
       let goes : Contains (map (first_of g) x.successors.items) (first_of g n) =
-      at_contains (map (first_of g) x.successors.items) (first_of g n) succ.0 (slice_get-map (first_of g) x.successors.items succ.0 ∙ ap (option_map (first_of g)) succ.1) in
+      at-Contains (map (first_of g) x.successors.items) succ.0 (first_of g n) (slice_get-map (first_of g) x.successors.items succ.0 ∙ ap (option_map (first_of g)) succ.1) in
       let begins : first_of g n ≡ b.first = ap (λ o. option_map_or (λ (y : Block). y.first) o 0) at in
       onward (basic_block_of g x) b.first found (in_code k from x there) (subst (Contains (map (first_of g) x.successors.items)) begins goes)
 
   from_code : (i : ℕ) → IsReachedInCode code i → (k : ℕ) × (b : Block) × IsBlock g k b × IsReached g k × (b.first ≡ i)
-  from_code _ at_start = let found = element_at g.blocks.items 0 (omega (arith, some_block, split.count)) in (0, found.0, found.1, at_entry, (split.each 0 found.0 found.1).first ∙ first_is)
+  from_code _ at_start = let found = element_at g.blocks.items 0 (omega (arith, some_block, split.count)) in (0, found.0, found.1, at_entry, (split.each 0 found.0 found.1).first ∙ (zero_first code))
   from_code _ (onward block i has from next) =
       let (j, a, ea, path, begins) = from_code block.first from in
-      let place = contains_at (blocks code) block has in
-      let back = map_back (basic_block_of g) g.blocks.items place.0 block (subst (λ (ss : List BasicBlock). slice_get ss place.0 ≡ Some block) (sym basic_blocks_are) place.1) in
+      let place = Contains-at (blocks code) block has in
+      let back = mapped-at (basic_block_of g) g.blocks.items place.0 block (subst (λ (ss : List BasicBlock). slice_get ss place.0 ≡ Some block) (sym basic_blocks_are) place.1) in
       let one : place.0 ≡ j = same_block place.0 j back.0 a back.1 ea (ap (λ (s : BasicBlock). s.first) back.2 ∙ sym begins) in
-      let out = contains_at (map (first_of g) back.0.successors.items) i (subst (λ (s : BasicBlock). Contains s.next i) (sym back.2) next) in
-      let to = map_back (first_of g) back.0.successors.items out.0 i out.1 in
-      let here : Contains back.0.successors.items to.0 = at_contains back.0.successors.items to.0 out.0 to.1 in
+      let out = Contains-at (map (first_of g) back.0.successors.items) i (subst (λ (s : BasicBlock). Contains s.next i) (sym back.2) next) in
+      let to = mapped-at (first_of g) back.0.successors.items out.0 i out.1 in
+      let here : Contains back.0.successors.items to.0 = at-Contains back.0.successors.items out.0 to.0 to.1 in
       let small : to.0 < length g.blocks.items = All-contains (λ n. n < length g.blocks.items) back.0.successors.items to.0 (successors_inside place.0 back.0 back.1) here in
       let found = element_at g.blocks.items to.0 small in
       (to.0, found.0, found.1, along path (subst (λ (m : ℕ). HasEdge g m to.0) one (back.0, back.1, here)), sym (ap (λ o. option_map_or (λ (y : Block). y.first) o 0) found.1) ∙ to.2)

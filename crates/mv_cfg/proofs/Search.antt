@@ -27,6 +27,9 @@ pub record IsSearch (g : Cfg) (marks : List Bool) (open_blocks : List ℕ) : Typ
 abbrev pub AreMarked : List Bool → List ℕ → ℕ → Type 0
 AreMarked marks numbers n = (i : ℕ) → i < n → get_or marks (get_or numbers i 0) false ≡ true
 
+contains_later : (k : ℕ) (open_blocks : List ℕ) (j : ℕ) → Contains open_blocks j → Contains (k ∷ open_blocks) j
+contains_later k open_blocks j (i, h, e) = (suc i, omega arith, e)
+
 contains_cons : (k : ℕ) (xs : List ℕ) (x : ℕ) → Contains (k ∷ xs) x → (k ≡ x) ⊎ Contains xs x
 contains_cons k xs x (zero, h, e) = inl e
 contains_cons k xs x (suc j, h, e) = inr (j, omega arith, e)
@@ -71,13 +74,10 @@ IsSearch-pop g marks open_blocks k p = record {
   sound = p.sound;
   marked = λ j h. p.marked j (⊎_elim (λ (e : k ≡ j). subst (Contains (open_blocks ++ k ∷ [])) e (Contains-push open_blocks k)) (λ (h : Contains open_blocks j). Contains-append_left open_blocks (k ∷ []) j h) (contains_cons k open_blocks j h));
   closed = λ j n e edge. ⊎_elim
-      (λ (h : Contains (open_blocks ++ k ∷ []) j). inl (⊎_elim (λ (old : Contains open_blocks j). later j old) (λ (e : k ≡ j). (0, omega arith, e)) (Contains-push_cases open_blocks k j h)))
+      (λ (h : Contains (open_blocks ++ k ∷ []) j). inl (⊎_elim (λ (old : Contains open_blocks j). contains_later k open_blocks j old) (λ (e : k ≡ j). (0, omega arith, e)) (Contains-push_cases open_blocks k j h)))
       (λ (m : get_or marks n false ≡ true). inr m)
       (p.closed j n e edge);
 }
-  where
-    later : (j : ℕ) → Contains open_blocks j → Contains (k ∷ open_blocks) j
-    later j (i, h, e) = (suc i, omega arith, e)
 
 pub IsSearch-popped : (g : Cfg) (marks : List Bool) (old open_blocks : List ℕ) (k : ℕ) → old ≡ open_blocks ++ k ∷ [] → IsSearch g marks old → IsSearch g marks (k ∷ open_blocks)
 IsSearch-popped g marks old open_blocks k is p = IsSearch-pop g marks open_blocks k (subst (IsSearch g marks) is p)
@@ -125,7 +125,7 @@ IsSearch-closed g marks open_blocks k b is all p = record {
   size = p.size;
   entry = p.entry;
   sound = p.sound;
-  marked = λ j h. p.marked j (later j h);
+  marked = λ j h. p.marked j (contains_later k open_blocks j h);
   closed = λ j n e edge.
       ⊎_elim (λ (h : Contains (k ∷ open_blocks) j).
       ⊎_elim (λ (same : k ≡ j). inr (successor n (subst (λ (i : ℕ). HasEdge g i n) (sym same) edge)))
@@ -135,9 +135,6 @@ IsSearch-closed g marks open_blocks k b is all p = record {
       (p.closed j n e edge);
 }
   where
-    later : (j : ℕ) → Contains open_blocks j → Contains (k ∷ open_blocks) j
-    later j (i, h, e) = (suc i, omega arith, e)
-
     successor : (n : ℕ) → HasEdge g k n → get_or marks n false ≡ true
     successor n (x, at, h) =
         let same : x ≡ b = same_Some x b (sym at ∙ is) in

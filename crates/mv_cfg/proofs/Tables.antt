@@ -12,6 +12,7 @@ use Rattle.mv_cfg.specs.declared.Block.{Block}
 use Rattle.mv_cfg.specs.Blocks.{is_target}
 use Rattle.std.proofs.lemmas.List.Elements.{All-head}
 use Rattle.mv_cfg.specs.Steps.{IsPlaced, IsPart, IsBlockMarkedAs, BranchesInside}
+use Rattle.mv_bounds.proofs.Entries.{last_or_before}
 
 -- the marks of the branches of the instructions up to a place
 pub record IsMarkedUpTo (code : List Instruction) (k : ℕ) (marks : List Bool) : Type 0 where
@@ -23,14 +24,6 @@ pub record IsPlacedUpTo (size : ℕ) (firsts : List ℕ) (n : ℕ) (places : Lis
   pub size_is : length places ≡ size
   pub below : (k : ℕ) → k < n → get_or places (get_or firsts k 0) 0 < n
   pub first : (k : ℕ) → k < n → get_or firsts (get_or places (get_or firsts k 0) 0) 0 ≡ get_or firsts k 0
-
--- the elements of a list with one more at its end
-pub slice_get-push : {A : Type 0} (xs : List A) (y : A) (k : ℕ) (z : A) → slice_get (xs ++ y ∷ []) k ≡ Some z → (slice_get xs k ≡ Some z) ⊎ ((k ≡ length xs) × (z ≡ y))
-slice_get-push [] y zero z e = inr (refl, cc)
-slice_get-push [] y (suc k) z e = cc
-slice_get-push (x ∷ xs) y zero z e = inl e
-slice_get-push (x ∷ xs) y (suc k) z e =
-    ⊎_elim (λ h. inl h) (λ h. inr (omega (arith, h.0), h.1)) (slice_get-push xs y k z e)
 
 -- the block that begins at an instruction is found
 pub placed-at : (size : ℕ) (firsts places : List ℕ) → IsPlaced size firsts places → (i : ℕ) → Contains firsts i → (get_or places i 0 < length firsts) × (get_or firsts (get_or places i 0) 0 ≡ i)
@@ -50,10 +43,10 @@ pub split_one : (code : List Instruction) (firsts places : List ℕ) (k : ℕ) (
     → (j : ℕ) (x : Block) → slice_get (bs ++ b ∷ []) j ≡ Some x → IsPart code firsts places j x
 split_one code firsts places k bs b count each is j x at =
     ⊎_elim (λ (old : slice_get bs j ≡ Some x). each j x old)
-    (λ (new : (j ≡ length bs) × (x ≡ b)).
+    (λ (new : (j ≡ length bs) × (b ≡ x)).
     let here : j ≡ k = new.0 ∙ count in
-    subst (λ (n : ℕ). IsPart code firsts places n x) (sym here) (subst (λ (y : Block). IsPart code firsts places k y) (sym new.1) is))
-    (slice_get-push bs b j x at)
+    subst (λ (n : ℕ). IsPart code firsts places n x) (sym here) (subst (λ (y : Block). IsPart code firsts places k y) new.1 is))
+    (last_or_before bs b j x at)
 
 -- a branch leads to an instruction
 pub branch-inside : (code : List Instruction) → BranchesInside code → (k : ℕ) (e : Exit) (t : ℕ) → k < length code → e ≡ exit_of (get_or code k Pop) → (e ≡ Fork t) ⊎ (e ≡ Jump t) → t < length code

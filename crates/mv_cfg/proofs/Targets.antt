@@ -9,12 +9,8 @@ use Rattle.mv_move_types.specs.Module.{Module, FunctionDefinition}
 use Rattle.mv_move_types.specs.Flow.{targets}
 use Rattle.mv_bounds.specs.Bounds.{InBounds, below, instruction_in, function_in, local_count}
 use Rattle.mv_cfg.specs.Steps.{BranchesInside}
-use Rattle.mv_bounds.proofs.FunctionLemmas.{all_at as passes_at}
-
-all_at : {A : Type 0} (p : A → Bool) (xs : List A) → list_all p xs ≡ true → (k : ℕ) (d : A) → k < length xs → p (get_or xs k d) ≡ true
-all_at p [] e k d h = absurd (omega arith)
-all_at p (x ∷ xs) e zero d h = (and_parts (p x) (list_all p xs) e).0
-all_at p (x ∷ xs) e (suc k) d h = all_at p xs (and_parts (p x) (list_all p xs) e).1 k d (omega arith)
+use Rattle.mv_bounds.proofs.Entries.{all_at}
+use Rattle.std.proofs.lemmas.Option.{slice_get-get_or}
 
 targets-inside : (m : Module) (locals size : ℕ) (c : Instruction) → instruction_in m locals size c ≡ true → All (λ t. t < size) (targets c)
 targets-inside m locals size (BrTrue t) e = All-cons (λ u. u < size) t [] (ltb-true t size e) (All-nil (λ u. u < size))
@@ -24,7 +20,7 @@ targets-inside m locals size c e = All-nil (λ u. u < size)
 
 pub branches-inside : (m : Module) (f : ℕ) (d : FunctionDefinition) → InBounds m → slice_get m.functions f ≡ Some d → BranchesInside d.code
 branches-inside m f d bounds at k c h =
-    let here : function_in m d ≡ true = passes_at (function_in m) m.functions f d bounds.functions at in
+    let here : function_in m d ≡ true = all_at (function_in m) m.functions f d bounds.functions at in
     let code : list_all (instruction_in m (local_count m d) (length d.code)) d.code ≡ true =
     (and_parts (below d.handle m.function_handles && below d.locals m.signatures && list_all (λ i. below i m.structs) d.acquires) (list_all (instruction_in m (local_count m d) (length d.code)) d.code) here).1 in
-    targets-inside m (local_count m d) (length d.code) (get_or d.code k c) (all_at (instruction_in m (local_count m d) (length d.code)) d.code code k c h)
+    targets-inside m (local_count m d) (length d.code) (get_or d.code k c) (all_at (instruction_in m (local_count m d) (length d.code)) d.code k (get_or d.code k c) code (slice_get-get_or d.code k c h))

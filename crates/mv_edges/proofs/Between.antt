@@ -1,10 +1,11 @@
 -- Where edges lead from some nodes to others among composed ones: by which strands.
 use Rattle.mv_edges.proofs.Common.{[], ℕ, ◌&&◌, ◌++◌, ◌<◌, ◌==◌, ◌||◌, ◌∙◌, ◌∷◌, ◌≡◌, ◌≤◌, Bool, List, None, Option, Some, ap, arith, cond, eqb, false, filter, flat_map, get_or, length, not}
 use Rattle.mv_edges.proofs.Common.{refl, slice_get, subst, suc, sym, take, true, true≢false, zero, eqb-true, false_from_ne_true, or_parts, take_all, list_any-append, list_any_at, list_any}
-use Rattle.mv_edges.proofs.Common.{option_map_or, Node, Glob, Own, Slot, Temp, Bundle, Composition, agrees_if, any_between, bundle_edges, composed, edges_of, is_here, numbered, root_edges}
+use Rattle.mv_edges.proofs.Common.{option_map_or, Node, Glob, Bundle, Composition, agrees_if, any_between, bundle_edges, composed, edges_of, is_here, numbered, root_edges}
 use Rattle.mv_edges.proofs.Common.{strand_edges, strand_passes, Edge, Label, an_edge, lets_pass, Agreeing, Always, Never}
 use Rattle.mv_edges.specs.Composition.{comes_from}
 use Rattle.mv_edges.proofs.Comparisons.{agrees_first}
+use Rattle.std.proofs.Math.Bool.{and-false}
 
 -- a list with an element isn't empty
 not_empty : {A : Type 0} (x : A) (xs : List A) → (length (x ∷ xs) == 0) ≡ false
@@ -169,13 +170,9 @@ module _ (c : Composition) (from to : Node → Bool) (position : Option ℕ) whe
   sourceless none =
       by_bundles
       ∙ list_any-none (λ (b : Bundle). to b.node && list_any (strand_passes c from position) b.strands)
-      (λ b. ap (λ x. to b.node && x) (list_any-none (strand_passes c from position) (λ d. list_any-none (λ r. comes_from c.sources from r && agrees_if position (composed r.label d.label)) (λ r. ap (λ x. x && agrees_if position (composed r.label d.label)) (no_source r.from)) (numbered [] c.origins d.from)) b.strands) ∙ neither (to b.node))
+      (λ b. ap (λ x. to b.node && x) (list_any-none (strand_passes c from position) (λ d. list_any-none (λ r. comes_from c.sources from r && agrees_if position (composed r.label d.label)) (λ r. ap (λ x. x && agrees_if position (composed r.label d.label)) (no_source r.from)) (numbered [] c.origins d.from)) b.strands) ∙ and-false (to b.node))
       c.bundles
     where
-      neither : (t : Bool) → (t && false) ≡ false
-      neither true = refl
-      neither false = refl
-
       no_source : (n : Node) → option_map_or from (numbered None c.sources n) false ≡ false
       no_source (Glob i) = by_place (slice_get c.sources i) refl
         where

@@ -1,12 +1,12 @@
 -- What changes of composed edges keep: each root leads from one of the sources, and each strand from one of the origins.
 use Rattle.mv_edges.proofs.Common.{[], ℕ, ◌++◌, ◌+◌, ◌<◌, ◌∙◌, ◌∷◌, ◌≡◌, ◌≤◌, Bool, List, Option, ap, arith, cond, drop, false, filter, flat_map, get_or, length, map, not, option_map, refl}
 use Rattle.mv_edges.proofs.Common.{sym, take, true, true≢false, set, and_from, and_parts, lt-ltb, ltb-true, get_or_default, length-append, list_all-append, list_all-map, list_all}
-use Rattle.mv_edges.proofs.Common.{with_items, Node, Glob, Own, Slot, Temp, Bundle, Composition, but_at, is_below_count, is_live, is_numbered, is_whole, strands_at, Edge, an_edge, changed}
+use Rattle.mv_edges.proofs.Common.{with_items, Node, Glob, Slot, Bundle, Composition, but_at, is_below_count, is_live, is_numbered, is_whole, strands_at, Edge, an_edge, changed}
 use Rattle.mv_edges.proofs.Common.{renamed_node, same_node, sorted, Change}
 use Rattle.std.proofs.Common.{Vec}
 use Rattle.std.proofs.lemmas.List.{length-map, with_items_is}
 use Rattle.std.proofs.lemmas.List.Edits.{map_over_more}
-use Rattle.mv_edges.proofs.Insertion.{all_contains, all_from_contains}
+use Rattle.mv_edges.proofs.Insertion.{all_contains, all_from_contains, all_filter}
 use Rattle.mv_edges.proofs.Sorting.{contains-sorted}
 
 -- ---- lists
@@ -35,17 +35,17 @@ abbrev pub strands_below : ℕ → List Bundle → Bool
 strands_below k bundles = list_all (λ (b : Bundle). list_all (is_numbered k) b.strands) bundles
 
 -- numbered among more
-numbered_more : (k m : ℕ) (es : List Edge) → k ≤ m → list_all (is_numbered k) es ≡ true → list_all (is_numbered m) es ≡ true
-numbered_more k m es le h = all_from_contains (is_numbered m) es (λ e c. below_more k m e.from le (all_contains (is_numbered k) es e h c))
+pub all_numbered : (k m : ℕ) (es : List Edge) → k ≤ m → list_all (is_numbered k) es ≡ true → list_all (is_numbered m) es ≡ true
+all_numbered k m es le h = all_from_contains (is_numbered m) es (λ e c. below_more k m e.from le (all_contains (is_numbered k) es e h c))
 
 roots_more : (k m : ℕ) (rs : List (List Edge)) → k ≤ m → roots_below k rs ≡ true → roots_below m rs ≡ true
 roots_more k m rs le h =
-    all_from_contains (λ roots. list_all (is_numbered m) roots) rs (λ r c. numbered_more k m r le (all_contains (λ roots. list_all (is_numbered k) roots) rs r h c))
+    all_from_contains (λ roots. list_all (is_numbered m) roots) rs (λ r c. all_numbered k m r le (all_contains (λ roots. list_all (is_numbered k) roots) rs r h c))
 
 bundles_more : (k m : ℕ) (bs : List Bundle) → k ≤ m → strands_below k bs ≡ true → strands_below m bs ≡ true
 bundles_more k m bs le h =
     all_from_contains (λ (b : Bundle). list_all (is_numbered m) b.strands) bs
-    (λ b c. numbered_more k m b.strands le (all_contains (λ (b : Bundle). list_all (is_numbered k) b.strands) bs b h c))
+    (λ b c. all_numbered k m b.strands le (all_contains (λ (b : Bundle). list_all (is_numbered k) b.strands) bs b h c))
 
 -- ---- changes
 
@@ -73,15 +73,6 @@ pub severed_whole : (n : Node) (c : Composition) (sources : List (Option Node)) 
 severed_whole n c sources e h = with_sources c sources (omega (arith, ap length e, length-map c.sources (but_at n))) h
 
 -- all of some are as all are
-module _ {A : Type 0} (p q : A → Bool) where
-  all_filter : (xs : List A) → list_all p xs ≡ true → list_all p (filter q xs) ≡ true
-  all_filter [] h = refl
-  all_filter (x ∷ xs) h = let parts = and_parts (p x) (list_all p xs) h in by_case (q x) (filter q xs) (all_filter xs parts.1) parts.0
-    where
-      by_case : (t : Bool) (ys : List A) → list_all p ys ≡ true → p x ≡ true → list_all p (cond t (x ∷ ys) ys) ≡ true
-      by_case true ys g k = and_from (p x) (list_all p ys) k g
-      by_case false ys g k = g
-
 pub gone_whole : (n : Node) (c : Composition) (sources : List (Option Node)) (bundles : List Bundle) → sources ≡ map (but_at n) c.sources
     → bundles ≡ filter (λ (b : Bundle). not (same_node b.node n)) c.bundles → is_whole c ≡ true
     → is_whole (record { sources = sources; origins = c.origins; bundles = bundles }) ≡ true
@@ -89,7 +80,7 @@ gone_whole n c sources bundles e g h =
     let p = λ (b : Bundle). list_all (is_numbered (length c.origins)) b.strands in
     let q = λ (b : Bundle). not (same_node b.node n) in
     with_bundles (record { sources = sources; origins = c.origins; bundles = c.bundles }) bundles
-    (ap (list_all p) g ∙ all_filter p q c.bundles (strands_numbered c h)) (severed_whole n c sources e h)
+    (ap (list_all p) g ∙ all_filter q p c.bundles (strands_numbered c h)) (severed_whole n c sources e h)
 
 pub moved_whole : (old new : Node) (c : Composition) (sources : List (Option Node)) (bundles : List Bundle) → sources ≡ map (option_map (renamed_node old new)) c.sources
     → bundles ≡ map (λ (b : Bundle). record { node = renamed_node old new b.node; strands = b.strands }) c.bundles → is_whole c ≡ true
@@ -127,7 +118,7 @@ taken_numbered k change nodes c all left strands are live is h =
     let changes : Edge → Edge = λ e. an_edge e.from (changed change e.label) (Slot 0) in
     let at_all = flat_map (λ n. strands_at n bundles) nodes in
     ap (list_all (is_numbered k)) is
-    ∙ all_sorted left (ap (list_all (is_numbered k)) live ∙ all_filter (is_numbered k) (is_live c) all (ap (list_all (is_numbered k)) are ∙ list_all-map (is_numbered k) changes at_all ∙ at_nodes nodes))
+    ∙ all_sorted left (ap (list_all (is_numbered k)) live ∙ all_filter (is_live c) (is_numbered k) all (ap (list_all (is_numbered k)) are ∙ list_all-map (is_numbered k) changes at_all ∙ at_nodes nodes))
   where
     all_sorted : (es : List Edge) → list_all (is_numbered k) es ≡ true → list_all (is_numbered k) (sorted es) ≡ true
     all_sorted es h = all_from_contains (is_numbered k) (sorted es) (λ e c. all_contains (is_numbered k) es e h ((contains-sorted es e).0 c))

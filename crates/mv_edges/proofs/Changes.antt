@@ -12,6 +12,8 @@ use Rattle.mv_edges.proofs.Insertion.{contains_cases, contains_here, contains_th
 use Rattle.mv_edges.proofs.Sorting.{contains-sorted, any_passes}
 use Rattle.mv_edges.proofs.Order.{LabelBelow, same, prefix, label_below, label_leq_same, label_leq_prefix, label_leq_itself, begins-transitive, begins-append}
 use Rattle.mv_edges.proofs.Related.{related_parts, related_from, passing, list_any_from, partner, edges_related_from}
+use Rattle.std.proofs.Math.Bool.{not-not}
+use Rattle.mv_edges.specs.Edges.{renamed_edge}
 
 abbrev pub IsRising : (Label → Label → Bool) → (Edge → Bool) → Type 0
 IsRising le p = (a b : Edge) → edge_related le a b ≡ true → p a ≡ true → p b ≡ true
@@ -96,11 +98,7 @@ module _ (le : Label → Label → Bool) where
   none_kept_below p rises es fs h none =
       let fails = none_passes_below p rises es fs h (any_passes p fs ∙ ap not none) in
       let double = ap not (sym (any_passes p es) ∙ fails) in
-      sym (not_not (eqb (length (filter p es)) 0)) ∙ double
-    where
-      not_not : (b : Bool) → not (not b) ≡ b
-      not_not true = refl
-      not_not false = refl
+      sym (not-not (eqb (length (filter p es)) 0)) ∙ double
 
   -- no edge leads out of a node
   pub none_out_below : (n : Node) (es fs : List Edge) → edges_related le es fs ≡ true → eqb (length (out_of n fs)) 0 ≡ true → eqb (length (out_of n es)) 0 ≡ true
@@ -156,9 +154,6 @@ module _ (le : Label → Label → Bool) where
 
   pub related-without : (n : Node) (es fs : List Edge) → edges_related le es fs ≡ true → edges_related le (without n es) (without n fs) ≡ true
   related-without n = related-filter (λ e. not (same_node e.from n) && not (same_node e.to n)) (nodes_rise (λ from to. not (same_node from n) && not (same_node to n)))
-
-  abbrev renamed_edge : Node → Node → Edge → Edge
-  renamed_edge old new e = record { from = renamed_node old new e.from; label = e.label; to = renamed_node old new e.to }
 
   pub related-renamed : (old new : Node) (es fs : List Edge) → edges_related le es fs ≡ true → edges_related le (renamed old new es) (renamed old new fs) ≡ true
   related-renamed old new =

@@ -1,13 +1,14 @@
 -- Comparisons of lists of numbers and of edges, by the words of the definitions.
-use Rattle.mv_edges.proofs.Common.{[], ℕ, ◌&&◌, ◌||◌, ◌∙◌, ◌∷◌, ◌≡◌, Bool, List, ap, arith, cond, eqb, false, ltb, ne_eqb, not, refl, slice_get, sym, true, true≢false, and_from, and_parts}
-use Rattle.mv_edges.proofs.Common.{ltb-true, beq, nat_eq_equiv, bytes_decides, option_map_or, bytes_eq, begins, edge_before, edge_order, list_before, nodes_code, Edge, Label, agrees}
+use Rattle.mv_edges.proofs.Common.{[], ℕ, ◌&&◌, ◌||◌, ◌∙◌, ◌∷◌, ◌≡◌, Bool, List, ap, cond, eqb, false, ltb, not, refl, slice_get, sym, true, true≢false, and_from, and_parts}
+use Rattle.mv_edges.proofs.Common.{beq, nat_eq_equiv, bytes_decides, option_map_or, bytes_eq, begins, edge_before, edge_order, list_before, nodes_code, Edge, Label, agrees}
 use Rattle.mv_edges.proofs.Common.{an_edge, same_node, same_node_decides}
 use Rattle.std.proofs.Common.{Ordering, Less, Equal, Greater, nat_cmp, is_lt}
 use Rattle.std.specs.Ordering.{ordering_then, bool_cmp, is_eq}
 use Rattle.std.specs.Cmp.Lexicographic.{slice_cmp}
 use Rattle.std.specs.List.{starts_with}
 use Rattle.mv_edges.proofs.EdgeOrder.{edge_strict, same_edges}
-use Rattle.mv_edges.specs.Equality.{beq_decides}
+use Rattle.std.proofs.lemmas.Map.Text.{is_eq-slice_cmp}
+use Rattle.std.specs.Cmp.{booleans_Decides}
 
 -- `starts_with`
 pub starts_with_begins : (xs ys : List ℕ) → starts_with eqb ys xs ≡ begins xs ys
@@ -40,19 +41,6 @@ list_order_before (x ∷ xs) (y ∷ ys) = first (ltb x y) (eqb x y) (slice_cmp n
     first false true rest = refl
     first false false rest = refl
 
--- a tie of lists
-pub list_order_same : (xs ys : List ℕ) → is_eq (slice_cmp nat_cmp xs ys) ≡ bytes_eq xs ys
-list_order_same [] [] = refl
-list_order_same [] (y ∷ ys) = refl
-list_order_same (x ∷ xs) [] = refl
-list_order_same (x ∷ xs) (y ∷ ys) =
-    first (ltb x y) (eqb x y) (slice_cmp nat_cmp xs ys) (λ h. let less = ltb-true x y h in ne_eqb x y (λ e. omega (arith, less, e))) ∙ ap (λ b. eqb x y && b) (list_order_same xs ys)
-  where
-    first : (a b : Bool) (rest : Ordering) → (a ≡ true → b ≡ false) → is_eq (ordering_then (cond a Less (cond b Equal Greater)) rest) ≡ (b && is_eq rest)
-    first true b rest f = ap (λ c. c && is_eq rest) (sym (f refl))
-    first false true rest f = refl
-    first false false rest f = refl
-
 -- one comparison after another
 then_before : (o r : Ordering) → is_lt (ordering_then o r) ≡ (is_lt o || is_eq o && is_lt r)
 then_before Less r = refl
@@ -83,10 +71,10 @@ order_before a b =
     let opens = bool_cmp a.label.is_open b.label.is_open in
     let inner : is_lt (ordering_then paths opens) ≡ (list_before a.label.path b.label.path || bytes_eq a.label.path b.label.path && not a.label.is_open && b.label.is_open) =
     then_before paths opens ∙ ap (λ c. c || is_eq paths && is_lt opens) (list_order_before a.label.path b.label.path)
-    ∙ ap (λ c. list_before a.label.path b.label.path || c && is_lt opens) (list_order_same a.label.path b.label.path)
+    ∙ ap (λ c. list_before a.label.path b.label.path || c && is_lt opens) (is_eq-slice_cmp a.label.path b.label.path)
     ∙ ap (λ c. list_before a.label.path b.label.path || c) (bool_before (bytes_eq a.label.path b.label.path) a.label.is_open b.label.is_open) in
     then_before nodes (ordering_then paths opens) ∙ ap (λ c. c || is_eq nodes && is_lt (ordering_then paths opens)) (list_order_before (nodes_code a) (nodes_code b))
-    ∙ ap (λ c. list_before (nodes_code a) (nodes_code b) || c && is_lt (ordering_then paths opens)) (list_order_same (nodes_code a) (nodes_code b))
+    ∙ ap (λ c. list_before (nodes_code a) (nodes_code b) || c && is_lt (ordering_then paths opens)) (is_eq-slice_cmp (nodes_code a) (nodes_code b))
     ∙ ap (λ c. list_before (nodes_code a) (nodes_code b) || bytes_eq (nodes_code a) (nodes_code b) && c) inner
 
 -- and its ties are by the parts
@@ -95,9 +83,9 @@ order_ties a b =
     let nodes = slice_cmp nat_cmp (nodes_code a) (nodes_code b) in
     let paths = slice_cmp nat_cmp a.label.path b.label.path in
     let opens = bool_cmp a.label.is_open b.label.is_open in
-    then_same nodes (ordering_then paths opens) ∙ ap (λ c. c && is_eq (ordering_then paths opens)) (list_order_same (nodes_code a) (nodes_code b))
+    then_same nodes (ordering_then paths opens) ∙ ap (λ c. c && is_eq (ordering_then paths opens)) (is_eq-slice_cmp (nodes_code a) (nodes_code b))
     ∙ ap (λ c. bytes_eq (nodes_code a) (nodes_code b) && c)
-    (then_same paths opens ∙ ap (λ c. c && is_eq opens) (list_order_same a.label.path b.label.path) ∙ ap (λ c. bytes_eq a.label.path b.label.path && c) (bool_same a.label.is_open b.label.is_open))
+    (then_same paths opens ∙ ap (λ c. c && is_eq opens) (is_eq-slice_cmp a.label.path b.label.path) ∙ ap (λ c. bytes_eq a.label.path b.label.path && c) (bool_same a.label.is_open b.label.is_open))
 
 -- edges that tie are one
 pub order_same : (a b : Edge) → edge_order a b ≡ Equal → a ≡ b
@@ -105,13 +93,13 @@ order_same a b h =
     let ties : (bytes_eq (nodes_code a) (nodes_code b) && (bytes_eq a.label.path b.label.path && beq a.label.is_open b.label.is_open)) ≡ true = sym (order_ties a b) ∙ ap is_eq h in
     let parts = and_parts (bytes_eq (nodes_code a) (nodes_code b)) (bytes_eq a.label.path b.label.path && beq a.label.is_open b.label.is_open) ties in
     let label = and_parts (bytes_eq a.label.path b.label.path) (beq a.label.is_open b.label.is_open) parts.1 in
-    same_edges a b ((bytes_decides (nodes_code a) (nodes_code b)).0 parts.0) ((bytes_decides a.label.path b.label.path).0 label.0) ((beq_decides a.label.is_open b.label.is_open).0 label.1)
+    same_edges a b ((bytes_decides (nodes_code a) (nodes_code b)).0 parts.0) ((bytes_decides a.label.path b.label.path).0 label.0) ((booleans_Decides a.label.is_open b.label.is_open).0 label.1)
 
 order_itself : (a : Edge) → is_eq (edge_order a a) ≡ true
 order_itself a =
     order_ties a a
     ∙ and_from (bytes_eq (nodes_code a) (nodes_code a)) (bytes_eq a.label.path a.label.path && beq a.label.is_open a.label.is_open) ((bytes_decides (nodes_code a) (nodes_code a)).1 refl)
-    (and_from (bytes_eq a.label.path a.label.path) (beq a.label.is_open a.label.is_open) ((bytes_decides a.label.path a.label.path).1 refl) ((beq_decides a.label.is_open a.label.is_open).1 refl))
+    (and_from (bytes_eq a.label.path a.label.path) (beq a.label.is_open a.label.is_open) ((bytes_decides a.label.path a.label.path).1 refl) ((booleans_Decides a.label.is_open a.label.is_open).1 refl))
 
 pub order_less : (a b : Edge) → edge_order a b ≡ Less → edge_before a b ≡ true
 order_less a b h = sym (order_before a b) ∙ ap is_lt h
@@ -132,7 +120,7 @@ order_of_views v x w y h g = ap (λ z. edge_order z y) (sym h) ∙ ap (edge_orde
 -- edges with the same nodes tie by them
 pub order_of_same_nodes : (a b : Edge) → same_node a.from b.from ≡ true → same_node a.to b.to ≡ true → slice_cmp nat_cmp (nodes_code a) (nodes_code b) ≡ Equal
 order_of_same_nodes a b h g =
-    ap (slice_cmp nat_cmp (nodes_code a)) (sym same) ∙ (let code = nodes_code a in by_order (slice_cmp nat_cmp code code) (list_order_same code code ∙ (bytes_decides code code).1 refl))
+    ap (slice_cmp nat_cmp (nodes_code a)) (sym same) ∙ (let code = nodes_code a in by_order (slice_cmp nat_cmp code code) (is_eq-slice_cmp code code ∙ (bytes_decides code code).1 refl))
   where
     same : nodes_code a ≡ nodes_code b
     same =

@@ -1,11 +1,12 @@
 -- What becomes of the edges of a composition where it is changed.
 use Rattle.mv_edges.proofs.Common.{[], ℕ, ◌&&◌, ◌++◌, ◌<◌, ◌∙◌, ◌∷◌, ◌≡◌, Bool, List, None, Option, Some, ap, append-nil, append_assoc, arith, cond, false, filter, flat_map, length, map}
 use Rattle.mv_edges.proofs.Common.{not, option_map, refl, slice_get, suc, sym, true, zero, and_parts, ltb-true, flat_map-append, map-append, flat_map-map, list_all, option_map_or, Node}
-use Rattle.mv_edges.proofs.Common.{Glob, Own, Slot, Temp, Bundle, Composition, bundle_edges, but_at, composed, edges_of, gone, is_below_count, is_numbered, is_whole, moved, numbered}
+use Rattle.mv_edges.proofs.Common.{Glob, Slot, Bundle, Composition, bundle_edges, but_at, composed, edges_of, gone, is_below_count, is_numbered, is_whole, moved, numbered}
 use Rattle.mv_edges.proofs.Common.{root_edges, severed, strand_edges, with_bundle, Edge, Label, an_edge, but_out_of, changed, extended, here, inherited, into, opened, renamed, renamed_node}
 use Rattle.mv_edges.proofs.Common.{same_node, without, Change, Extended, Kept, Opened}
 use Rattle.std.proofs.lemmas.List.Elements.{filter-append}
 use Rattle.std.proofs.lemmas.Option.{slice_get-map}
+use Rattle.mv_edges.specs.Edges.{renamed_edge}
 
 -- ---- labels
 
@@ -189,9 +190,6 @@ edges_of-gone n c =
 -- ---- one node in place of another
 
 module _ (old new : Node) where
-  abbrev renamed_edge : Edge → Edge
-  renamed_edge e = record { from = renamed_node old new e.from; label = e.label; to = renamed_node old new e.to }
-
   root_edges-moved : (sources : List (Option Node)) (to : Node) (label : Label) (root : Edge)
       → root_edges (map (option_map (renamed_node old new)) sources) (renamed_node old new to) label root ≡ renamed old new (root_edges sources to label root)
   root_edges-moved sources to label root =
@@ -206,13 +204,13 @@ module _ (old new : Node) where
   pub bundle_edges-moved : (sources : List (Option Node)) (origins : List (List Edge)) (b : Bundle)
       → bundle_edges (map (option_map (renamed_node old new)) sources) origins (record { node = renamed_node old new b.node; strands = b.strands }) ≡ renamed old new (bundle_edges sources origins b)
   bundle_edges-moved sources origins b =
-      strands_through (renamed old new) (map_piecewise renamed_edge) sources origins b.node (root_edges (map (option_map (renamed_node old new)) sources) (renamed_node old new b.node))
+      strands_through (renamed old new) (map_piecewise (renamed_edge old new)) sources origins b.node (root_edges (map (option_map (renamed_node old new)) sources) (renamed_node old new b.node))
       (root_edges-moved sources b.node) b.strands
 
   pub edges_of-moved : (c : Composition) → edges_of (moved old new c) ≡ renamed old new (edges_of c)
   edges_of-moved c =
       flat_map-map (bundle_edges (map (option_map (renamed_node old new)) c.sources) c.origins) (λ (b : Bundle). record { node = renamed_node old new b.node; strands = b.strands }) c.bundles
-      ∙ through (renamed old new) (map_piecewise renamed_edge) (bundle_edges c.sources c.origins)
+      ∙ through (renamed old new) (map_piecewise (renamed_edge old new)) (bundle_edges c.sources c.origins)
       (λ b. bundle_edges (map (option_map (renamed_node old new)) c.sources) c.origins (record { node = renamed_node old new b.node; strands = b.strands }))
       (bundle_edges-moved c.sources c.origins) c.bundles
 

@@ -7,6 +7,7 @@ use Rattle.std.specs.Prelude.{if◌then◌else◌}
 use Rattle.mv_edges.proofs.Insertion.{all_contains}
 use Rattle.mv_edges.proofs.Order.{LabelBelow, same, prefix, label_below, label_leq_prefix, begins-transitive, begins-append}
 use Rattle.mv_edges.proofs.Related.{related_parts, related_from, passing, list_any_from}
+use Rattle.std.proofs.Math.Bool.{and-true, and-false, and_assoc}
 
 -- ---- labels
 
@@ -34,31 +35,19 @@ composed_exact a b h = by_open a.is_open h
 same_rest : (xs zs ys : List ℕ) → length xs ≤ length ys → bytes_eq (xs ++ zs) ys ≡ (begins xs ys && bytes_eq zs (drop (length xs) ys))
 same_rest [] zs ys h = refl
 same_rest (x ∷ xs) zs [] h = absurd (omega (arith, h))
-same_rest (x ∷ xs) zs (y ∷ ys) h = ap (λ b. eqb x y && b) (same_rest xs zs ys (omega (arith, h))) ∙ together (eqb x y) (begins xs ys) (bytes_eq zs (drop (length xs) ys))
-  where
-    together : (a b c : Bool) → (a && (b && c)) ≡ (a && b && c)
-    together true b c = refl
-    together false b c = refl
+same_rest (x ∷ xs) zs (y ∷ ys) h = ap (λ b. eqb x y && b) (same_rest xs zs ys (omega (arith, h))) ∙ sym (and_assoc (eqb x y) (begins xs ys) (bytes_eq zs (drop (length xs) ys)))
 
 begins_rest : (xs zs ys : List ℕ) → length xs ≤ length ys → begins ys (xs ++ zs) ≡ (begins xs ys && begins (drop (length xs) ys) zs)
 begins_rest [] zs ys h = refl
 begins_rest (x ∷ xs) zs [] h = absurd (omega (arith, h))
 begins_rest (x ∷ xs) zs (y ∷ ys) h =
     ap (λ b. b && begins ys (xs ++ zs)) (eqb-swap y x) ∙ ap (λ b. eqb x y && b) (begins_rest xs zs ys (omega (arith, h)))
-    ∙ together (eqb x y) (begins xs ys) (begins (drop (length xs) ys) zs)
-  where
-    together : (a b c : Bool) → (a && (b && c)) ≡ (a && b && c)
-    together true b c = refl
-    together false b c = refl
+    ∙ sym (and_assoc (eqb x y) (begins xs ys) (begins (drop (length xs) ys) zs))
 
 same_short : (xs zs ys : List ℕ) → length ys < length xs → bytes_eq (xs ++ zs) ys ≡ false
 same_short [] zs ys h = absurd (omega (arith, h))
 same_short (x ∷ xs) zs [] h = refl
-same_short (x ∷ xs) zs (y ∷ ys) h = ap (λ b. eqb x y && b) (same_short xs zs ys (omega (arith, h))) ∙ none (eqb x y)
-  where
-    none : (a : Bool) → (a && false) ≡ false
-    none true = refl
-    none false = refl
+same_short (x ∷ xs) zs (y ∷ ys) h = ap (λ b. eqb x y && b) (same_short xs zs ys (omega (arith, h))) ∙ and-false (eqb x y)
 
 begins_short : (xs zs ys : List ℕ) → length ys < length xs → begins ys (xs ++ zs) ≡ begins ys xs
 begins_short [] zs ys h = absurd (omega (arith, h))
@@ -153,10 +142,6 @@ module _ (sources : List (Option Node)) (to : Node) (root : Edge) (others : List
     with_one : (strand : Edge) → under_with strand ≡ one_under strand
     with_one strand =
         ap (λ o. edges_leq (option_map_or (λ n. an_edge n (composed root.label strand.label) to ∷ []) o []) others) there ∙ and-true (one_under strand)
-      where
-        and-true : (b : Bool) → (b && true) ≡ b
-        and-true true = refl
-        and-true false = refl
 
     pub covered_under : (run : List Edge) → list_any (edge_leq (an_edge from (composed root.label (opened here)) to)) others ≡ true → true ≡ list_all under_with run
     covered_under [] h = refl

@@ -1,17 +1,19 @@
 -- Edges as compositions: each from the number of its source, in the list of the node that it leads to.
 use Rattle.mv_edges.proofs.Common.{[], ℕ, ◌&&◌, ◌++◌, ◌+◌, ◌<◌, ◌∙◌, ◌∷◌, ◌≡◌, ◌≤◌, Bool, Contains, List, None, Option, Some, ap, append-nil, append_assoc, arith, false, flat_map, get_or}
-use Rattle.mv_edges.proofs.Common.{inl, inr, length, map, refl, slice_get, subst, suc, sym, take, true, zero, set, and_from, and_parts, lt-ltb, ltb-true, flat_map-append, get_or-take}
-use Rattle.mv_edges.proofs.Common.{length-append, map-append, Contains-append_cases, Contains-append_left, Contains-append_right, flat_map-map, list_all-append, list_all-map}
-use Rattle.mv_edges.proofs.Common.{slice_get-get_or, slice_get_within, list_all, option_map_or, Node, Glob, Own, Slot, Temp, are_ascending, Bundle, Composition, bundle_edges, composed}
+use Rattle.mv_edges.proofs.Common.{length, map, refl, slice_get, subst, suc, sym, take, true, zero, set, and_from, and_parts, lt-ltb, ltb-true, flat_map-append, get_or-take}
+use Rattle.mv_edges.proofs.Common.{length-append, map-append, flat_map-map, list_all-append, list_all-map}
+use Rattle.mv_edges.proofs.Common.{slice_get-get_or, slice_get_within, list_all, option_map_or, Node, Glob, are_ascending, Bundle, Composition, bundle_edges, composed}
 use Rattle.mv_edges.proofs.Common.{edges_of, is_below_count, is_numbered, is_whole, numbered, root_edges, Edge, Label, an_edge, here, bundle_of, bundles_from, led_into, led_to, unnumbered}
 use Rattle.mv_edges.proofs.Common.{sorted}
 use Rattle.std.proofs.Common.{nat_lt}
 use Rattle.std.proofs.lemmas.List.{length-take}
 use Rattle.std.proofs.lemmas.Option.{same_Some}
-use Rattle.mv_edges.proofs.Insertion.{contains_here, contains_there, contains_cases, contains_none, all_contains, all_from_contains, all_weaker}
+use Rattle.mv_edges.proofs.Insertion.{all_contains, all_from_contains}
 use Rattle.mv_edges.proofs.Sorting.{contains-sorted, ascending-sorted, sorted-ascending, sorted_alike, sorted-append_swap, sorted-append_sorted}
 use Rattle.mv_edges.proofs.Composing.{a_label}
 use Rattle.mv_edges.proofs.Changes.{contains-map, contains_from_map}
+use Rattle.mv_edges.proofs.Settled.{contains-flat_map, contains_from_flat_map, sorted_behind_alike}
+use Rattle.mv_edges.proofs.Bundles.{all_numbered}
 
 -- ---- lists with the same edges
 
@@ -20,28 +22,9 @@ pub sorted_with : (xs ys zs : List Edge) → sorted xs ≡ sorted ys → sorted 
 sorted_with xs ys zs h =
     sorted-append_swap xs zs ∙ sym (sorted-append_sorted zs xs) ∙ ap (λ es. sorted (zs ++ es)) h ∙ sorted-append_sorted zs ys ∙ sorted-append_swap zs ys
 
-pub sorted_behind_alike : (zs xs ys : List Edge) → sorted xs ≡ sorted ys → sorted (zs ++ xs) ≡ sorted (zs ++ ys)
-sorted_behind_alike zs xs ys h = sym (sorted-append_sorted zs xs) ∙ ap (λ es. sorted (zs ++ es)) h ∙ sorted-append_sorted zs ys
-
 -- lists that are sorted alike have the same edges
 alike_from : (xs ys : List Edge) → sorted xs ≡ sorted ys → (z : Edge) → Contains xs z → Contains ys z
 alike_from xs ys h z c = (contains-sorted ys z).0 (subst (λ es. Contains es z) h ((contains-sorted xs z).1 c))
-
-contains-flat_map : (f : Edge → List Edge) (xs : List Edge) (x z : Edge) → Contains xs x → Contains (f x) z → Contains (flat_map f xs) z
-contains-flat_map f [] x z c d = absurd (contains_none x c)
-contains-flat_map f (y ∷ xs) x z c d =
-    elim (contains_cases y xs x c) [
-      | inl e ↦ Contains-append_left (f y) (flat_map f xs) z (subst (λ w. Contains (f w) z) (sym e) d)
-      | inr m ↦ Contains-append_right (f y) (flat_map f xs) z (contains-flat_map f xs x z m d)
-    ]
-
-contains_from_flat_map : (f : Edge → List Edge) (xs : List Edge) (z : Edge) → Contains (flat_map f xs) z → (x : Edge) × (Contains xs x × Contains (f x) z)
-contains_from_flat_map f [] z c = absurd (contains_none z c)
-contains_from_flat_map f (y ∷ xs) z c =
-    elim (Contains-append_cases (f y) (flat_map f xs) z c) [
-      | inl d ↦ (y, (contains_here y xs, d))
-      | inr d ↦ let rest = contains_from_flat_map f xs z d in (rest.0, (contains_there y xs rest.0 rest.1.0, rest.1.1))
-    ]
 
 -- what is made of the edges of lists that are sorted alike is
 pub sorted-flat_map : (f : Edge → List Edge) (xs ys : List Edge) → sorted xs ≡ sorted ys → sorted (flat_map f xs) ≡ sorted (flat_map f ys)
@@ -108,13 +91,6 @@ unnumbered_more s t es before i e h all was at =
     flat_map-append (unnumbered t) es (an_edge (Glob i) e.label e.to ∷ [])
     ∙ ap (λ xs. xs ++ (unnumbered t (an_edge (Glob i) e.label e.to) ++ [])) (all_kept s t es h all ∙ was)
     ∙ ap (λ xs. before ++ (xs ++ [])) one
-
-below_more : (n m : ℕ) (node : Node) → n ≤ m → is_below_count n node ≡ true → is_below_count m node ≡ true
-below_more n m (Glob i) h g = let less = ltb-true i n g in lt-ltb i m (omega (arith, less, h))
-below_more n m k h g = g
-
-all_numbered : (n m : ℕ) (es : List Edge) → n ≤ m → list_all (is_numbered n) es ≡ true → list_all (is_numbered m) es ≡ true
-all_numbered n m es h all = all_weaker (is_numbered n) (is_numbered m) (λ e g. below_more n m e.from h g) es all
 
 pub numbered_more : (n : ℕ) (t : List (Option Node)) (es : List Edge) (i : ℕ) (x : Option Node) (l : Label) (to : Node) → n ≤ length t → list_all (is_numbered n) es ≡ true
     → slice_get t i ≡ Some x → list_all (is_numbered (length t)) (es ++ an_edge (Glob i) l to ∷ []) ≡ true

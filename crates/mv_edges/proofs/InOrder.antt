@@ -27,7 +27,7 @@ pub added_none : (es : List Edge) → are_ascending es ≡ true → es ≡ sorte
 added_none es h = sym (ap sorted (append-nil es) ∙ sorted-ascending es h)
 
 -- the first part may be in order already
-sorted_first : (es fs : List Edge) → sorted (sorted es ++ fs) ≡ sorted (es ++ fs)
+pub sorted_first : (es fs : List Edge) → sorted (sorted es ++ fs) ≡ sorted (es ++ fs)
 sorted_first es fs = sorted-append_swap (sorted es) fs ∙ sorted-append_sorted fs es ∙ sorted-append_swap fs es
 
 -- what is taken over of one more node

@@ -3,10 +3,7 @@ use Rattle.mv_edges.proofs.Common.{[], ℕ, ◌&&◌, ◌++◌, ◌+◌, ◌-◌
 use Rattle.mv_edges.proofs.Common.{slice_get, subst, suc, sym, take, true, true≢false, zero, and_from, and_parts, cond-true, cond_both, false_from_ne_true, get_or_default}
 use Rattle.mv_edges.proofs.Common.{Contains-append_cases, Contains-append_left, Contains-append_right, list_all}
 use Rattle.std.proofs.lemmas.Bool.{cond-false}
-
-and-true : (b : Bool) → (b && true) ≡ b
-and-true true = refl
-and-true false = refl
+use Rattle.std.proofs.Math.Bool.{and-true}
 
 -- a strict total order
 pub record IsStrictOrder {X : Type 0} (lt : X → X → Bool) : Type 0 where

@@ -1,11 +1,12 @@
 -- Up to which nodes no edge is at a node, from an edge on that isn't.
 --   Early xs ys, Late xs ys      one list of numbers comes before another, or doesn't, number by number
 use Rattle.mv_edges.proofs.Common.{[], ℕ, ◌&&◌, ◌++◌, ◌+◌, ◌-◌, ◌<◌, ◌∙◌, ◌∷◌, ◌≡◌, ◌≤◌, ◌⊎◌, List, ap, arith, eqb, false, inl, inr, ltb, max, refl, subst, sym, true, true≢false, and_cases}
-use Rattle.mv_edges.proofs.Common.{both_ways, cases_lt, eq-eqb, false_from_ne_true, ltb-false, or_parts, Node, Glob, Own, Slot, Temp, edge_height, height, list_before, node_code, nodes_code}
+use Rattle.mv_edges.proofs.Common.{both_ways, cases_lt, eq-eqb, false_from_ne_true, ltb-false, or_parts, Node, Glob, Slot, Temp, edge_height, height, list_before, node_code, nodes_code}
 use Rattle.mv_edges.proofs.Common.{Edge, is_global_node, same_node, same_node_decides, FailUpTo}
 use Rattle.std.specs.Prelude.{⊤}
 use Rattle.mv_edges.proofs.EdgeOrder.{same_start}
 use Rattle.mv_edges.proofs.Lexicographic.{before_cases}
+use Rattle.mv_edges.specs.Ascending.{node_kind, node_index}
 
 -- ---- lists of numbers
 
@@ -39,35 +40,23 @@ late (x ∷ xs) (y ∷ ys) h =
 
 -- ---- nodes and edges as numbers
 
-abbrev pub kind : Node → ℕ
-kind (Slot l) = 0
-kind (Own l) = 1
-kind (Glob t) = 2
-kind (Temp k) = 3
-
-abbrev pub index : Node → ℕ
-index (Slot l) = l
-index (Own l) = l
-index (Glob t) = t
-index (Temp k) = k
-
-pub node_numbers : (n : Node) → node_code n ≡ kind n ∷ index n ∷ []
+pub node_numbers : (n : Node) → node_code n ≡ node_kind n ∷ node_index n ∷ []
 node_numbers (Slot l) = refl
 node_numbers n = refl
 
-edge_numbers : (e : Edge) → nodes_code e ≡ edge_height e ∷ kind e.from ∷ index e.from ∷ kind e.to ∷ index e.to ∷ []
-edge_numbers e = ap (λ xs. edge_height e ∷ xs ++ node_code e.to) (node_numbers e.from) ∙ ap (λ xs. edge_height e ∷ kind e.from ∷ index e.from ∷ xs) (node_numbers e.to)
+edge_numbers : (e : Edge) → nodes_code e ≡ edge_height e ∷ node_kind e.from ∷ node_index e.from ∷ node_kind e.to ∷ node_index e.to ∷ []
+edge_numbers e = ap (λ xs. edge_height e ∷ xs ++ node_code e.to) (node_numbers e.from) ∙ ap (λ xs. edge_height e ∷ node_kind e.from ∷ node_index e.from ∷ xs) (node_numbers e.to)
 
-node_from_numbers : (n m : Node) → kind n ≡ kind m → index n ≡ index m → n ≡ m
+node_from_numbers : (n m : Node) → node_kind n ≡ node_kind m → node_index n ≡ node_index m → n ≡ m
 node_from_numbers n m k j =
-    (same_start n m [] [] (ap (λ xs. xs ++ []) (node_numbers n ∙ ap (λ a. a ∷ index n ∷ []) k ∙ ap (λ b. kind m ∷ b ∷ []) j ∙ sym (node_numbers m)))).node
+    (same_start n m [] [] (ap (λ xs. xs ++ []) (node_numbers n ∙ ap (λ a. a ∷ node_index n ∷ []) k ∙ ap (λ b. node_kind m ∷ b ∷ []) j ∙ sym (node_numbers m)))).node
 
-low_kind : (n : Node) → kind n ≤ 3
+low_kind : (n : Node) → node_kind n ≤ 3
 low_kind (Slot l) = omega arith
 low_kind n = omega arith
 
 -- what is higher than another node is an operand
-high_node : (n : Node) → 0 < height n → (kind n ≡ 3) × (index n + 1 ≡ height n)
+high_node : (n : Node) → 0 < height n → (node_kind n ≡ 3) × (node_index n + 1 ≡ height n)
 high_node (Temp k) h = (refl, refl)
 high_node n h = absurd (omega (arith, h))
 
@@ -108,7 +97,7 @@ high_to : (e : Edge) (n : Node) → e.to ≡ n → height n ≤ edge_height e
 high_to e n h = let same = ap height h in omega (arith, same)
 
 -- where it is higher than the second one, it leads out of the operand that stands so high
-high_source : (e : Edge) (n : Node) → e.to ≡ n → height n < edge_height e → (kind e.from ≡ 3) × (index e.from + 1 ≡ edge_height e)
+high_source : (e : Edge) (n : Node) → e.to ≡ n → height n < edge_height e → (node_kind e.from ≡ 3) × (node_index e.from + 1 ≡ edge_height e)
 high_source e n h g =
     let same = ap height h in
     let from : height e.from ≡ edge_height e = omega (arith, same, g) in
@@ -116,7 +105,7 @@ high_source e n h g =
     (high.0, high.1 ∙ from)
 
 abbrev pub numbers : Edge → List ℕ
-numbers e = edge_height e ∷ kind e.from ∷ index e.from ∷ kind e.to ∷ index e.to ∷ []
+numbers e = edge_height e ∷ node_kind e.from ∷ node_index e.from ∷ node_kind e.to ∷ node_index e.to ∷ []
 
 late_edge : (x : Edge) (nodes : List ℕ) → list_before (nodes_code x) nodes ≡ false → Late (numbers x) nodes
 late_edge x nodes h = late (numbers x) nodes (ap (λ xs. list_before xs nodes) (sym (edge_numbers x)) ∙ h)
@@ -131,7 +120,7 @@ late_edges x e h = late_edge x (numbers e) (ap (list_before (nodes_code x)) (sym
 abbrev pub out_first : ℕ → Node → List ℕ
 out_first h n = h ∷ node_code n ++ 0 ∷ 0 ∷ []
 
-out_first_is : (h : ℕ) (n : Node) → out_first h n ≡ h ∷ kind n ∷ index n ∷ 0 ∷ 0 ∷ []
+out_first_is : (h : ℕ) (n : Node) → out_first h n ≡ h ∷ node_kind n ∷ node_index n ∷ 0 ∷ 0 ∷ []
 out_first_is h n = ap (λ xs. h ∷ xs ++ 0 ∷ 0 ∷ []) (node_numbers n)
 
 pub none_out_first : (e : Edge) (n : Node) (h : ℕ) → h ≡ max (edge_height e) (height n) → FailUpTo (λ x. same_node x.from n) e (out_first h n)
@@ -139,8 +128,8 @@ none_out_first e n h top x from before =
     false_from_ne_true (same_node x.from n)
     (λ same.
     let at = (same_node_decides x.from n).0 same in
-    out_first_numbers (edge_height x) (kind x.from) (index x.from) (kind x.to) (index x.to) (edge_height e) (kind e.from) (index e.from) (kind e.to) (index e.to) h (height n) (kind n) (index n)
-    (ap kind at) (ap index at) (high_from x n at) top (late_edges x e from) (early_edge x (h ∷ kind n ∷ index n ∷ 0 ∷ 0 ∷ []) (ap (list_before (nodes_code x)) (sym (out_first_is h n)) ∙ before)))
+    out_first_numbers (edge_height x) (node_kind x.from) (node_index x.from) (node_kind x.to) (node_index x.to) (edge_height e) (node_kind e.from) (node_index e.from) (node_kind e.to) (node_index e.to) h (height n) (node_kind n) (node_index n)
+    (ap node_kind at) (ap node_index at) (high_from x n at) top (late_edges x e from) (early_edge x (h ∷ node_kind n ∷ node_index n ∷ 0 ∷ 0 ∷ []) (ap (list_before (nodes_code x)) (sym (out_first_is h n)) ∙ before)))
 
 pub none_out_end : (e : Edge) (n : Node) (h : ℕ) → h ≡ max (edge_height e) (height n) → same_node e.from n ≡ false
     → list_before (nodes_code e) (out_first h n) ≡ false → FailUpTo (λ x. same_node x.from n) e (h ∷ 4 ∷ 0 ∷ 0 ∷ 0 ∷ [])
@@ -149,8 +138,8 @@ none_out_end e n h top other behind x from before =
     (λ same.
     let at = (same_node_decides x.from n).0 same in
     let both =
-    out_end_numbers (edge_height x) (kind x.from) (index x.from) (kind x.to) (index x.to) (edge_height e) (kind e.from) (index e.from) (kind e.to) (index e.to) h (height n) (kind n) (index n)
-    (ap kind at) (ap index at) (high_from x n at) top (late_edges x e from) (late_edge e (h ∷ kind n ∷ index n ∷ 0 ∷ 0 ∷ []) (ap (list_before (nodes_code e)) (sym (out_first_is h n)) ∙ behind))
+    out_end_numbers (edge_height x) (node_kind x.from) (node_index x.from) (node_kind x.to) (node_index x.to) (edge_height e) (node_kind e.from) (node_index e.from) (node_kind e.to) (node_index e.to) h (height n) (node_kind n) (node_index n)
+    (ap node_kind at) (ap node_index at) (high_from x n at) top (late_edges x e from) (late_edge e (h ∷ node_kind n ∷ node_index n ∷ 0 ∷ 0 ∷ []) (ap (list_before (nodes_code e)) (sym (out_first_is h n)) ∙ behind))
     (early_edge x (h ∷ 4 ∷ 0 ∷ 0 ∷ 0 ∷ []) before) in
     true≢false (sym ((same_node_decides e.from n).1 (node_from_numbers e.from n both.0 both.1)) ∙ other))
 
@@ -161,13 +150,13 @@ into_first h source n = h ∷ source ++ node_code n
 module _ (e : Edge) (n : Node) (h f g : ℕ) (top : h ≡ max (edge_height e) (height n)) (lower : edge_height e < height n → f ∷ g ∷ [] ≡ 0 ∷ 0 ∷ [])
     (same : edge_height e ≡ height n → f ∷ g ∷ [] ≡ node_code e.from)
     (higher : height n < edge_height e → f ∷ g ∷ [] ≡ 3 ∷ (edge_height e - 1) ∷ []) where
-  into_first_is : h ∷ f ∷ g ∷ node_code n ≡ h ∷ f ∷ g ∷ kind n ∷ index n ∷ []
+  into_first_is : h ∷ f ∷ g ∷ node_code n ≡ h ∷ f ∷ g ∷ node_kind n ∷ node_index n ∷ []
   into_first_is = ap (λ xs. h ∷ f ∷ g ∷ xs) (node_numbers n)
 
   lower_numbers : edge_height e < height n → (f ≡ 0) × (g ≡ 0)
   lower_numbers k = let both = lower k in (cc, cc)
 
-  same_numbers : edge_height e ≡ height n → (f ≡ kind e.from) × (g ≡ index e.from)
+  same_numbers : edge_height e ≡ height n → (f ≡ node_kind e.from) × (g ≡ node_index e.from)
   same_numbers k = let both = same k ∙ node_numbers e.from in (cc, cc)
 
   higher_numbers : height n < edge_height e → (f ≡ 3) × (g ≡ edge_height e - 1)
@@ -178,9 +167,9 @@ module _ (e : Edge) (n : Node) (h f g : ℕ) (top : h ≡ max (edge_height e) (h
       false_from_ne_true (same_node x.to n)
       (λ is.
       let at = (same_node_decides x.to n).0 is in
-      into_first_numbers (edge_height x) (kind x.from) (index x.from) (kind x.to) (index x.to) (edge_height e) (kind e.from) (index e.from) (kind e.to) (index e.to) h (height n) (kind n) (index n) f g
-      (ap kind at) (ap index at) (high_to x n at) (high_source x n at) top lower_numbers same_numbers higher_numbers (late_edges x e from)
-      (early_edge x (h ∷ f ∷ g ∷ kind n ∷ index n ∷ []) (ap (list_before (nodes_code x)) (sym into_first_is) ∙ before)))
+      into_first_numbers (edge_height x) (node_kind x.from) (node_index x.from) (node_kind x.to) (node_index x.to) (edge_height e) (node_kind e.from) (node_index e.from) (node_kind e.to) (node_index e.to) h (height n) (node_kind n) (node_index n) f g
+      (ap node_kind at) (ap node_index at) (high_to x n at) (high_source x n at) top lower_numbers same_numbers higher_numbers (late_edges x e from)
+      (early_edge x (h ∷ f ∷ g ∷ node_kind n ∷ node_index n ∷ []) (ap (list_before (nodes_code x)) (sym into_first_is) ∙ before)))
 
   pub none_into_end : same_node e.to n ≡ false → list_before (nodes_code e) (h ∷ f ∷ g ∷ node_code n) ≡ false → FailUpTo (λ x. same_node x.to n) e (h ∷ f ∷ g ∷ 4 ∷ 0 ∷ [])
   none_into_end other behind x from before =
@@ -188,9 +177,9 @@ module _ (e : Edge) (n : Node) (h f g : ℕ) (top : h ≡ max (edge_height e) (h
       (λ is.
       let at = (same_node_decides x.to n).0 is in
       let both =
-      into_end_numbers (edge_height x) (kind x.from) (index x.from) (kind x.to) (index x.to) (edge_height e) (kind e.from) (index e.from) (kind e.to) (index e.to) h (height n) (kind n) (index n) f g
-      (ap kind at) (ap index at) (low_kind n) (high_to x n at) (high_source x n at) top lower_numbers same_numbers higher_numbers (late_edges x e from)
-      (late_edge e (h ∷ f ∷ g ∷ kind n ∷ index n ∷ []) (ap (list_before (nodes_code e)) (sym into_first_is) ∙ behind)) (early_edge x (h ∷ f ∷ g ∷ 4 ∷ 0 ∷ []) before) in
+      into_end_numbers (edge_height x) (node_kind x.from) (node_index x.from) (node_kind x.to) (node_index x.to) (edge_height e) (node_kind e.from) (node_index e.from) (node_kind e.to) (node_index e.to) h (height n) (node_kind n) (node_index n) f g
+      (ap node_kind at) (ap node_index at) (low_kind n) (high_to x n at) (high_source x n at) top lower_numbers same_numbers higher_numbers (late_edges x e from)
+      (late_edge e (h ∷ f ∷ g ∷ node_kind n ∷ node_index n ∷ []) (ap (list_before (nodes_code e)) (sym into_first_is) ∙ behind)) (early_edge x (h ∷ f ∷ g ∷ 4 ∷ 0 ∷ []) before) in
       true≢false (sym ((same_node_decides e.to n).1 (node_from_numbers e.to n both.0 both.1)) ∙ other))
 
 -- the source as two numbers, one way or another
@@ -202,7 +191,7 @@ two_numbers e n source lower same higher =
       | inl a ↦ (0, (0, lower a))
       | inr a ↦ elim (cases_lt (height n) (edge_height e)) [
         | inl b ↦ (3, (edge_height e - 1, higher b))
-        | inr b ↦ (kind e.from, (index e.from, same (omega (arith, a, b)) ∙ node_numbers e.from))
+        | inr b ↦ (node_kind e.from, (node_index e.from, same (omega (arith, a, b)) ∙ node_numbers e.from))
       ]
     ]
 
@@ -237,11 +226,11 @@ lower_nodes x e n later low =
 
 -- ---- edges out of globals
 
-global_kind : (n : Node) → is_global_node n ≡ true → kind n ≡ 2
+global_kind : (n : Node) → is_global_node n ≡ true → node_kind n ≡ 2
 global_kind (Glob t) h = refl
 global_kind n h = absurd (true≢false (sym h))
 
-other_kind : (n : Node) → is_global_node n ≡ false → kind n ≡ 2 → ⊥
+other_kind : (n : Node) → is_global_node n ≡ false → node_kind n ≡ 2 → ⊥
 other_kind (Glob t) h e = true≢false h
 other_kind n h e = omega (arith, e)
 
@@ -256,7 +245,7 @@ pub none_global_first : (e : Edge) (h : ℕ) → h ≡ edge_height e → FailUpT
 none_global_first e h is x from before =
     false_from_ne_true (is_global_node x.from)
     (λ global.
-    global_first_numbers (edge_height x) (kind x.from) (index x.from) (kind x.to) (index x.to) (edge_height e) (kind e.from) (index e.from) (kind e.to) (index e.to)
+    global_first_numbers (edge_height x) (node_kind x.from) (node_index x.from) (node_kind x.to) (node_index x.to) (edge_height e) (node_kind e.from) (node_index e.from) (node_kind e.to) (node_index e.to)
     (global_kind x.from global) (late_edges x e from) (early_edge x (edge_height e ∷ 2 ∷ 0 ∷ 0 ∷ 0 ∷ []) (ap (λ k. list_before (nodes_code x) (k ∷ 2 ∷ 0 ∷ 0 ∷ 0 ∷ [])) (sym is) ∙ before)))
 
 pub none_global_end : (e : Edge) (h : ℕ) → h ≡ edge_height e → is_global_node e.from ≡ false
@@ -265,6 +254,6 @@ none_global_end e h is other behind x from before =
     false_from_ne_true (is_global_node x.from)
     (λ global.
     other_kind e.from other
-    (global_end_numbers (edge_height x) (kind x.from) (index x.from) (kind x.to) (index x.to) (edge_height e) (kind e.from) (index e.from) (kind e.to) (index e.to)
+    (global_end_numbers (edge_height x) (node_kind x.from) (node_index x.from) (node_kind x.to) (node_index x.to) (edge_height e) (node_kind e.from) (node_index e.from) (node_kind e.to) (node_index e.to)
     (global_kind x.from global) (late_edges x e from) (late_edge e (edge_height e ∷ 2 ∷ 0 ∷ 0 ∷ 0 ∷ []) (ap (λ k. list_before (nodes_code e) (k ∷ 2 ∷ 0 ∷ 0 ∷ 0 ∷ [])) (sym is) ∙ behind))
     (early_edge x (edge_height e ∷ 4 ∷ 0 ∷ 0 ∷ 0 ∷ []) (ap (λ k. list_before (nodes_code x) (k ∷ 4 ∷ 0 ∷ 0 ∷ 0 ∷ [])) (sym is) ∙ before))))

@@ -1,18 +1,19 @@
 -- Edges into one node ascend by their sources and labels, so that they still ascend where they lead to another one.
 use Rattle.mv_edges.proofs.Common.{[], ℕ, ◌&&◌, ◌++◌, ◌+◌, ◌<◌, ◌∙◌, ◌∷◌, ◌≡◌, ◌≤◌, ◌⊎◌, Bool, List, ap, arith, cond, drop, false, filter, inl, inr, map, max, refl, subst, sym, true}
-use Rattle.mv_edges.proofs.Common.{true≢false, and_from, and_parts, or_cases, or_left, or_right, bytes_decides, list_all, bytes_eq, Node, Glob, Own, Slot, Temp, are_ascending, edge_before}
+use Rattle.mv_edges.proofs.Common.{true≢false, and_from, and_parts, or_cases, or_left, or_right, bytes_decides, list_all, bytes_eq, Node, Temp, are_ascending, edge_before}
 use Rattle.mv_edges.proofs.Common.{height, label_before, list_before, node_code, Edge, Label, an_edge, changed, inherited, into, same_node, same_node_decides, Kept}
 use Rattle.std.proofs.Math.Nat.{eq-or-lt_of_le}
 use Rattle.mv_edges.proofs.EdgeOrder.{same_start}
 use Rattle.mv_edges.proofs.Sorting.{ascending-filter}
-use Rattle.mv_edges.proofs.Leaps.{kind, index, node_numbers}
+use Rattle.mv_edges.proofs.Leaps.{node_numbers}
 use Rattle.mv_edges.proofs.Lexicographic.{irreflexive, before_cases, before_first, before_later}
+use Rattle.mv_edges.specs.Ascending.{node_kind, node_index}
 
 -- an operand stands behind its index, and any other node, of a lower kind, at 0
 abbrev Stands : ℕ → ℕ → ℕ → Type 0
 Stands k i h = ((k < 3) × (h ≡ 0)) ⊎ ((k ≡ 3) × (h ≡ i + 1))
 
-stands : (n : Node) → Stands (kind n) (index n) (height n)
+stands : (n : Node) → Stands (node_kind n) (node_index n) (height n)
 stands (Temp k) = inr (refl, refl)
 stands n = inl (omega arith, refl)
 
@@ -60,15 +61,15 @@ targets k i h m j g t xs low b =
 abbrev numbers : Node → Node → List ℕ
 numbers f t = max (height f) (height t) ∷ node_code f ++ node_code t
 
-numbers_are : (f t : Node) → numbers f t ≡ max (height f) (height t) ∷ kind f ∷ index f ∷ node_code t
+numbers_are : (f t : Node) → numbers f t ≡ max (height f) (height t) ∷ node_kind f ∷ node_index f ∷ node_code t
 numbers_are f t = ap (λ c. max (height f) (height t) ∷ c ++ node_code t) (node_numbers f)
 
 numbers_stay : (f g t u : Node) → list_before (numbers f t) (numbers g t) ≡ true → list_before (numbers f u) (numbers g u) ≡ true
 numbers_stay f g t u h =
-    let before = sources (kind f) (index f) (height f) (kind g) (index g) (height g) (height t) (node_code t) (stands f) (stands g)
-    (sym (ap (λ c. list_before c (max (height g) (height t) ∷ kind g ∷ index g ∷ node_code t)) (numbers_are f t)) ∙ sym (ap (list_before (numbers f t)) (numbers_are g t)) ∙ h) in
-    ap (list_before (numbers f u)) (numbers_are g u) ∙ ap (λ c. list_before c (max (height g) (height u) ∷ kind g ∷ index g ∷ node_code u)) (numbers_are f u)
-    ∙ targets (kind f) (index f) (height f) (kind g) (index g) (height g) (height u) (node_code u) (no_higher (kind f) (index f) (height f) (kind g) (index g) (height g) (stands f) (stands g) before) before
+    let before = sources (node_kind f) (node_index f) (height f) (node_kind g) (node_index g) (height g) (height t) (node_code t) (stands f) (stands g)
+    (sym (ap (λ c. list_before c (max (height g) (height t) ∷ node_kind g ∷ node_index g ∷ node_code t)) (numbers_are f t)) ∙ sym (ap (list_before (numbers f t)) (numbers_are g t)) ∙ h) in
+    ap (list_before (numbers f u)) (numbers_are g u) ∙ ap (λ c. list_before c (max (height g) (height u) ∷ node_kind g ∷ node_index g ∷ node_code u)) (numbers_are f u)
+    ∙ targets (node_kind f) (node_index f) (height f) (node_kind g) (node_index g) (height g) (height u) (node_code u) (no_higher (node_kind f) (node_index f) (height f) (node_kind g) (node_index g) (height g) (stands f) (stands g) before) before
 
 -- so do the edges
 moved : (f g t u : Node) (a b : Label) → edge_before (an_edge f a t) (an_edge g b t) ≡ true → edge_before (an_edge f a u) (an_edge g b u) ≡ true
@@ -99,7 +100,7 @@ passes_on : (p : Edge → Bool) (e : Edge) (es : List Edge) (b : Bool) → p e �
 passes_on p e es true h g = and_from (p e) (list_all p es) h g
 passes_on p e es false h g = g
 
-all_pass : (p : Edge → Bool) (es : List Edge) → list_all p (filter p es) ≡ true
+pub all_pass : (p : Edge → Bool) (es : List Edge) → list_all p (filter p es) ≡ true
 all_pass p [] = refl
 all_pass p (e ∷ es) = passes_on p e (filter p es) (p e) refl (all_pass p es)
 

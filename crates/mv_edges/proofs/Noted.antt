@@ -1,9 +1,10 @@
 -- What is noted of origins, and how it lets strands be leapt over.
-use Rattle.mv_edges.proofs.Common.{[], ℕ, ◌<◌, ◌∙◌, ◌∷◌, ◌≡◌, ◌≤◌, Bool, List, None, Option, Some, ap, arith, false, get_or, length, refl, slice_get, subst, sym, true, true≢false}
-use Rattle.mv_edges.proofs.Common.{get_or_from_slice_get, slice_get-get_or, slice_get_within, option_map_or, Node, Glob, Own, Slot, Temp, edge_height, nodes_code, Composition, origin_passes}
-use Rattle.mv_edges.proofs.Common.{strand_passes, Edge, Label, lets_pass, may_pass, FailUpTo, Passing, Agreeing, Always, Never}
+use Rattle.mv_edges.proofs.Common.{[], ℕ, ◌<◌, ◌∙◌, ◌∷◌, ◌≡◌, ◌≤◌, Bool, List, Option, Some, ap, arith, false, get_or, length, refl, slice_get, subst, sym, true, true≢false}
+use Rattle.mv_edges.proofs.Common.{get_or_from_slice_get, slice_get-get_or, slice_get_within, option_map_or, Node, Glob, edge_height, nodes_code, Composition, origin_passes}
+use Rattle.mv_edges.proofs.Common.{strand_passes, Edge, Label, lets_pass, may_pass, FailUpTo, Passing, Never}
 use Rattle.mv_edges.specs.Passing.{lets_any_pass, AreNoted, AreLinked}
-use Rattle.mv_edges.proofs.Leaps.{Early, Late, kind, index, numbers, early_edge, late_edges}
+use Rattle.mv_edges.proofs.Leaps.{Early, Late, numbers, early_edge, late_edges}
+use Rattle.mv_edges.specs.Ascending.{node_kind, node_index}
 
 module _ (c : Composition) (from : Node → Bool) (position : Option ℕ) where
   -- where it is noted that no strand passes, none does
@@ -29,17 +30,17 @@ between_numbers : (hx a b c d he i c' d' first : ℕ) → Late (hx ∷ a ∷ b �
     → Early (hx ∷ a ∷ b ∷ c ∷ d ∷ []) (0 ∷ 2 ∷ first ∷ 0 ∷ 0 ∷ []) → (a ≡ 2) × ((i ≤ b) × (b < first))
 between_numbers hx a b c d he i c' d' first from before = (grind arith, (grind arith, grind arith))
 
-of_kind : (n : Node) → kind n ≡ 2 → n ≡ Glob (index n)
+of_kind : (n : Node) → node_kind n ≡ 2 → n ≡ Glob (node_index n)
 of_kind (Glob t) h = refl
 of_kind n h = absurd (omega (arith, h))
 
 pub linked_fail : (noted : List Passing) (next : List ℕ) (e : Edge) (i first : ℕ) → AreLinked noted next → e.from ≡ Glob i → first ≡ get_or next i 0
     → FailUpTo (λ d. may_pass noted d.from) e (0 ∷ 2 ∷ first ∷ 0 ∷ 0 ∷ [])
 linked_fail noted next e i first linked out at x behind before =
-    let late : Late (numbers x) (edge_height e ∷ 2 ∷ i ∷ kind e.to ∷ index e.to ∷ []) =
-    subst (λ n. Late (numbers x) (edge_height e ∷ kind n ∷ index n ∷ kind e.to ∷ index e.to ∷ [])) out (late_edges x e behind) in
-    let apart = between_numbers (edge_height x) (kind x.from) (index x.from) (kind x.to) (index x.to) (edge_height e) i (kind e.to) (index e.to) first late (early_edge x (0 ∷ 2 ∷ first ∷ 0 ∷ 0 ∷ []) before) in
-    ap (may_pass noted) (of_kind x.from apart.0) ∙ linked i (index x.from) apart.1.0 (let below = apart.1.1 in omega (arith, below, at))
+    let late : Late (numbers x) (edge_height e ∷ 2 ∷ i ∷ node_kind e.to ∷ node_index e.to ∷ []) =
+    subst (λ n. Late (numbers x) (edge_height e ∷ node_kind n ∷ node_index n ∷ node_kind e.to ∷ node_index e.to ∷ [])) out (late_edges x e behind) in
+    let apart = between_numbers (edge_height x) (node_kind x.from) (node_index x.from) (node_kind x.to) (node_index x.to) (edge_height e) i (node_kind e.to) (node_index e.to) first late (early_edge x (0 ∷ 2 ∷ first ∷ 0 ∷ 0 ∷ []) before) in
+    ap (may_pass noted) (of_kind x.from apart.0) ∙ linked i (node_index x.from) apart.1.0 (let below = apart.1.1 in omega (arith, below, at))
 
 -- no edge comes between another and its own nodes
 pub own_fail : (p : Edge → Bool) (e : Edge) → FailUpTo p e (nodes_code e)

@@ -1,28 +1,19 @@
 -- What is found by leaps.
 use Rattle.mv_edges.proofs.Common.{[], ℕ, ◌&&◌, ◌++◌, ◌+◌, ◌-◌, ◌<◌, ◌||◌, ◌∙◌, ◌∷◌, ◌≡◌, ◌≤◌, Bool, Contains, List, None, Some, ap, append-nil, arith, cond, drop, eqb, false, filter}
 use Rattle.mv_edges.proofs.Common.{get_or, inl, inr, length, ltb, map, ne_eqb, not, refl, slice_get, subst, suc, sym, take, take-append-drop, true, true≢false, zero, and_from, and_parts}
-use Rattle.mv_edges.proofs.Common.{cases_Bool, cases_lt, false_from_ne_true, le-ltb, lt-ltb, or_left, get_or-take, get_or_default, length-take-le, take_all, take_more, list_any-append}
+use Rattle.mv_edges.proofs.Common.{cases_Bool, cases_lt, le-ltb, lt-ltb, get_or-take, get_or_default, length-take-le, take_all, take_more, list_any-append}
 use Rattle.mv_edges.proofs.Common.{get_or_from_slice_get, slice_get-get_or, list_all, list_any, Node, are_ascending, edge_before, edge_height, height, list_before, nodes_code, Edge}
 use Rattle.mv_edges.proofs.Common.{but_out_of, into, out_of, same_node, without, ComeBefore, FailUpTo}
 use Rattle.std.proofs.lemmas.List.Elements.{filter_more}
 use Rattle.mv_edges.specs.Sought.{IsNext}
 use Rattle.mv_edges.proofs.Lexicographic.{irreflexive, total, list_before_strict}
-use Rattle.mv_edges.proofs.EdgeOrder.{edge_strict}
+use Rattle.mv_edges.proofs.EdgeOrder.{not_later}
 use Rattle.mv_edges.proofs.Insertion.{all_contains, all_from_contains}
 use Rattle.mv_edges.proofs.Related.{list_any_from}
 use Rattle.mv_edges.proofs.Leaps.{lower_nodes}
 use Rattle.mv_edges.proofs.Sorting.{ascending_above, ascending_tail, ascending_front, ascending-push_some, any_passes, any_filter}
 
 -- ---- the order of what ascends
-
--- of two edges the later one has no earlier nodes
-not_later : (a b : Edge) → edge_before a b ≡ true → list_before (nodes_code b) (nodes_code a) ≡ false
-not_later a b h =
-    false_from_ne_true (list_before (nodes_code b) (nodes_code a))
-    (λ g. true≢false (sym (edge_strict.transitive a b a h (or_first g)) ∙ edge_strict.irreflexive a))
-  where
-    or_first : list_before (nodes_code b) (nodes_code a) ≡ true → edge_before b a ≡ true
-    or_first g = or_left (list_before (nodes_code b) (nodes_code a)) _ g
 
 pub ascending_at : (es : List Edge) (k i : ℕ) (d : Edge) → are_ascending es ≡ true → k < i → i < length es → edge_before (get_or es k d) (get_or es i d) ≡ true
 ascending_at [] k i d h lo hi = absurd (omega (arith, hi))

@@ -1,14 +1,15 @@
 -- Where, among ascending edges, those between two nodes stand.
 use Rattle.mv_edges.proofs.Common.{[], ℕ, ◌&&◌, ◌++◌, ◌+◌, ◌<◌, ◌||◌, ◌∙◌, ◌∷◌, ◌≡◌, Bool, List, Some, ap, drop, false, get_or, inl, inr, length, not, refl, slice_get, subst, suc, sym, take}
-use Rattle.mv_edges.proofs.Common.{take-append-drop, true, true≢false, zero, and_from, and_parts, false_from_ne_true, or_cases, or_left, drop_more, take_more, list_any-append, list_all}
+use Rattle.mv_edges.proofs.Common.{take-append-drop, true, true≢false, zero, and_from, and_parts, false_from_ne_true, or_cases, drop_more, take_more, list_any-append, list_all}
 use Rattle.mv_edges.proofs.Common.{list_any, bytes_eq, are_ascending, edge_before, label_before, list_before, node_code, nodes_code, Edge, Label, an_edge, edge_leq, here, label_leq}
 use Rattle.mv_edges.proofs.Common.{same_node, same_node_decides}
-use Rattle.mv_edges.proofs.EdgeOrder.{edge_strict, same_start}
+use Rattle.mv_edges.proofs.EdgeOrder.{same_start, not_later}
 use Rattle.mv_edges.proofs.Lexicographic.{irreflexive, total}
 use Rattle.mv_edges.proofs.Insertion.{all_contains, all_weaker}
 use Rattle.mv_edges.proofs.Sorting.{ascending_above, ascending_tail, ascending_drop}
 use Rattle.mv_edges.proofs.Related.{related_parts, passing}
 use Rattle.mv_edges.proofs.Searches.{contains_at}
+use Rattle.std.proofs.lemmas.Bool.{not-true}
 
 -- the first edge that is possible between the nodes of one
 abbrev pub first_of : Edge → Edge
@@ -17,12 +18,6 @@ first_of e = an_edge e.from here e.to
 -- an edge's nodes don't come before those of another
 abbrev pub not_before : Edge → Edge → Bool
 not_before e x = not (list_before (nodes_code x) (nodes_code e))
-
--- of two edges the later one has no earlier nodes
-not_later : (a b : Edge) → edge_before a b ≡ true → list_before (nodes_code b) (nodes_code a) ≡ false
-not_later a b h =
-    false_from_ne_true (list_before (nodes_code b) (nodes_code a))
-    (λ g. true≢false (sym (edge_strict.transitive a b a h (or_left (list_before (nodes_code b) (nodes_code a)) _ g)) ∙ edge_strict.irreflexive a))
 
 same_codes : (a b : Edge) → a.from ≡ b.from → a.to ≡ b.to → nodes_code a ≡ nodes_code b
 same_codes a b h g = ap (λ n. nodes_code (an_edge n here a.to)) h ∙ ap (λ n. nodes_code (an_edge b.from here n)) g
@@ -86,7 +81,7 @@ none_from e es i x h inside is behind other passed =
     let more : drop i es ≡ x ∷ drop (i + 1) es = drop_more es i x inside ∙ ap (λ y. y ∷ drop (i + 1) es) (sym is) in
     let rest = drop (i + 1) es in
     let parts = and_parts (not_before (first_of e) x) (list_all (not_before (first_of e)) rest) (ap (list_all (not_before (first_of e))) (sym more) ∙ behind) in
-    let late : list_before (nodes_code x) (nodes_code (first_of e)) ≡ false = not_true (list_before (nodes_code x) (nodes_code (first_of e))) parts.0 in
+    let late : list_before (nodes_code x) (nodes_code (first_of e)) ≡ false = not-true (list_before (nodes_code x) (nodes_code (first_of e))) parts.0 in
     let above = ascending_above x rest (subst (λ xs. are_ascending xs ≡ true) more (ascending_drop i es h)) in
     let differs : (y : Edge) → edge_leq e y ≡ true → list_before (nodes_code y) (nodes_code x) ≡ false → ⊥ = λ y g k.
     let below = related_parts label_leq e y g in
@@ -103,10 +98,6 @@ none_from e es i x h inside is behind other passed =
     sym (ap (list_any (edge_leq e)) (sym (take-append-drop i es)) ∙ list_any-append (edge_leq e) (take i es) (drop i es) ∙ ap (λ b. b || list_any (edge_leq e) (drop i es)) passed
     ∙ ap (list_any (edge_leq e)) more ∙ none)
   where
-    not_true : (b : Bool) → not b ≡ true → b ≡ false
-    not_true true k = sym k
-    not_true false k = refl
-
     same_nodes : (a b : Edge) → nodes_code a ≡ nodes_code b → (a.from ≡ b.from) × (a.to ≡ b.to)
     same_nodes a b k =
         let nodes : node_code a.from ++ node_code a.to ≡ node_code b.from ++ node_code b.to = ap (drop 1) k in

@@ -3,12 +3,10 @@ use Rattle.mv_edges.proofs.Common.{◌&&◌, ◌++◌, ◌↔◌, ◌∙◌, ◌
 use Rattle.mv_edges.proofs.Common.{Contains-append_cases, Contains-append_left, Contains-append_right, Node, Edge, into, out_of, renamed, renamed_node, same_node, without, sorted}
 use Rattle.mv_edges.proofs.Sorting.{sorted_alike, sorted-append_sorted}
 use Rattle.mv_edges.proofs.Changes.{contains-filter, contains_from_filter, contains-map, contains_from_map}
+use Rattle.mv_edges.specs.Edges.{renamed_edge}
 
 module _ (old new : Node) where
-  abbrev renamed_edge : Edge → Edge
-  renamed_edge e = record { from = renamed_node old new e.from; label = e.label; to = renamed_node old new e.to }
-
-  stays : (e : Edge) → (not (same_node e.from old) && not (same_node e.to old)) ≡ true → renamed_edge e ≡ e
+  stays : (e : Edge) → (not (same_node e.from old) && not (same_node e.to old)) ≡ true → renamed_edge old new e ≡ e
   stays e h =
       let parts = and_parts (not (same_node e.from old)) (not (same_node e.to old)) h in
       λ i. record { from = other e.from parts.0 i; label = e.label; to = other e.to parts.1 i }
@@ -30,22 +28,22 @@ module _ (old new : Node) where
       together : Contains (without old es ++ renamed old new (into old es ++ out_of old es)) z → Contains (renamed old new es) z
       together c =
           elim (Contains-append_cases (without old es) (renamed old new (into old es ++ out_of old es)) z c) [
-            | inl d ↦ let at = contains_from_filter keeps es z d in subst (λ y. Contains (renamed old new es) y) (stays z at.1) (contains-map renamed_edge es z at.0)
+            | inl d ↦ let at = contains_from_filter keeps es z d in subst (λ y. Contains (renamed old new es) y) (stays z at.1) (contains-map (renamed_edge old new) es z at.0)
             | inr d ↦
-                let at = contains_from_map renamed_edge (into old es ++ out_of old es) z d in
+                let at = contains_from_map (renamed_edge old new) (into old es ++ out_of old es) z d in
                 let there : Contains es at.0 = elim (Contains-append_cases (into old es) (out_of old es) at.0 at.1.0) [
                   | inl m ↦ (contains_from_filter (λ e. same_node e.to old) es at.0 m).0
                   | inr m ↦ (contains_from_filter (λ e. same_node e.from old) es at.0 m).0
                 ] in
-                subst (λ y. Contains (renamed old new es) y) at.1.1 (contains-map renamed_edge es at.0 there)
+                subst (λ y. Contains (renamed old new es) y) at.1.1 (contains-map (renamed_edge old new) es at.0 there)
           ]
 
-      put : (y : Edge) → Contains (into old es ++ out_of old es) y → Contains (without old es ++ renamed old new (into old es ++ out_of old es)) (renamed_edge y)
-      put y c = Contains-append_right (without old es) (renamed old new (into old es ++ out_of old es)) (renamed_edge y) (contains-map renamed_edge (into old es ++ out_of old es) y c)
+      put : (y : Edge) → Contains (into old es ++ out_of old es) y → Contains (without old es ++ renamed old new (into old es ++ out_of old es)) ((renamed_edge old new) y)
+      put y c = Contains-append_right (without old es) (renamed old new (into old es ++ out_of old es)) ((renamed_edge old new) y) (contains-map (renamed_edge old new) (into old es ++ out_of old es) y c)
 
       apart : Contains (renamed old new es) z → Contains (without old es ++ renamed old new (into old es ++ out_of old es)) z
       apart c =
-          let at = contains_from_map renamed_edge es z c in
+          let at = contains_from_map (renamed_edge old new) es z c in
           let y = at.0 in
           subst (λ x. Contains (without old es ++ renamed old new (into old es ++ out_of old es)) x) at.1.1
           (elim (cases_Bool (same_node y.to old)) [

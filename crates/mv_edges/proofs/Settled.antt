@@ -53,13 +53,14 @@ sorted-filter p es =
 pub sorted-sorted : (es : List Edge) → sorted (sorted es) ≡ sorted es
 sorted-sorted es = sorted-ascending (sorted es) (ascending-sorted es)
 
+-- a part behind that may stand in another order
+pub sorted_behind_alike : (zs xs ys : List Edge) → sorted xs ≡ sorted ys → sorted (zs ++ xs) ≡ sorted (zs ++ ys)
+sorted_behind_alike zs xs ys h = sym (sorted-append_sorted zs xs) ∙ ap (λ es. sorted (zs ++ es)) h ∙ sorted-append_sorted zs ys
+
 -- two parts, each of which may stand in another order
 pub sorted-append : (es es' fs fs' : List Edge) → sorted es ≡ sorted es' → sorted fs ≡ sorted fs' → sorted (es ++ fs) ≡ sorted (es' ++ fs')
 sorted-append es es' fs fs' h g =
-    last es fs fs' g ∙ sorted-append_swap es fs' ∙ last fs' es es' h ∙ sorted-append_swap fs' es'
-  where
-    last : (xs ys zs : List Edge) → sorted ys ≡ sorted zs → sorted (xs ++ ys) ≡ sorted (xs ++ zs)
-    last xs ys zs k = sym (sorted-append_sorted xs ys) ∙ ap (λ ws. sorted (xs ++ ws)) k ∙ sorted-append_sorted xs zs
+    sorted_behind_alike es fs fs' g ∙ sorted-append_swap es fs' ∙ sorted_behind_alike fs' es es' h ∙ sorted-append_swap fs' es'
 
 -- and any number of them
 pub sorted-flat_map_alike : {X : Type 0} (f g : X → List Edge) → ((x : X) → sorted (f x) ≡ sorted (g x)) → (xs : List X) → sorted (flat_map f xs) ≡ sorted (flat_map g xs)
@@ -92,7 +93,7 @@ sorted-inherited_all h nodes to es = sorted-flat_map_alike (λ n. inherited h n 
 
 -- ---- what is asked of the edges
 
-same_truth : (a b : Bool) → (a ≡ true → b ≡ true) → (b ≡ true → a ≡ true) → a ≡ b
+pub same_truth : (a b : Bool) → (a ≡ true → b ≡ true) → (b ≡ true → a ≡ true) → a ≡ b
 same_truth true b f g = sym (f refl)
 same_truth false b f g = sym (false_from_ne_true b (λ h. true≢false (sym (g h))))
 

@@ -1,10 +1,11 @@
 -- What becomes of composed edges where nodes are taken, and heirs take over what leads into others.
-use Rattle.mv_edges.proofs.Common.{[], ℕ, ◌&&◌, ◌++◌, ◌+◌, ◌<◌, ◌||◌, ◌∙◌, ◌∷◌, ◌≡◌, Bool, List, None, ap, append-nil, cond, false, flat_map, fold, get_or, length, map, not, refl, subst}
+use Rattle.mv_edges.proofs.Common.{[], ℕ, ◌&&◌, ◌++◌, ◌+◌, ◌<◌, ◌∙◌, ◌∷◌, ◌≡◌, Bool, List, None, ap, append-nil, cond, false, flat_map, fold, get_or, length, map, not, refl, subst}
 use Rattle.mv_edges.proofs.Common.{sym, take, true, true≢false, and_parts, or_parts, flat_map-append, take_more, list_all-append, list_any-append, list_all, list_any, Node, Bundle}
 use Rattle.mv_edges.proofs.Common.{Composition, any_between, bundle_edges, but_at, edges_of, gone, is_numbered, Edge, Label, an_edge, but_out_of, inherited, into, opened, same_node, Heir}
 use Rattle.mv_edges.proofs.Common.{taken_over, without_each, sorted}
 use Rattle.mv_edges.proofs.Composed.{edges_of-gone, bundle_edges-severed, filter_piecewise, through}
 use Rattle.mv_edges.proofs.Settled.{any-sorted, sorted-append}
+use Rattle.std.proofs.lemmas.Bool.{or_from, not-true}
 
 -- whether an edge leads out of a node
 abbrev any_out : Node → List Edge → Bool
@@ -15,13 +16,6 @@ abbrev gone_each : List Node → Composition → Composition
 gone_each nodes c = fold (λ d n. gone n d) c nodes
 
 -- ---- no edge leads out of a node
-
-none_of_both : (a b : Bool) → a ≡ false → b ≡ false → (a || b) ≡ false
-none_of_both a b h g = ap (λ x. x || b) h ∙ g
-
-is_none : (b : Bool) → not b ≡ true → b ≡ false
-is_none true h = sym h
-is_none false h = refl
 
 -- where none does, there is nothing to take away
 none_taken : (n : Node) (es : List Edge) → any_out n es ≡ false → but_out_of n es ≡ es
@@ -43,14 +37,14 @@ none_out-inherited m h n to (e ∷ es) g =
   where
     by_case : (b : Bool) → (same_node e.from m && true) ≡ false → any_out m (inherited h n to es) ≡ false
         → any_out m (map (λ (x : Edge). an_edge x.from (h x.label) to) (cond b (e ∷ into n es) (into n es))) ≡ false
-    by_case true here rest = none_of_both (same_node e.from m && true) (any_out m (inherited h n to es)) here rest
+    by_case true here rest = or_from (same_node e.from m && true) (any_out m (inherited h n to es)) here rest
     by_case false here rest = rest
 
 none_out-flat_map : {X : Type 0} (m : Node) (f : X → List Edge) → ((x : X) → any_out m (f x) ≡ false) → (xs : List X) → any_out m (flat_map f xs) ≡ false
 none_out-flat_map m f h [] = refl
 none_out-flat_map m f h (x ∷ xs) =
     list_any-append (λ e. same_node e.from m && true) (f x) (flat_map f xs)
-    ∙ none_of_both (any_out m (f x)) (any_out m (flat_map f xs)) (h x) (none_out-flat_map m f h xs)
+    ∙ or_from (any_out m (f x)) (any_out m (flat_map f xs)) (h x) (none_out-flat_map m f h xs)
 
 none_out-taken_over : (m : Node) (heirs : List Heir) (es : List Edge) → any_out m es ≡ false → any_out m (taken_over heirs es) ≡ false
 none_out-taken_over m heirs es h =
@@ -68,7 +62,7 @@ all_free : (nodes : List Node) (heirs : List Heir) (es fs : List Edge) → sorte
 all_free [] heirs es fs alike h = refl
 all_free (n ∷ nodes) heirs es fs alike h =
     let parts = and_parts (not (any_out n es)) (list_all (λ m. not (any_out m es)) nodes) h in
-    let none : any_out n fs ≡ false = none_out-alike n fs (taken_over heirs es) alike (none_out-taken_over n heirs es (is_none (any_out n es) parts.0)) in
+    let none : any_out n fs ≡ false = none_out-alike n fs (taken_over heirs es) alike (none_out-taken_over n heirs es (not-true (any_out n es) parts.0)) in
     ap (λ b. not b && list_all (λ m. not (any_out m fs)) nodes) none ∙ all_free nodes heirs es fs alike parts.1
 
 -- ---- nodes that are taken
@@ -92,7 +86,7 @@ edges-gone_each (n ∷ nodes) bs c h =
     let same : flat_map (bundle_edges (map (but_at n) c.sources) c.origins) bs ≡ es =
     through (but_out_of n) (filter_piecewise (λ e. not (same_node e.from n))) (bundle_edges c.sources c.origins) (bundle_edges (map (but_at n) c.sources) c.origins)
     (bundle_edges-severed n c.sources c.origins) bs
-    ∙ none_taken n es (is_none (any_out n es) parts.0) in
+    ∙ none_taken n es (not-true (any_out n es) parts.0) in
     edges-gone_each nodes bs (gone n c) (subst (λ fs. list_all (λ m. not (any_out m fs)) nodes ≡ true) (sym same) parts.1) ∙ same
 
 -- what heirs take over is added to what is left

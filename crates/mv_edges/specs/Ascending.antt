@@ -21,6 +21,20 @@ node_code (Own l) = 1 ∷ l ∷ []
 node_code (Glob t) = 2 ∷ t ∷ []
 node_code (Temp k) = 3 ∷ k ∷ []
 
+-- the first of them: the number of a node's kind
+abbrev pub node_kind : Node → ℕ
+node_kind (Slot l) = 0
+node_kind (Own l) = 1
+node_kind (Glob t) = 2
+node_kind (Temp k) = 3
+
+-- the second: its index among those of its kind
+abbrev pub node_index : Node → ℕ
+node_index (Slot l) = l
+node_index (Own l) = l
+node_index (Glob t) = t
+node_index (Temp k) = k
+
 -- how high a node stands on the stack: an operand as high as there are operands up to it, and any other node below them
 abbrev pub height : Node → ℕ
 height (Slot l) = 0

@@ -1,5 +1,5 @@
 -- Labels, edges and their order.
-use Rattle.std.specs.Prelude.{ℕ, max, Bool, true, false, List, [], ◌∷◌, ◌++◌, length, take, ◌==◌, ◌&&◌, ◌||◌, filter, not, if◌then◌else◌, map}
+use Rattle.std.specs.Prelude.{ℕ, max, Bool, true, false, List, [], ◌∷◌, ◌++◌, length, take, ◌==◌, ◌&&◌, ◌||◌, filter, not, if◌then◌else◌, map, fold}
 use Rattle.std.specs.Bool.{beq}
 use Rattle.std.specs.Str.{bytes_eq}
 use Rattle.std.specs.List.{list_all, list_any}
@@ -93,13 +93,21 @@ but_out_of n edges = filter (λ e. not (same_node e.from n)) edges
 abbrev pub without : Node → List Edge → List Edge
 without n edges = filter (λ e. not (same_node e.from n) && not (same_node e.to n)) edges
 
+-- the edges without those at any of these nodes
+abbrev pub without_each : List Node → List Edge → List Edge
+without_each nodes edges = fold (λ es n. without n es) edges nodes
+
 -- the new node in place of the old one
 abbrev pub renamed_node : Node → Node → Node → Node
 renamed_node old new n = if same_node n old then new else n
 
+-- an edge with one node in place of another
+abbrev pub renamed_edge : Node → Node → Edge → Edge
+renamed_edge old new e = record { from = renamed_node old new e.from; label = e.label; to = renamed_node old new e.to }
+
 -- the edges with one node in place of another
 abbrev pub renamed : Node → Node → List Edge → List Edge
-renamed old new edges = map (λ e. record { from = renamed_node old new e.from; label = e.label; to = renamed_node old new e.to }) edges
+renamed old new edges = map (renamed_edge old new) edges
 
 -- the incoming edges of a node, with their labels changed, for another node
 abbrev pub inherited : (Label → Label) → Node → Node → List Edge → List Edge

@@ -1,8 +1,8 @@
 -- The tests of labels and edges decide equality.
 -- It stands in specs/, since a trait's laws may cite nothing of their own crate but its specs/.
-use Rattle.std.proofs.Common.{◌≡◌, Bool, true, false, ◌&&◌, bytes_eq, Decides, refl, sym, ap, ◌∙◌, true≢false, eqb-true, eq-eqb}
+use Rattle.std.proofs.Common.{◌≡◌, Bool, ◌&&◌, bytes_eq, Decides, refl, sym, ap, ◌∙◌, true≢false, eqb-true, eq-eqb}
 use Rattle.std.specs.Bool.{beq}
-use Rattle.std.specs.Cmp.{IsEquivalence, equiv}
+use Rattle.std.specs.Cmp.{IsEquivalence, equiv, booleans_Decides}
 use Rattle.std.specs.Cmp.Lexicographic.{bytes_decides}
 use Rattle.std.proofs.lemmas.Bool.Decides.{same_from_decides, Decides-like, Decides-and}
 use Rattle.mv_move_types.specs.declared.borrow.Node.{Node}
@@ -34,17 +34,11 @@ same_node_decides (Temp i) (Slot j) = (λ h. absurd (true≢false (sym h)), λ e
 same_node_decides (Temp i) (Own j) = (λ h. absurd (true≢false (sym h)), λ e. cc)
 same_node_decides (Temp i) (Glob j) = (λ h. absurd (true≢false (sym h)), λ e. cc)
 
-pub beq_decides : (a b : Bool) → Decides (beq a b) (a ≡ b)
-beq_decides true true = (λ _. refl, λ _. refl)
-beq_decides false false = (λ _. refl, λ _. refl)
-beq_decides true false = (λ h. absurd (true≢false (sym h)), λ e. absurd (true≢false e))
-beq_decides false true = (λ h. absurd (true≢false (sym h)), λ e. absurd (true≢false (sym e)))
-
 pub same_label_decides : (a b : Label) → Decides (same_label a b) (a ≡ b)
 same_label_decides a b =
     Decides-like (same_label a b) (λ (p : (a.path ≡ b.path) × (a.is_open ≡ b.is_open)). λ i. record { path = p.0 i; is_open = p.1 i })
     (λ (e : a ≡ b). (ap (λ (l : Label). l.path) e, ap (λ (l : Label). l.is_open) e))
-    (Decides-and (bytes_eq a.path b.path) (beq a.is_open b.is_open) (bytes_decides a.path b.path) (beq_decides a.is_open b.is_open))
+    (Decides-and (bytes_eq a.path b.path) (beq a.is_open b.is_open) (bytes_decides a.path b.path) (booleans_Decides a.is_open b.is_open))
 
 pub same_edge_decides : (a b : Edge) → Decides (same_edge a b) (a ≡ b)
 same_edge_decides a b =

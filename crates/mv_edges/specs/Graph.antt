@@ -1,9 +1,9 @@
 -- Edges on their way through a block: as a list, or composed.
-use Rattle.std.specs.Prelude.{List, flat_map, fold}
+use Rattle.std.specs.Prelude.{List, flat_map}
 use Rattle.mv_move_types.specs.declared.borrow.Node.{Node}
 use Rattle.mv_edges.specs.declared.graph.Held.{Held}
 use Rattle.mv_edges.specs.declared.graph.Held.TheVariants.{Listed, Composed}
-use Rattle.mv_edges.specs.Edges.{Edge, opened, inherited, without}
+use Rattle.mv_edges.specs.Edges.{Edge, opened, inherited}
 use Rattle.mv_edges.specs.Sorted.{sorted}
 use Rattle.mv_edges.specs.Composition.{edges_of}
 
@@ -16,10 +16,6 @@ edges_held (Composed c) = sorted (edges_of c.value)
 pub record Heir : Type 0 where
   pub node : Node
   pub givers : List Node
-
--- the edges without those at any of these nodes
-abbrev pub without_each : List Node → List Edge → List Edge
-without_each nodes edges = fold (λ es n. without n es) edges nodes
 
 -- what heirs take over
 abbrev pub taken_over : List Heir → List Edge → List Edge

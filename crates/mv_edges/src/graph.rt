@@ -1,10 +1,10 @@
 // A borrow graph on its way through a block.
 ghost use Rattle.std.specs.Prelude.{◌≡◌, ◌<◌, ◌^◌, ◌==◌, ◌++◌, ◌∷◌, [], ◌&&◌, length, not, IfOk, IsTrue};
 ghost use Rattle.std.specs.List.{list_any};
-ghost use Rattle.mv_edges.specs.Edges.{agrees, an_edge, but_out_of, edges_leq, extended, here, inherited, is_global_node, out_of, renamed, without};
+ghost use Rattle.mv_edges.specs.Edges.{agrees, an_edge, but_out_of, edges_leq, extended, here, inherited, is_global_node, out_of, renamed, without, without_each};
 ghost use Rattle.mv_edges.specs.Sorted.{sorted};
 ghost use Rattle.mv_edges.specs.Composition.{agrees_if, any_between, edges_of};
-ghost use Rattle.mv_edges.specs.Graph.{taken_over, without_each};
+ghost use Rattle.mv_edges.specs.Graph.{taken_over};
 
 use super::composition::Composition;
 use super::nodes::{All, Globals, NodeSet, One};

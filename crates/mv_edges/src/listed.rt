@@ -2,10 +2,10 @@
 ghost use Rattle.std.specs.Prelude.{◌≡◌, ◌++◌, ◌∷◌, [], flat_map, IfOk, IsTrue, OnOk};
 ghost use Rattle.std.specs.List.{list_any};
 ghost use Rattle.mv_edges.specs.Ascending.{are_ascending};
-ghost use Rattle.mv_edges.specs.Edges.{an_edge, extended, here, inherited, opened, without};
+ghost use Rattle.mv_edges.specs.Edges.{an_edge, extended, here, inherited, opened, without, without_each};
 ghost use Rattle.mv_edges.specs.Sorted.{sorted};
 ghost use Rattle.mv_edges.specs.Composition.{agrees_if, any_between};
-ghost use Rattle.mv_edges.specs.Graph.{taken_over, without_each};
+ghost use Rattle.mv_edges.specs.Graph.{taken_over};
 
 use super::graph::Heir;
 use super::nodes::NodeSet;

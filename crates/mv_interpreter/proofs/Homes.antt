@@ -10,13 +10,14 @@ use Rattle.mv_linker.specs.Link.{IsStore, IsPublishable, tables_in, have_one_nam
 use Rattle.mv_module_text.proofs.Texts.{on_bind}
 use Rattle.mv_linker.proofs.{Found.one_place, NameLemmas.same_module-same, OwnDefinitions.own-definition, OwnDefinitions.own_name-some}
 use Rattle.mv_interpreter.specs.Owned.{IsOwn}
-use Rattle.mv_interpreter.proofs.Lists.{mapped_at, All-at}
+use Rattle.mv_interpreter.proofs.Lists.{All-at}
+use Rattle.mv_bounds.proofs.Entries.{mapped-at}
 
 -- the structs of a module of a store are found by their names
 pub own_of_store : (published : List PublishedModule) (place : ℕ) (m : Module) → IsStore published → slice_get (tables_in published) place ≡ Some m
     → (i : ℕ) (d : StructDefinition) → slice_get m.structs i ≡ Some d → IsOwn (tables_in published) m i d
 own_of_store published place m store at i d d_at =
-    let p = mapped_at (λ (p : PublishedModule). p.tables) published place m at in
+    let p = mapped-at (λ (p : PublishedModule). p.tables) published place m at in
     let passed : IsPublishable p.0 = All-at IsPublishable published place p.0 store.passed p.1 in
     let sound = subst (λ (x : Module). InBounds x × WellDefined x) p.2 (passed.sound.bounds, passed.sound.defined) in
     let stands = own-definition (tables_in published) place m store.once at sound.0 sound.1 i d d_at in
@@ -26,7 +27,7 @@ module _ (published : List PublishedModule) (store : IsStore published) where
   -- a module of the store has a name
   own_there : (place : ℕ) (m : Module) → slice_get (tables_in published) place ≡ Some m → (name : ModuleName) × (own_name m ≡ Some name)
   own_there place m at =
-      let p = mapped_at (λ (p : PublishedModule). p.tables) published place m at in
+      let p = mapped-at (λ (p : PublishedModule). p.tables) published place m at in
       let passed : IsPublishable p.0 = All-at IsPublishable published place p.0 store.passed p.1 in
       subst (λ (x : Module). (name : ModuleName) × (own_name x ≡ Some name)) p.2 (own_name-some p.0.tables passed.sound.bounds)
 

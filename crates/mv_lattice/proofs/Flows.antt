@@ -85,9 +85,6 @@ module _ {S B : Type 0} (blocks : List B) (flow : List (Option S)) (P : B → S 
       (λ (ne : k ≢ i). before k b' s' (omega arith) eb' es')
       (cases_eq k i)
 
-pub stated_within : {A : Type 0} (xs : List A) (k : ℕ) (x : A) → slice_get xs k ≡ Some x → k < length xs
-stated_within xs k x e = slice_get_within xs k x e
-
 -- the same error at another type of answers
 pub err_at : {T U E : Type 0} (x y : E) → ◌≡◌ {A = Result T E} (Err x) (Err y) → ◌≡◌ {A = Result U E} (Err x) (Err y)
 err_at x y e = let same : x ≡ y = cc in ap Err same

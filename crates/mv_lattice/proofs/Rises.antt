@@ -10,6 +10,7 @@ use Rattle.mv_cfg.specs.declared.Cfg.{Cfg}
 use Rattle.mv_lattice.specs.Laws.{IsLawful}
 use Rattle.mv_lattice.specs.Flow.{IsAt, carried, through, IsStated, IsRisen}
 use Rattle.mv_lattice.specs.Work.{AllStated, IsCounted, IsJoin, IsRaised}
+use Rattle.mv_bounds.proofs.Entries.{All-first, All-second}
 
 -- the element at k after a write at n
 pub set_same : {A : Type 0} (xs : List A) (n : ℕ) (x : A) → n < length xs → slice_get (set xs n x) n ≡ Some x
@@ -68,12 +69,6 @@ module _ {S : Type 0} (P : S → Type 0) (below : S → S → Type 0) where
   unfolding IsRisen
   risen_higher trans zero s u p q r le = q
   risen_higher trans (suc m) s u p q r le = (q, (r.1.0, (r.1.1.0, trans r.1.0 s u (risen_has m r.1.0 r.1.1.0) p q r.1.1.1 le, λ h. r.1.1.2 (trans s u r.1.0 p q (risen_has m r.1.0 r.1.1.0) le h))))
-
-All-front : {X : Type 0} (P : X → Type 0) (xs ys : List X) → All P (xs ++ ys) → All P xs
-All-front P xs ys all = λ k d h. subst P (get_or_append_left xs ys d k h) (all k d (omega (arith, length-append xs ys)))
-
-All-back : {X : Type 0} (P : X → Type 0) (xs ys : List X) → All P (xs ++ ys) → All P ys
-All-back P xs ys all = λ k d h. subst P (get_or-append-add xs ys k d) (all (length xs + k) d (omega (arith, length-append xs ys)))
 
 module _ {S : Type 0} {size : ℕ} {IsState MayBegin : S → Type 0} {below : S → S → Type 0} {step : ℕ → S → Option S} {IsGraphOf : Cfg → Type 0}
     (laws : IsLawful size IsState MayBegin below step IsGraphOf) (IsSmall : S → Type 0) (t : S) where
@@ -256,7 +251,7 @@ module _ {S : Type 0} {size : ℕ} {IsState MayBegin : S → Type 0} {below : S 
           (λ n h. let r = q.higher n h.0 h.1.0 in (r.0, (r.1.0, laws.transitive t h.0 r.0 vt (vb n h.0 h.1.0) (vc n r.0 r.1.0) h.1.1 r.1.1))) xs p.above)
           q.above;
       least = λ flow vf be fb.
-          q.least flow vf (All-back (λ n. (u : S) → IsStated flow n u → below t u) xs ys be)
-          (p.least flow vf (All-front (λ n. (u : S) → IsStated flow n u → below t u) xs ys be) fb);
+          q.least flow vf (All-second (λ n. (u : S) → IsStated flow n u → below t u) xs ys be)
+          (p.least flow vf (All-first (λ n. (u : S) → IsStated flow n u → below t u) xs ys be) fb);
       counts = λ left h. q.counts left (p.counts left h);
     }

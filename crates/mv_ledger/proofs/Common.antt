@@ -4,7 +4,7 @@ pub use Rattle.std.proofs.Common.{[], ⊎_elim, ◌%◌, ◌*◌, ◌++◌, ◌+
 pub use Rattle.std.proofs.Common.{Some, add-one, ap, append-nil, append_assoc, ap₂, arith, codes, cond, decimal, drop, eq-eqb, false, flat_map, get_or, inl, inr, is_lt, le-leb, leb-true, length}
 pub use Rattle.std.proofs.Common.{length-append, lt-ltb, map, nat_cmp, option_map, refl, rules, slice_index, subst, suc, sym, take, true, zero, zero-add, ℕ}
 pub use Rattle.std.proofs.Math.Seq.{drop-append_seam, drop-cons, map-set_same, take-add}
-pub use Rattle.std.proofs.lemmas.Bool.{agree_below_at, and_from, and_parts, both_ways, cases_eq, cases_lt, cond_both, eqb-false, eqb-true, false≢true, le-ltb, leb-false, lt-leb, ltb-false}
+pub use Rattle.std.proofs.lemmas.Bool.{agree_below_at, and_from, and_parts, both_ways, cases_eq, cases_lt, cond_both, eqb-false, eqb-true, false≢true, le-ltb, leb-false, lt-leb, ltb-false, cases_Bool}
 pub use Rattle.std.proofs.lemmas.Bool.{ltb-true, true≢false}
 pub use Rattle.std.proofs.lemmas.Bool.Decides.{nat_tests, same_from_decides}
 pub use Rattle.std.proofs.lemmas.Grind.{common_steps}
@@ -78,17 +78,17 @@ pub use Rattle.mv_module_text.proofs.Addresses.{address-parts, address-whole}
 pub use Rattle.mv_module_text.proofs.Entries.{ReadsOn, ReadsOn-next, ReadsOn-stops, after}
 pub use Rattle.mv_module_text.proofs.Numbers.{number_of-front, number_of-whole}
 pub use Rattle.mv_module_text.proofs.Texts.{Front, Front-as, Front-from, Front-join, Parts, Whole, byte-front, bytes-front, bytes-whole, bytes_after, counted-parts, counted-whole, entries-front}
-pub use Rattle.mv_module_text.proofs.Texts.{entries-whole, index-parts, index-whole, mark-front, number-front, number-whole, on_bind, then_some-parts}
+pub use Rattle.mv_module_text.proofs.Texts.{entries-whole, index-parts, index-whole, mark-front, number-front, number-whole, on_bind}
 pub use Rattle.mv_module_text.specs.Entries.{address_text, counted, identifier_text, leaf_token}
 pub use Rattle.mv_module_text.specs.Fits.{address_fits, identifier_fits, is_byte, is_index, is_letter, is_name_part}
 pub use Rattle.mv_module_text.specs.Laws.{AreBytes}
 pub use Rattle.mv_module_text.specs.Parsing.{Read, address_from, byte_from, bytes_from, counted_from, entries_from, identifier_from, index_from, kind_of, mark_from, number_of_from}
 pub use Rattle.mv_module_text.specs.Reads.{Marks, Reads, ReadsAs}
-pub use Rattle.mv_frames.specs.Counters.{AreSameCounts, HasCounts, IsClear, KeepsCounts, is_tally_at, packs_at, unpacks_at}
+pub use Rattle.mv_frames.specs.Counters.{AreSameCounts, HasCounts, IsClear, KeepsCounts, is_tally_at, packs_at, unpacks_at, is_same_definition}
 pub use Rattle.mv_frames.specs.declared.counters.Count.{Count}
 pub use Rattle.mv_frames.specs.declared.counters.StructTally.{StructTally}
 pub use Rattle.mv_storage.proofs.Keys.{before-apart, before-trans, keys_compare, same_key-refl, same_key-symm, same_key-to}
-pub use Rattle.mv_storage.proofs.Maps.{Ascends-with_words, bool_cases, entries_from_words, words_under-same, words_under-with_words}
+pub use Rattle.mv_storage.proofs.Maps.{Ascends-with_words, entries_from_words, words_under-same, words_under-with_words}
 pub use Rattle.mv_storage.specs.FlatStorage.{FlatStorage, with_words, words_under}
 pub use Rattle.mv_storage.specs.Map.{Ascends, IsBelow, Layers}
 pub use Rattle.mv_machine.proofs.Binds.{WhereOk, WhereSome, entry-is, map-is, on_some, place-written, then-is}
@@ -102,8 +102,8 @@ pub use Rattle.mv_machine.specs.Flat.{FlatEntry, fields_from, flat, flat_fields,
 pub use Rattle.mv_machine.specs.Ledger.{Answers, AreRead, AsJson, AsText, Audit, Bad, BadRun, Format, LedgerState, Offer, Publish, Request, Run, RunRequest, Show, admitted, are_arguments}
 pub use Rattle.mv_machine.specs.Ledger.{attempted, audited, empty_ledger, is_argument, modules_of, scarce_name, scarce_structs, settled, shown, tally_of, tally_with, untouched_tally, with_bundle}
 pub use Rattle.mv_machine.specs.Ledger.{with_returned, with_run, with_signer, with_signer as with_sender}
-pub use Rattle.mv_machine.specs.Lines.{Aborted as RanToAbort, Aborted as ToldAborted, Exhausted as RanOut, Exhausted as ToldExhausted, Published, Published as ToldPublished, Refused}
-pub use Rattle.mv_machine.specs.Lines.{Refused as ToldRefused, Rejected as ToldRejected, Reply, Reply as Told, Returned as RanToEnd, Returned as ToldReturned, Tallied, Told as ToldLines}
+pub use Rattle.mv_machine.specs.Lines.{Aborted as RanToAbort, Aborted as ToldAborted, Exhausted as RanOut, Exhausted as ToldExhausted, Published, Published as ToldPublished, Refused, count_line}
+pub use Rattle.mv_machine.specs.Lines.{Refused as ToldRefused, Rejected as ToldRejected, Reply, Reply as Told, Returned as RanToEnd, Returned as ToldReturned, Tallied, Told as ToldLines, count_object}
 pub use Rattle.mv_machine.specs.Lines.{audit_json, audit_lines, end_line, entry_line, entry_object, hex_digit, json_line, key_text, leaf_text, member, object, rest_text, value_text, with_commas}
 pub use Rattle.mv_machine.specs.Returns.{AtReturn}
 pub use Rattle.mv_machine.specs.Run.{Aborted, Exhausted, Faulted, FunctionCall, Returned, RunOutcome, first_state, outcome_from, packs, run, turns, unpacks}
@@ -118,7 +118,7 @@ pub use Rattle.mv_machine.specs.declared.Ending.TheVariants.{Aborted as HasAbort
 pub use Rattle.mv_certificate.proofs.Marks.{all-bytes}
 pub use Rattle.mv_certificate.specs.Certificate.{Certificate, Known, all_edges_hold, all_locals_hold}
 pub use Rattle.mv_certificate.specs.CertificateText.{IsCertificateText, certificate_text}
-pub use Rattle.mv_linker.proofs.Found.{each, found_at, place_below, some-of, then_found, there_at, there_below}
+pub use Rattle.mv_linker.proofs.Found.{found_at, some-of, then_found}
 pub use Rattle.mv_linker.proofs.Joining.Upgraded.{same_abilities-is}
 pub use Rattle.mv_linker.proofs.Kept.HandleDefinitions.{name-found}
 pub use Rattle.mv_linker.proofs.NameLemmas.{is_module-is, same_module-is, same_module-same, same_struct-is, same_struct-same}
@@ -126,7 +126,7 @@ pub use Rattle.mv_linker.proofs.OwnDefinitions.{module_there, own-definition}
 pub use Rattle.mv_linker.proofs.TagTests.{same_tag-is}
 pub use Rattle.mv_linker.specs.Link.{IsPublishable, IsStore, MayJoin, are_compatible, tables_in}
 pub use Rattle.mv_linker.specs.News.{AreTexts, HasItsTexts, published_of, published_one}
-pub use Rattle.mv_linker.specs.Shapes.{AreFieldsAt, AreParts, IsMadeOf, IsPart, is_keyed as keyed_in, is_of_value, structs_in}
+pub use Rattle.mv_linker.specs.Shapes.{AreFieldsAt, AreParts, IsMadeOf, IsPart, is_keyed as keyed_in, is_of_value, structs_in, has_key}
 pub use Rattle.mv_linker.specs.StoreRules.{Links, Reaches, depends_on, directly as depends_at_once, further as depends_further, module_is_there, modules_are_there, struct_is_small, struct_is_there}
 pub use Rattle.mv_linker.specs.StoreRules.{structs_are_there}
 pub use Rattle.mv_linker.specs.Stored.{with_at}
@@ -137,11 +137,11 @@ pub use Rattle.mv_linker.specs.declared.shapes.Part.TheVariants.{Leaf as LeafPar
 pub use Rattle.mv_interpreter.proofs.Flat.FineWords.{fine_words-typed}
 pub use Rattle.mv_interpreter.proofs.Guided.Published.{certificates_from, published_certified, runs_faultless}
 pub use Rattle.mv_interpreter.proofs.Homes.{index_of, own_of_store}
-pub use Rattle.mv_interpreter.proofs.Lists.{All-at, mapped_at}
+pub use Rattle.mv_interpreter.proofs.Lists.{All-at}
 pub use Rattle.mv_interpreter.proofs.Typing.Admitted.{Ranged, admitted_typed}
 pub use Rattle.mv_interpreter.proofs.Typing.Callees.{on_found}
 pub use Rattle.mv_interpreter.proofs.Typing.Fine.{fine_storage, leaf_ranges, typed_is_fine}
-pub use Rattle.mv_interpreter.proofs.Typing.Tests.{same_kind-is, same_kind-same}
+pub use Rattle.mv_interpreter.proofs.Typing.Tests.{same_kind-same}
 pub use Rattle.mv_interpreter.specs.Flat.Agreement.{nameless}
 pub use Rattle.mv_interpreter.specs.Owned.{IsOwn}
 pub use Rattle.mv_interpreter.specs.Runs.{Agrees, AtMost, IsFineWords, Tallies, arg_value, call_of, number_fits}
@@ -152,7 +152,7 @@ pub use Rattle.mv_ledger.specs.Accepted.Records.{EachRecordIsWell, IsVetted}
 pub use Rattle.mv_ledger.specs.Accepted.SoundLedger.{IsSoundLedger}
 pub use Rattle.mv_ledger.specs.Answering.{AnswersRecord, Replies, told, told_ending}
 pub use Rattle.mv_ledger.specs.Asking.{offer_of, offers_of, request_of}
-pub use Rattle.mv_ledger.specs.Auditing.{audit_from, count_line, count_object, counted_in, counts_from, counts_json, stored_of}
+pub use Rattle.mv_ledger.specs.Auditing.{audit_from, counted_in, counts_from, counts_json, stored_of}
 pub use Rattle.mv_ledger.specs.Changes.{Leaves, RunsTo}
 pub use Rattle.mv_ledger.specs.Counting.Conservation.{Conserves, IsEntryCall, IsFineStorage, IsLeaf}
 pub use Rattle.mv_ledger.specs.Counting.Fine.{Balances, IsAbleStore, IsFine}
@@ -163,7 +163,7 @@ pub use Rattle.mv_ledger.specs.Exact.{IsAccepted, IsRefused, failing, no_bundle}
 pub use Rattle.mv_ledger.specs.Groups.{HandleHolds, HandlesHold, IsGroup, IsNeeded, NameThemselves, with_next}
 pub use Rattle.mv_ledger.specs.Inside.{structs_in_fields, structs_in_part, structs_in_parts, structs_in_token, structs_under, structs_within}
 pub use Rattle.mv_ledger.specs.Judging.{IsAcceptedBy, IsRefusedBy}
-pub use Rattle.mv_ledger.specs.Layouts.{AreLeaves, coded, is_keyed, kinds_of_fields, kinds_of_token, kinds_under, kinds_within, leaf_kinds, structs_at}
+pub use Rattle.mv_ledger.specs.Layouts.{AreLeaves, coded, is_keyed, kinds_of_fields, kinds_of_token, kinds_under, kinds_within, leaf_kinds}
 pub use Rattle.mv_ledger.specs.Loading.{AreLinked, AreTallied, FailsLoad, HasHead, IsLoadRefusal, IsLoaded, no_body, no_head, no_links, no_module, no_tallies}
 pub use Rattle.mv_ledger.specs.Parts.BodyParts.{count_from, counts_of, entry_from, form_of, group_into, groups_into, is_after, leaves_from, rising_into, storage_into, struct_of, tally_from}
 pub use Rattle.mv_ledger.specs.Parts.BodyParts.{with_entry}
@@ -171,7 +171,7 @@ pub use Rattle.mv_ledger.specs.Parts.CountRows.{Adds, AreAll, AreStored, HasRows
 pub use Rattle.mv_ledger.specs.Parts.LayoutParts.{IsOfStore, PutsKinds, keyed_at, kinds_at, kinds_of_part, kinds_of_parts}
 pub use Rattle.mv_ledger.specs.Parts.LoadedParts.{AreCounted, AreJoined, AreNotJoined, BeginsWith, EachBodyIsRead, EachReadIsBody, IsBody, IsNoBody, SavedHead, body_from, counted_by, form_by}
 pub use Rattle.mv_ledger.specs.Parts.LoadedParts.{form_from, head_from, head_of, marks_from, reason_of}
-pub use Rattle.mv_ledger.specs.Parts.Saving.{AddsValue, AreSections, HasOneMore, IsAdded, IsEmpty, IsSection, IsWritable, KnowsKinds, counts_text, definition_at, same_definition, section_at}
+pub use Rattle.mv_ledger.specs.Parts.Saving.{AddsValue, AreSections, HasOneMore, IsAdded, IsEmpty, IsSection, IsWritable, KnowsKinds, counts_text, definition_at, section_at}
 pub use Rattle.mv_ledger.specs.Parts.Saving.{sections_of, stored_in, written}
 pub use Rattle.mv_ledger.specs.Payloads.{argument_from, bundle_from, leaf_from, offer_from, offers_from, run_from, sized_from}
 pub use Rattle.mv_ledger.specs.Plain.{IsPlain, is_plain}
@@ -182,7 +182,7 @@ pub use Rattle.mv_ledger.specs.RecordText.{run_text, sized}
 pub use Rattle.mv_ledger.specs.Running.{IsAdmission, IsAdmitted, IsSettled, run_of}
 pub use Rattle.mv_ledger.specs.SavedLaws.{EachLedgerHasOneText, EachLoadIsOne, EachLoadIsSaved, EachLoadIsSound, EachSaveIsLoaded, EachSecondFormComesBack, EachTextHasOneLedger, IsSavable}
 pub use Rattle.mv_ledger.specs.SavedLaws.{NoLoadFails}
-pub use Rattle.mv_ledger.specs.SavedText.{First, Form, HeadFits, IsSavedText, Second, addressed_text, body_text, form_byte, greatest_count, has_key, head_text, is_under, keyed_from, keyed_indices}
+pub use Rattle.mv_ledger.specs.SavedText.{First, Form, HeadFits, IsSavedText, Second, addressed_text, body_text, form_byte, greatest_count, head_text, is_under, keyed_from, keyed_indices}
 pub use Rattle.mv_ledger.specs.SavedText.{leaves_of_fields, leaves_text, saved_text, storage_text, stored_text, struct_text, tally_fits, tally_text}
 pub use Rattle.mv_ledger.specs.Showing.{PutsText, fields_text, key_name_text, key_value_text, show_from}
 pub use Rattle.mv_ledger.specs.Tallying.{AddsTallies, AreInOrder, ArePlacedFor, AreWithin, HasRoomFor, HasRoomLeft, IsRoomFor, fresh_tally, is_published, place_for, tallies_at, tally_after}
@@ -198,3 +198,6 @@ pub use Rattle.mv_ledger.specs.declared.saving.Section.{Section}
 pub use Rattle.mv_ledger.specs.declared.tallies.Placed.{Placed}
 pub use Rattle.mv_ledger.specs.declared.tallies.Tally.{Tally}
 pub use Rattle.hex.specs.Hex.{encode_lower, lower_digits}
+pub use Rattle.mv_uleb.proofs.Spelled.{then_some-parts}
+pub use Rattle.mv_bounds.proofs.Entries.{place_below, element_at, all_at, there_below, mapped-at}
+pub use Rattle.mv_type_states.proofs.Tokens.{kinds_equal}

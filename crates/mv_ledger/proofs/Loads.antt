@@ -5,6 +5,7 @@
 --   BodyReading     Reading what stands after the modules of a saved ledger: how far it has come.
 --   BodyTallies     Reading the tallies of all modules: how far it has come, and what stays.
 --   BodyEntries     The text of a stored value is read as its key and leaves, and what is read is such a text.
+--   StructParts     What is made of a struct's fields, found by its name.
 --   LeafKinds       The leaves of a fine value are of the kinds that its struct says, and its text is theirs.
 --   BodyLookups     Stored values that were put one after the other: what stands under each key, and which stand under one struct's keys.
 --   BodyGroups      The texts of stored values by ascending key, after their number, are read as what they are put into.
@@ -24,6 +25,7 @@ pub mod LoadedModules
 pub mod BodyReading
 pub mod BodyTallies
 pub mod BodyEntries
+pub mod StructParts
 pub mod LeafKinds
 pub mod BodyLookups
 pub mod BodyGroups

@@ -20,10 +20,10 @@ comes-back reads bytes s t a text = ap (saved_text Second) (ledgers-one reads a.
 -- ---- what passes fails in no phase
 
 -- what holds of a module and its certificate holds of the same two
-locals-same : (m n : Module) (c d : Certificate) → n ≡ m → d ≡ c → IsTrue (all_locals_hold m c) → IsTrue (all_locals_hold n d)
+pub locals-same : (m n : Module) (c d : Certificate) → n ≡ m → d ≡ c → IsTrue (all_locals_hold m c) → IsTrue (all_locals_hold n d)
 locals-same m n c d i j h = rw (i, j) h
 
-edges-same : (m n : Module) (c d : Certificate) → n ≡ m → d ≡ c → IsTrue (all_edges_hold m c) → IsTrue (all_edges_hold n d)
+pub edges-same : (m n : Module) (c d : Certificate) → n ≡ m → d ≡ c → IsTrue (all_edges_hold m c) → IsTrue (all_edges_hold n d)
 edges-same m n c d i j h = rw (i, j) h
 
 module _ (reads : IsReadByText) (o : Offer) (m : Module) (c : Certificate) (are : AreBytes o.text) (passes : Passes o m c) where

@@ -3,7 +3,7 @@ use Rattle.mv_ledger.proofs.Common.{[], ◌%◌, ◌++◌, ◌+◌, ◌/◌, ◌
 use Rattle.mv_ledger.proofs.Common.{zero, ℕ, and_parts, ltb-true, same_Some, some_pair_parts, AllByRecursion, option_map_or, nat_lt, Module, struct_name, definition_of, StructName, same_struct}
 use Rattle.mv_ledger.proofs.Common.{same_kind, width_bits, Field, LeafKind, Address, Boolean, Number, Signer, Token, MutableReference, Plain, Reference, OfLeaf, OfStruct, uleb_in, address-whole}
 use Rattle.mv_ledger.proofs.Common.{number_of-whole, Whole, address_text, counted, address_fits, Read, address_from, number_of_from, Offer, are_of_types, is_of_struct, is_of_type, leaf_fits, Leaf}
-use Rattle.mv_ledger.proofs.Common.{More, NoMore, Ref, Struct, Value, Values, same_struct-is, same_kind-is, leaf_bytes, offer_text, sized, leaves_of_fields, leaves_text}
+use Rattle.mv_ledger.proofs.Common.{More, NoMore, Ref, Struct, Value, Values, same_struct-is, kinds_equal, leaf_bytes, offer_text, sized, leaves_of_fields, leaves_text}
 use Rattle.mv_uleb.specs.Uleb.{uleb}
 use Rattle.mv_linker.proofs.Found.{passing}
 
@@ -148,8 +148,8 @@ module _ (modules : List Module) where
     typed-one m (Plain (OfLeaf k)) (Leaf i a) (Leaf j b) x y p q e =
         let s = and_parts (same_kind i k) (leaf_fits k a) p in
         let r = and_parts (same_kind j k) (leaf_fits k b) q in
-        let is : i ≡ k = same_kind-is i k s.0 in
-        let also : j ≡ k = same_kind-is j k r.0 in
+        let is : i ≡ k = kinds_equal i k s.0 in
+        let also : j ≡ k = kinds_equal j k r.0 in
         let number = leaf-one k a b x y s.1 r.1 (ap (λ z. leaf_bytes z a ++ x) (sym is) ∙ e ∙ ap (λ z. leaf_bytes z b ++ y) also) in
         (ap₂ Leaf (is ∙ sym also) number.0, number.1)
     typed-one m (Plain (OfStruct h)) (Struct s fs) (Struct r gs) x y p q e =

@@ -3,7 +3,7 @@
 --   kinds_under modules d      the same, for a struct by its place and index, if it has key
 --   coded kinds numbers        the bytes of leaves of these kinds in turn
 --   AreLeaves kinds numbers    the numbers are those of leaves of these kinds
-use Rattle.std.specs.Prelude.{ℕ, zero, suc, Bool, false, cond, IsTrue, List, [], ◌∷◌, ◌++◌, length, slice_get, Option, Some, None}
+use Rattle.std.specs.Prelude.{ℕ, zero, suc, Bool, false, cond, IsTrue, List, [], ◌∷◌, ◌++◌, Option, Some, None}
 use Rattle.std.specs.Option.{option_map_or}
 use Rattle.mv_move_types.specs.Limits.{most_nesting}
 use Rattle.mv_move_types.specs.declared.tables.Definition.{Definition}
@@ -42,10 +42,6 @@ kinds_within (suc depth) modules name =
 -- the kinds of the leaves of a struct's values, in order
 abbrev pub leaf_kinds : List Module → StructName → Option (List LeafKind)
 leaf_kinds = kinds_within most_nesting
-
--- how many structs the module at a place has; none, if no module is there
-abbrev pub structs_at : List Module → ℕ → ℕ
-structs_at modules place = option_map_or (λ m. length m.structs) (slice_get modules place) 0
 
 -- whether the struct at a place and an index is there and has key
 abbrev pub is_keyed : List Module → Definition → Bool

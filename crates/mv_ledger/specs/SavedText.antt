@@ -1,12 +1,11 @@
 -- The texts of a saved ledger, in both forms.
-use Rattle.std.specs.Prelude.{◌≡◌, ℕ, ◌^◌, ◌<◌, ◌≤◌, ◌-◌, Bool, false, ◌&&◌, ◌==◌, nat_le, IsTrue, All, List, [], ◌∷◌, ◌++◌, map, flat_map, length}
-use Rattle.std.specs.Option.{option_map_or}
+use Rattle.std.specs.Prelude.{◌≡◌, ℕ, ◌^◌, ◌<◌, ◌≤◌, ◌-◌, Bool, ◌&&◌, ◌==◌, nat_le, IsTrue, All, List, [], ◌∷◌, ◌++◌, map, flat_map, length}
 use Rattle.std.specs.List.{list_all, filter, enumerate_from}
 use Rattle.std.specs.Int.{w128, to_le_bytes}
 use Rattle.mv_uleb.specs.Uleb.{uleb}
 use Rattle.mv_move_types.specs.Limits.{most_modules, most_runs}
 use Rattle.mv_move_types.specs.declared.tables.Definition.{Definition}
-use Rattle.mv_move_types.specs.Module.{Module, StructDefinition, struct_abilities}
+use Rattle.mv_move_types.specs.Module.{Module}
 use Rattle.mv_module_text.specs.Entries.{address_text, counted}
 use Rattle.mv_machine.specs.Value.{Value, Leaf, Struct, Ref, Values, NoMore, More}
 use Rattle.mv_machine.specs.State.{Entry, Storage}
@@ -16,6 +15,7 @@ use Rattle.mv_machine.specs.Ledger.{Offer, LedgerState, modules_of, scarce_struc
 use Rattle.mv_ledger.specs.RecordText.{leaf_bytes, offer_text, offer_fits}
 use Rattle.mv_ledger.specs.Publishing.{Spells, offered}
 use Rattle.mv_ledger.specs.Counting.Kept.{IsAscending}
+use Rattle.mv_linker.specs.Shapes.{has_key}
 
 -- the forms of a saved ledger
 pub data Form : Type 0 where
@@ -54,10 +54,6 @@ stored_text e = address_text e.key.address ++ uleb e.key.place ++ uleb e.key.ind
 -- a stored value where its struct is known
 abbrev pub addressed_text : Entry → List ℕ
 addressed_text e = address_text e.key.address ++ leaves_text e.value
-
--- whether a struct has key
-abbrev pub has_key : Module → StructDefinition → Bool
-has_key m d = option_map_or (λ a. a.key) (struct_abilities m d) false
 
 -- the indices, ascending, of a module's structs with key
 abbrev pub keyed_indices : Module → List ℕ

@@ -1,7 +1,8 @@
 // The counts of an audit, and their lines.
 ghost use Rattle.std.specs.Prelude.{◌≡◌, [], ◌∷◌, length, map, IfOk, MatchOption};
 ghost use Rattle.mv_linker.specs.Link.{tables_in};
-ghost use Rattle.mv_ledger.specs.Auditing.{count_line, counted_in, counts_from, stored_of};
+ghost use Rattle.mv_machine.specs.Lines.{count_line};
+ghost use Rattle.mv_ledger.specs.Auditing.{counted_in, counts_from, stored_of};
 ghost use Rattle.mv_interpreter.specs.Flat.Agreement.{nameless};
 ghost use Rattle.mv_ledger.specs.View.{tallied};
 

@@ -2,8 +2,8 @@
 ghost use Rattle.std.specs.Prelude.{◌≡◌, ◌++◌, length, map, IfOk, OnOk};
 ghost use Rattle.mv_linker.specs.Link.{tables_in};
 ghost use Rattle.mv_machine.specs.Flat.{storage_of, value_under};
-ghost use Rattle.mv_machine.specs.Lines.{entry_object, show_json};
-ghost use Rattle.mv_ledger.specs.Auditing.{count_object, counted_in, counts_json, stored_of};
+ghost use Rattle.mv_machine.specs.Lines.{entry_object, show_json, count_object};
+ghost use Rattle.mv_ledger.specs.Auditing.{counted_in, counts_json, stored_of};
 ghost use Rattle.mv_ledger.specs.View.{all_of, tallied};
 
 use crate::audit::{Counted, Counts};

@@ -8,11 +8,12 @@ ghost use Rattle.mv_machine.specs.Flat.{FlatEntry, storage_of};
 ghost use Rattle.mv_machine.specs.Typed.{leaf_fits};
 ghost use Rattle.mv_linker.specs.Link.{tables_in};
 ghost use Rattle.mv_interpreter.specs.Runs.{IsFineWords};
-ghost use Rattle.mv_ledger.specs.Layouts.{coded, is_keyed, kinds_under, structs_at, AreLeaves};
+ghost use Rattle.mv_ledger.specs.Layouts.{coded, is_keyed, kinds_under, AreLeaves};
+ghost use Rattle.mv_linker.specs.Shapes.{structs_in};
 ghost use Rattle.mv_ledger.specs.Publishing.{offered};
 ghost use Rattle.mv_ledger.specs.RecordText.{leaf_bytes, offer_text, sized};
 ghost use Rattle.mv_ledger.specs.SavedText.{head_text, keyed_from, struct_text, Second};
-ghost use Rattle.mv_ledger.specs.Parts.Saving.{counts_text, section_at, sections_of, struct_of, AddsValue, AreSections, IsEmpty, IsWritable, KnowsKinds, written};
+ghost use Rattle.mv_ledger.specs.Parts.Saving.{counts_text, section_at, sections_of, struct_under, AddsValue, AreSections, IsEmpty, IsWritable, KnowsKinds, written};
 ghost use Rattle.mv_ledger.specs.View.{all_of};
 
 use crate::layouts::Layouts;
@@ -170,11 +171,11 @@ fn add_to(
     key: Key,
     words: &[u128],
 ) -> Result<(), AllocError>
-    requires keyed { IsTrue (is_keyed layouts.now (struct_of key)) }
-    requires there { IsSome (section_at (sections_of rows.old.items) (struct_of key)) }
-    requires known { IfSome (section_at (sections_of rows.old.items) (struct_of key)) (KnowsKinds layouts.now (struct_of key)) }
-    requires few { IfSome (section_at (sections_of rows.old.items) (struct_of key)) (λ s. s.count < 2 ^ 63) }
-    requires leaves { IfSome (kinds_under layouts.now (struct_of key)) (λ kinds. AreLeaves kinds words.now) }
+    requires keyed { IsTrue (is_keyed layouts.now (struct_under key)) }
+    requires there { IsSome (section_at (sections_of rows.old.items) (struct_under key)) }
+    requires known { IfSome (section_at (sections_of rows.old.items) (struct_under key)) (KnowsKinds layouts.now (struct_under key)) }
+    requires few { IfSome (section_at (sections_of rows.old.items) (struct_under key)) (λ s. s.count < 2 ^ 63) }
+    requires leaves { IfSome (kinds_under layouts.now (struct_under key)) (λ kinds. AreLeaves kinds words.now) }
     ensures { OnOk result (AddsValue layouts.now (sections_of rows.old.items) key words.now (sections_of rows.new.items)) }
 {
     let d = Definition {
@@ -194,7 +195,7 @@ fn empty_row(
     place: usize,
     counts: &[u128],
 ) -> Result<Vec<Section>, AllocError>
-    ensures structs { IfOk result (λ v. length v.items ≡ structs_at layouts.now place) }
+    ensures structs { IfOk result (λ v. length v.items ≡ structs_in layouts.now place) }
     ensures empty { IfOk result (λ v. All IsEmpty v.items) }
 {
     let structs = layouts.structs(place);

@@ -1,9 +1,11 @@
 -- Options one after the other, and entries of lists by their places: what a search finds, and what a filter keeps.
-use Rattle.mv_linker.proofs.Common.{[], ℕ, ◌&&◌, ◌++◌, ◌<◌, ◌>>=◌, ◌∙◌, ◌∷◌, ◌≡◌, ◌≤◌, ◌⊎◌, Bool, Contains, IsSome, List, None, Option, Some, all_differ, ap, arith, below, both_ways}
+use Rattle.mv_linker.proofs.Common.{[], ℕ, ◌&&◌, ◌<◌, ◌>>=◌, ◌∙◌, ◌∷◌, ◌≡◌, ◌≤◌, Bool, IsSome, List, None, Option, Some, all_differ, ap, arith, both_ways}
 use Rattle.mv_linker.proofs.Common.{cases_Bool, cases_lt, cases_order, cond, cons_option, false, filter, filter_map, find_index, first_so, get_or, get_or_from_slice_get, inl, inr, length}
-use Rattle.mv_linker.proofs.Common.{list_all, list_any, ltb-true, none-some, not, not-true, option_map, option_map_or, or_cases, or_right, position, refl, same_Some, second_so, slice_get}
-use Rattle.mv_linker.proofs.Common.{slice_get-get_or, slice_get_read, slice_get_within, subst, suc, sym, take, true, unwrap_or, zero}
+use Rattle.mv_linker.proofs.Common.{list_all, list_any, none-some, not, not-true, option_map, option_map_or, or_cases, position, refl, same_Some, second_so, slice_get}
+use Rattle.mv_linker.proofs.Common.{slice_get-get_or, subst, suc, sym, take, true, unwrap_or, zero}
 use Rattle.std.proofs.lemmas.List.Quantifiers.{position-Some}
+use Rattle.mv_bounds.proofs.Entries.{element_at}
+use Rattle.std.proofs.lemmas.Map.Keys.{any_passes_from_place}
 
 -- ---- options one after the other
 
@@ -41,32 +43,9 @@ then_found r f x o e g = ap (λ s. s >>= f) e ∙ g
 
 -- ---- entries and their places
 
--- an element and its place
-pub Contains-at : {A : Type 0} (xs : List A) (x : A) → Contains xs x → (k : ℕ) × (slice_get xs k ≡ Some x)
-Contains-at xs x (k, low, is) = (k, slice_get_read xs (length xs) k x refl low (sym is))
-
-pub at-Contains : {A : Type 0} (xs : List A) (k : ℕ) (x : A) → slice_get xs k ≡ Some x → Contains xs x
-at-Contains xs k x e = (k, slice_get_within xs k x e, get_or_from_slice_get xs k x x e)
-
-pub there_at : {A : Type 0} (xs : List A) (k : ℕ) → k < length xs → (x : A) × (slice_get xs k ≡ Some x)
-there_at [] k h = absurd (omega (arith, h))
-there_at (x ∷ xs) zero h = (x, refl)
-there_at (x ∷ xs) (suc k) h = there_at xs k (omega (arith, h))
-
--- the last of a list, or one before
-pub last_or_before : {A : Type 0} (xs : List A) (y : A) (k : ℕ) (x : A) → slice_get (xs ++ y ∷ []) k ≡ Some x → (slice_get xs k ≡ Some x) ⊎ ((k ≡ length xs) × (y ≡ x))
-last_or_before [] y zero x e = inr (refl, same_Some y x e)
-last_or_before [] y (suc k) x e = absurd (none-some x e)
-last_or_before (z ∷ zs) y zero x e = inl e
-last_or_before (z ∷ zs) y (suc k) x e = elim (last_or_before zs y k x e) [ inl p ↦ inl p | inr p ↦ inr (ap suc p.0, p.1) ]
-
 -- nothing stands where the other list, which is as long, has nothing
 pub past_from : {A B : Type 0} (xs : List A) (ys : List B) (k : ℕ) → length ys ≡ length xs → slice_get xs k ≡ None → length ys ≤ k
-past_from xs ys k long none = elim (cases_lt k (length xs)) [ inl low ↦ (let x = there_at xs k low in absurd (none-some x.0 (sym none ∙ x.1))) | inr high ↦ omega (arith, high, long) ]
-
--- an index below the length, by its test
-pub there_below : {A : Type 0} (xs : List A) (k : ℕ) → below k xs ≡ true → (x : A) × (slice_get xs k ≡ Some x)
-there_below xs k h = there_at xs k (ltb-true k (length xs) h)
+past_from xs ys k long none = elim (cases_lt k (length xs)) [ inl low ↦ (let x = element_at xs k low in absurd (none-some x.0 (sym none ∙ x.1))) | inr high ↦ omega (arith, high, long) ]
 
 -- what is there
 pub some-of : {A : Type 0} (o : Option A) → IsSome o → (x : A) × (o ≡ Some x)
@@ -81,12 +60,6 @@ slice_get-take (x ∷ xs) zero k h = absurd (omega (arith, h))
 slice_get-take (x ∷ xs) (suc n) zero h = refl
 slice_get-take (x ∷ xs) (suc n) (suc k) h = slice_get-take xs n k (omega (arith, h))
 
--- what holds of each
-pub each : {A : Type 0} (p : A → Bool) (xs : List A) (k : ℕ) (x : A) → list_all p xs ≡ true → slice_get xs k ≡ Some x → p x ≡ true
-each p [] k x h e = absurd (none-some x e)
-each p (y ∷ ys) zero x h e = subst (λ z. p z ≡ true) (same_Some y x e) (first_so (p y) (list_all p ys) h)
-each p (y ∷ ys) (suc k) x h e = each p ys k x (second_so (p y) (list_all p ys) h) e
-
 pub all_from : {A : Type 0} (p : A → Bool) (xs : List A) → ((k : ℕ) (x : A) → slice_get xs k ≡ Some x → p x ≡ true) → list_all p xs ≡ true
 all_from p [] h = refl
 all_from p (x ∷ xs) h = ap (λ b. b && list_all p xs) (h 0 x refl) ∙ all_from p xs (λ k y e. h (suc k) y e)
@@ -100,11 +73,6 @@ some_fails p (x ∷ xs) h = elim (cases_Bool (p x)) [
       (suc rest.0, rest.1, rest.2, rest.3)
   | inr nay ↦ (0, x, refl, nay)
 ]
-
-pub some_passes : {A : Type 0} (p : A → Bool) (xs : List A) (k : ℕ) (x : A) → slice_get xs k ≡ Some x → p x ≡ true → list_any p xs ≡ true
-some_passes p [] k x e h = absurd (none-some x e)
-some_passes p (y ∷ ys) zero x e h = grind arith
-some_passes p (y ∷ ys) (suc k) x e h = or_right (p y) (list_any p ys) (some_passes p ys k x e h)
 
 -- the first place where a test passes, by the map's word and by the modules'
 pub position-find_index : {A : Type 0} (p : A → Bool) (xs : List A) → position p xs ≡ find_index p xs
@@ -123,6 +91,10 @@ found_at p (y ∷ ys) k e =
     let f = position-Some p (y ∷ ys) k y (position-find_index p (y ∷ ys) ∙ e) in
     record { entry = get_or (y ∷ ys) k y; at = slice_get-get_or (y ∷ ys) k y f.0; passes = f.1 }
 
+-- the entry that is found passes
+pub found_passes : {A : Type 0} (p : A → Bool) (xs : List A) (k : ℕ) (x : A) → find_index p xs ≡ Some k → slice_get xs k ≡ Some x → p x ≡ true
+found_passes p xs k x e g = let f = found_at p xs k e in subst (λ z. p z ≡ true) (same_Some f.entry x (sym f.at ∙ g)) f.passes
+
 -- where some element passes, a first one is found
 pub any_found : {A : Type 0} (p : A → Bool) (xs : List A) → list_any p xs ≡ true → (k : ℕ) × (find_index p xs ≡ Some k)
 any_found p [] h = absurd cc
@@ -131,10 +103,6 @@ any_found p (x ∷ xs) h = elim (or_cases (p x) (list_any p xs) h) [ inl e ↦ (
     by_first : (b : Bool) → (k : ℕ) × (find_index p xs ≡ Some k) → (k : ℕ) × (cond b (Some 0) (option_map suc (find_index p xs)) ≡ Some k)
     by_first true r = (0, refl)
     by_first false r = (suc r.0, rw r.1 refl)
-
--- a place that was found is one
-pub place_below : {A : Type 0} (p : A → Bool) (xs : List A) (k : ℕ) → find_index p xs ≡ Some k → k < length xs
-place_below p xs k e = let f = found_at p xs k e in slice_get_within xs k f.entry f.at
 
 -- none before it passes
 pub found_first : {A : Type 0} (p : A → Bool) (xs : List A) (k : ℕ) → find_index p xs ≡ Some k → (j : ℕ) (y : A) → j < k → slice_get xs j ≡ Some y → p y ≡ true → ⊥
@@ -156,7 +124,7 @@ pub differ_at : {A : Type 0} (same : A → A → Bool) (xs : List A) (j k : ℕ)
 differ_at same [] j k x y h l e g q = none-some x e
 differ_at same (z ∷ zs) j zero x y h l e g q = omega (arith, l)
 differ_at same (z ∷ zs) zero (suc k) x y h l e g q =
-    both_ways _ (not-true _ (first_so (not (list_any (same z) zs)) (all_differ same zs) h)) (some_passes (same z) zs k y g (subst (λ w. same w y ≡ true) (sym (same_Some z x e)) q))
+    both_ways _ (not-true _ (first_so (not (list_any (same z) zs)) (all_differ same zs) h)) (any_passes_from_place (same z) zs k y g (subst (λ w. same w y ≡ true) (sym (same_Some z x e)) q))
 differ_at same (z ∷ zs) (suc j) (suc k) x y h l e g q = differ_at same zs j k x y (second_so (not (list_any (same z) zs)) (all_differ same zs) h) (omega (arith, l)) e g q
 
 -- entries that the test calls one are at one place

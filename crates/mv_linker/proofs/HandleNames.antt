@@ -1,9 +1,7 @@
 -- The module that a handle names, by the parts that it is read from.
-use Rattle.mv_linker.proofs.Common.{ℕ, ◌∙◌, ◌≡◌, IsItemAt, List, Module, ModuleHandle, ModuleName, None, Option, Some, ap, module_name, option_map, refl, slice_get, sym}
+use Rattle.mv_linker.proofs.Common.{ℕ, ◌∙◌, ◌≡◌, IsItemAt, List, Module, ModuleHandle, None, Option, Some, ap, module_name, option_map, refl, slice_get, sym}
 use Rattle.mv_linker.proofs.LinkedCode.StoredCodes.{got}
-
-abbrev name_of : ℕ → List ℕ → ModuleName
-name_of address name = record { address = address; name = name }
+use Rattle.mv_linker.proofs.NameLemmas.{module_of}
 
 -- nothing stands there in the list that was read
 pub not-at : {A : Type 0} (xs ys : List A) (i : ℕ) → ys ≡ xs → IsItemAt ys i None → slice_get xs i ≡ None
@@ -24,5 +22,5 @@ pub unnamed-identifier : (m : Module) (h : ℕ) (handle : ModuleHandle) (address
 unnamed-identifier m h handle address e f g = rw (e, f, g) refl
 
 pub named-by : (m : Module) (h : ℕ) (handle : ModuleHandle) (address : ℕ) (name : List ℕ) → slice_get m.module_handles h ≡ Some handle → slice_get m.addresses handle.address ≡ Some address
-    → slice_get m.identifiers handle.name ≡ Some name → module_name m h ≡ Some (name_of address name)
+    → slice_get m.identifiers handle.name ≡ Some name → module_name m h ≡ Some (module_of address name)
 named-by m h handle address name e f g = rw (e, f, g) refl

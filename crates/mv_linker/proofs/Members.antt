@@ -1,5 +1,5 @@
 -- Modules among others: by name, and once a bundle joins.
-use Rattle.mv_linker.proofs.Common.{[], ℕ, ◌||◌, ◌∙◌, ◌∷◌, ◌≡◌, ◌⊎◌, Bool, List, Module, ModuleName, Some, all_differ, and_from, ap, are_compatible, arith, both_ways, cases_Bool, cond, false}
+use Rattle.mv_linker.proofs.Common.{[], ℕ, ◌||◌, ◌∙◌, ◌∷◌, ◌≡◌, ◌⊎◌, Bool, List, Module, ModuleName, Some, all_differ, and_from, ap, are_compatible, arith, cases_Bool, cond, false}
 use Rattle.mv_linker.proofs.Common.{false_from_ne_true, first_so, have_one_name, inl, inr, is_module, list_all, list_any, may_replace, module_named, not, not-true, or_cases, or_right}
 use Rattle.mv_linker.proofs.Common.{own_name, refl, same_Some, second_so, slice_get, subst, suc, sym, true, with_table, with_tables, zero}
 use Rattle.mv_linker.proofs.NameLemmas.{have_one-is, have_one_name-from, have_one_name-is, is_module-from, is_module-is}
@@ -27,10 +27,6 @@ pub at-among : {A : Type 0} (xs : List A) (x : A) → Among xs x → (k : ℕ) �
 at-among [] x a = absurd a
 at-among (y ∷ ys) x (inl e) = (0, ap Some (sym e))
 at-among (y ∷ ys) x (inr a) = let r = at-among ys x a in (suc r.0, r.1)
-
--- where one doesn't pass, not all do
-pub one-fails : {A : Type 0} (p : A → Bool) (xs : List A) (k : ℕ) (x : A) → slice_get xs k ≡ Some x → p x ≡ false → list_all p xs ≡ false
-one-fails p xs k x at h = false_from_ne_true (list_all p xs) (λ t. both_ways (p x) h (all-among p xs x t (among-at xs k x at)))
 
 -- an element that passes a test, if some does
 pub any-among : {A : Type 0} (p : A → Bool) (xs : List A) → list_any p xs ≡ true → (x : A) × Among xs x × (p x ≡ true)

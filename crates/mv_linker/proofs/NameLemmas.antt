@@ -5,11 +5,11 @@ use Rattle.mv_linker.proofs.Common.{length, module_name, module_place, name_at, 
 use Rattle.mv_linker.proofs.Common.{refl, same_module, same_Some, same_struct, second_so, slice_get, struct_name, suc, sym, true, zero}
 use Rattle.mv_linker.proofs.Found.{differ_at, find_first, found_at, one_place, passing}
 
-abbrev module_of : ℕ → List ℕ → ModuleName
+abbrev pub module_of : ℕ → List ℕ → ModuleName
 module_of address name = record { address = address; name = name }
 
-abbrev struct_of : ModuleName → List ℕ → StructName
-struct_of home name = record { home = home; name = name }
+abbrev pub named_in : ModuleName → List ℕ → StructName
+named_in home name = record { home = home; name = name }
 
 -- the parts of the name of a module, of a struct, and of a struct at a place
 pub module_parts : {P : Type 0} (m : Module) (h : ℕ) (name : ModuleName) → module_name m h ≡ Some name
@@ -46,7 +46,7 @@ pub same_struct-is : (a b : StructName) → same_struct a b ≡ true → a ≡ b
 same_struct-is a b h =
     let home : a.home ≡ b.home = same_module-is a.home b.home (first_so (same_module a.home b.home) (bytes_eq a.name b.name) h) in
     let name : a.name ≡ b.name = (bytes_eq-Decides a.name b.name).0 (second_so (same_module a.home b.home) (bytes_eq a.name b.name) h) in
-    ap₂ struct_of home name
+    ap₂ named_in home name
 
 -- a module of a name has that name
 pub is_module-is : (name : ModuleName) (m : Module) → is_module name m ≡ true → own_name m ≡ Some name

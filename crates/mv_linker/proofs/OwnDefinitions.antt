@@ -7,16 +7,14 @@
 --   struct-at, function-at          the definition that has a name is the first one with it
 use Rattle.mv_linker.proofs.Common.{[], ℕ, ◌&&◌, ◌+◌, ◌<◌, ◌==◌, ◌∙◌, ◌∷◌, ◌≡◌, ◌≤◌, Bool, FunctionDefinition, FunctionHandle, InBounds, List, Module, ModuleHandle, ModuleName, None}
 use Rattle.mv_linker.proofs.Common.{Option, OwnsStructs, Some, StructDefinition, StructHandle, StructName, WellDefined, all_differ, and_from, and_parts, ap, arith, below, bytes_eq}
-use Rattle.mv_linker.proofs.Common.{bytes_eq-Decides, cases_Bool, cases_cond, cases_eq, cases_order, cond, count_by, defined_once, definition_of, eq-eqb, eqb, eqb-true, false, field_in}
+use Rattle.mv_linker.proofs.Common.{bytes_eq-Decides, cases_Bool, cases_cond, cases_eq, cases_order, cond, count_by, defined_once, definition_of, eq-eqb, eqb-true, false, field_in}
 use Rattle.mv_linker.proofs.Common.{find_index, first_so, function_home, function_place, have_one_name, inl, inr, is_struct, length, list_all, map, module_handle_in, module_name}
 use Rattle.mv_linker.proofs.Common.{module_named, name_of_function, name_of_struct, nat_tests, none-some, on_bind, option_and_then, option_map, option_map_or, own_name, refl, same_struct}
 use Rattle.mv_linker.proofs.Common.{second_so, slice_get, slice_get-map, slice_get_within, struct_handle_in, struct_home, struct_in, struct_name, suc, sym, true, zero}
 use Rattle.std.proofs.lemmas.List.Recursion.{is_count_by}
-use Rattle.mv_linker.proofs.Found.{each, find_first, one_place, passing, there_below}
-use Rattle.mv_linker.proofs.NameLemmas.{module_parts, module_place-from, same_struct-is, same_struct-same, struct_parts}
-
-eqb-same : (n : ℕ) → eqb n n ≡ true
-eqb-same n = eq-eqb n n refl
+use Rattle.mv_linker.proofs.Found.{find_first, one_place, passing}
+use Rattle.mv_linker.proofs.NameLemmas.{module_parts, module_place-from, same_struct-is, same_struct-same, struct_parts, named_in}
+use Rattle.mv_bounds.proofs.Entries.{all_at, there_below}
 
 bytes-same : (xs : List ℕ) → bytes_eq xs xs ≡ true
 bytes-same xs = (bytes_eq-Decides xs xs).1 refl
@@ -70,15 +68,11 @@ defined_alone home own n h j k defined e l p q =
       | inr (inr s) ↦ absurd (omega (arith, most, number_twice h defined k j s q p))
     ]
 
--- a struct's name by its parts
-abbrev pub named_in : ModuleName → List ℕ → StructName
-named_in home name = record { home = home; name = name }
-
 module _ (m : Module) (bounds : InBounds m) where
   pub module_there : (h : ℕ) → below h m.module_handles ≡ true → (name : ModuleName) × (module_name m h ≡ Some name)
   module_there h e =
       let handle = there_below m.module_handles h e in
-      let fine = each (module_handle_in m) m.module_handles h handle.0 bounds.module_handles handle.1 in
+      let fine = all_at (module_handle_in m) m.module_handles h handle.0 bounds.module_handles handle.1 in
       let address = there_below m.addresses handle.0.address (first_so (below handle.0.address m.addresses) (below handle.0.name m.identifiers) fine) in
       let name = there_below m.identifiers handle.0.name (second_so (below handle.0.address m.addresses) (below handle.0.name m.identifiers) fine) in
       (record { address = address.0; name = name.0 }, rw (handle.1, address.1, name.1) refl)
@@ -98,7 +92,7 @@ module _ (m : Module) (defined : WellDefined m) where
   -- a module has one handle
   pub one_module_handle : (a b : ℕ) (name : ModuleName) → module_name m a ≡ Some name → module_name m b ≡ Some name → a ≡ b
   one_module_handle a b name e g = module_parts m a name e (λ x x_is p_is n_is. module_parts m b name g (λ y y_is q_is o_is.
-      let address_at = one_place ◌==◌ m.addresses x.address y.address name.address name.address defined.addresses p_is q_is (eqb-same name.address) (eqb-same name.address) in
+      let address_at = one_place ◌==◌ m.addresses x.address y.address name.address name.address defined.addresses p_is q_is (eq-eqb name.address name.address refl) (eq-eqb name.address name.address refl) in
       let name_at = one_place bytes_eq m.identifiers x.name y.name name.name name.name defined.identifiers n_is o_is (bytes-same name.name) (bytes-same name.name) in
       one_place (λ (a b : ModuleHandle). (a.address == b.address) && (a.name == b.name)) m.module_handles a b x y defined.module_handles x_is y_is
       (and_from _ _ (eq-eqb _ _ address_at) (eq-eqb _ _ name_at)) (and_from _ _ (eq-eqb _ _ (sym address_at)) (eq-eqb _ _ (sym name_at)))))
@@ -150,11 +144,11 @@ pub own-definition : (modules : List Module) (place : ℕ) (m : Module) → all_
     (d : StructDefinition) → slice_get m.structs i ≡ Some d
     → (name : StructName) × (name_of_struct m d ≡ Some name) × (definition_of modules name ≡ Some (m, d.fields)) × (find_index (is_struct m name) m.structs ≡ Some i)
 own-definition modules place m once home_at bounds defined i d d_at =
-    let fine = each (struct_in m) m.structs i d bounds.structs d_at in
+    let fine = all_at (struct_in m) m.structs i d bounds.structs d_at in
     let handle = there_below m.struct_handles d.handle (first_so (below d.handle m.struct_handles) (list_all (field_in m) d.fields) fine) in
     let small : d.handle < length m.struct_handles = slice_get_within m.struct_handles d.handle handle.0 handle.1 in
     let own = module_there m bounds m.own bounds.own in
-    let fine_handle = each (struct_handle_in m) m.struct_handles d.handle handle.0 bounds.struct_handles handle.1 in
+    let fine_handle = all_at (struct_handle_in m) m.struct_handles d.handle handle.0 bounds.struct_handles handle.1 in
     let identifier = there_below m.identifiers handle.0.name (second_so (below handle.0.module m.module_handles) (below handle.0.name m.identifiers) fine_handle) in
     let name : StructName = named_in own.0 identifier.0 in
     let home_named : module_name m handle.0.module ≡ Some own.0 = ap (module_name m) (own_handle m defined i d handle.0 d_at handle.1) ∙ own.1 in

@@ -1,9 +1,7 @@
 -- What the tests of types by names mean.
-use Rattle.mv_linker.proofs.Common.{[], ℕ, ◌==◌, ◌∙◌, ◌∷◌, ◌≡◌, Address, Boolean, LeafTag, List, Number, ReferenceTag, Signer, StructTag, Tag, and_from, ap, ap₂, arith, beq}
-use Rattle.mv_linker.proofs.Common.{booleans_Decides, cond, eq-eqb, eqb-true, first_so, refl, same_tag, same_tags, second_so, sym, true}
-use Rattle.mv_move_types.specs.declared.token.LeafKind.{LeafKind}
-use Rattle.mv_move_types.specs.Tokens.{kind_code, same_kind}
-use Rattle.mv_move_types.specs.declared.token.Width.TheVariants.{U128, U16, U32, U64, U8}
+use Rattle.mv_linker.proofs.Common.{[], ◌∷◌, ◌≡◌, LeafTag, List, ReferenceTag, StructTag, Tag, and_from, ap, ap₂, beq}
+use Rattle.mv_linker.proofs.Common.{booleans_Decides, eq-eqb, first_so, refl, same_tag, same_tags, second_so, true}
+use Rattle.mv_move_types.specs.Tokens.{kind_code}
 use Rattle.mv_type_states.proofs.Tokens.{kinds_equal}
 use Rattle.mv_linker.proofs.NameLemmas.{same_struct-is, same_struct-same}
 

@@ -14,19 +14,10 @@ use Rattle.mv_move_types.specs.declared.tables.FunctionHandle.{FunctionHandle}
 use Rattle.mv_move_types.specs.Options.{◌>>=◌}
 use Rattle.mv_move_types.specs.Module.{Module, FunctionDefinition, local_tokens, parameter_tokens}
 use Rattle.mv_bounds.specs.Bounds.{below, InBounds, function_in, function_handle_in, local_count}
-use Rattle.mv_type_states.specs.TypesHold.{Point}
-use Rattle.mv_locals_safety.specs.LocalsRules.{may_leave, leave_known}
-use Rattle.mv_locals_safety.specs.Domain.{Function, may_stay, point_in, start_locals, IsOfLocals}
-
--- an index below the length of its table reads an entry
-read : {A : Type 0} (i : ℕ) (xs : List A) → below i xs ≡ true → (x : A) × (slice_get xs i ≡ Some x)
-read i xs h = let within : i < length xs = ltb-true i (length xs) h in ⊎_elim (λ c. (c.0, c.2)) (λ c. absurd (let past : length xs ≤ i = c.0 in omega (arith, within, past))) (slice_get_cases xs i).1
-
--- what holds of all holds of each
-all_at : {A : Type 0} (p : A → Bool) (xs : List A) (i : ℕ) (x : A) → list_all p xs ≡ true → slice_get xs i ≡ Some x → p x ≡ true
-all_at p [] i x h e = cc
-all_at p (y ∷ xs) zero x h e = let same : y ≡ x = cc in subst (λ z. p z ≡ true) same (and_parts (p y) (list_all p xs) h).0
-all_at p (y ∷ xs) (suc i) x h e = all_at p xs i x (and_parts (p y) (list_all p xs) h).1 e
+use Rattle.mv_type_states.specs.TypesHold.{Point, point_at}
+use Rattle.mv_locals_safety.specs.LocalsRules.{may_leave, leave_known, start_locals}
+use Rattle.mv_locals_safety.specs.Domain.{Function, may_stay, IsOfLocals}
+use Rattle.mv_bounds.proofs.Entries.{all_at, there_below}
 
 local_tokens_some : (m : Module) (d : FunctionDefinition) (h : FunctionHandle) (ps others : List Token)
     → slice_get m.function_handles d.handle ≡ Some h → slice_get m.signatures h.parameters ≡ Some ps → slice_get m.signatures d.locals ≡ Some others
@@ -41,11 +32,11 @@ locals_there m n f d same bounds at =
     let three = and_parts _ _ in_function in
     let two = and_parts _ _ three.0 in
     let one = and_parts _ _ two.0 in
-    let handle = read d.handle n.function_handles one.0 in
+    let handle = there_below n.function_handles d.handle one.0 in
     let in_handle = all_at (function_handle_in n) n.function_handles d.handle handle.0 bounds-n.function_handles handle.1 in
     let front = and_parts _ _ (and_parts _ _ in_handle).0 in
-    let parameters = read handle.0.parameters n.signatures front.1 in
-    let others = read d.locals n.signatures one.1 in
+    let parameters = there_below n.signatures handle.0.parameters front.1 in
+    let others = there_below n.signatures d.locals one.1 in
     (parameters.0 ++ others.0, local_tokens_some n d handle.0 parameters.0 others.0 handle.1 parameters.1 others.1)
 
 pub some_there : {A B : Type 0} (f : A → B) (o : Option A) (found : Option B) (x : B) → option_map f o ≡ found → found ≡ Some x → IsSome o
@@ -64,13 +55,13 @@ may_leave_zipped p (t ∷ ts) (Maybe ∷ s) = ap (λ r. may_stay p.home t Maybe 
 pub return_known : (d : Function) (m : Module) (e : FunctionDefinition) (ts ts' : List Token) (s s' : List Availability) (b r : Bool)
     → record { home = m; function = e } ≡ d → local_tokens m e ≡ Some ts → ts' ≡ ts → s' ≡ s → r ≡ list_all (λ q. may_stay m q.0 q.1) (zip ts' s')
     → r ≡ b
-    → leave_known (point_in d.home d.function) s ≡ then_some b s
+    → leave_known (point_at d.home d.function []) s ≡ then_some b s
 return_known d m e ts ts' s s' b r view tokens same_ts same_s tested decided =
     let test = subst (λ x. list_all (λ q. may_stay m q.0 q.1) (zip x s) ≡ b) same_ts (subst (λ x. list_all (λ q. may_stay m q.0 q.1) (zip ts' x) ≡ b) same_s (sym tested ∙ decided)) in
-    subst (λ (x : Function). leave_known (point_in x.home x.function) s ≡ then_some b s) view (known test)
+    subst (λ (x : Function). leave_known (point_at x.home x.function []) s ≡ then_some b s) view (known test)
   where
-    known : list_all (λ q. may_stay m q.0 q.1) (zip ts s) ≡ b → leave_known (point_in m e) s ≡ then_some b s
-    known test = rw (tokens, may_leave_zipped (point_in m e) ts s, test) refl
+    known : list_all (λ q. may_stay m q.0 q.1) (zip ts s) ≡ b → leave_known (point_at m e []) s ≡ then_some b s
+    known test = rw (tokens, may_leave_zipped (point_at m e []) ts s, test) refl
 
 module _ (m : Module) (d : FunctionDefinition) (ts : List Token) (parameters : ℕ) (tokens : local_tokens m d ≡ Some ts) (counted : option_map length (parameter_tokens m d) ≡ Some parameters) where
   pub start_is : (s : List Availability) → s ≡ replicate parameters Available ++ replicate (length ts - parameters) Unavailable → start_locals m d ≡ Some s

@@ -1,14 +1,14 @@
 -- The availabilities of a function's locals as a domain of states.
-use Rattle.std.specs.Prelude.{◌≡◌, ℕ, Bool, true, false, ◌-◌, List, [], ◌++◌, length, replicate, map, zip, Option, Some, None, Result, Ok, Err, slice_get, slice_set}
+use Rattle.std.specs.Prelude.{◌≡◌, ℕ, Bool, true, false, ◌-◌, List, [], length, map, zip, Option, Some, None, Result, Ok, Err, slice_get, slice_set}
 use Rattle.std.specs.Option.{option_map_or}
 use Rattle.mv_move_types.specs.declared.borrow.Availability.{Availability}
 use Rattle.mv_move_types.specs.declared.borrow.Availability.TheVariants.{Unavailable, Available, Maybe}
 use Rattle.mv_move_types.specs.Options.{◌>>=◌}
 use Rattle.mv_move_types.specs.declared.token.Token.{Token}
-use Rattle.mv_move_types.specs.Module.{Module, FunctionDefinition, local_tokens, parameter_tokens}
+use Rattle.mv_move_types.specs.Module.{Module, FunctionDefinition}
 use Rattle.mv_bounds.specs.Bounds.{local_count}
 use Rattle.mv_abilities.specs.Abilities.{token_abilities}
-use Rattle.mv_type_states.specs.TypesHold.{Point}
+use Rattle.mv_type_states.specs.TypesHold.{point_at}
 use Rattle.mv_lattice.specs.declared.StepError.{StepError}
 use Rattle.mv_lattice.specs.declared.StepError.TheVariants.{Need}
 use Rattle.mv_locals_safety.specs.LocalsRules.{locals_after, needs_available}
@@ -18,24 +18,13 @@ pub record Function : Type 0 where
   pub home : Module
   pub function : FunctionDefinition
 
--- where the rules for locals stand in a function: they read no types
-abbrev pub point_in : Module → FunctionDefinition → Point
-point_in m d = record { home = m; function = d; types = [] }
-
 -- one availability a local
 abbrev pub IsOfLocals : Module → FunctionDefinition → List Availability → Type 0
 IsOfLocals m d locals = length locals ≡ local_count m d
 
--- at the start the parameters hold values, and the other locals hold none
-abbrev pub start_locals : Module → FunctionDefinition → Option (List Availability)
-start_locals m d = do
-  parameters ← parameter_tokens m d
-  locals ← local_tokens m d
-  Some (replicate (length parameters) Available ++ replicate (length locals - length parameters) Unavailable)
-
 -- what the instruction at a place makes of the availabilities
 abbrev pub locals_step : Module → FunctionDefinition → ℕ → List Availability → Option (List Availability)
-locals_step m d at locals = slice_get d.code at >>= λ i. locals_after (point_in m d) i locals
+locals_step m d at locals = slice_get d.code at >>= λ i. locals_after (point_at m d []) i locals
 
 -- the least availability above both
 abbrev pub least_above : Availability → Availability → Availability

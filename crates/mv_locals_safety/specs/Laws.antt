@@ -11,16 +11,12 @@ use Rattle.mv_move_types.specs.declared.instruction.Instruction.{Instruction}
 use Rattle.mv_move_types.specs.declared.instruction.Instruction.TheVariants.{Ret, CopyLoc, MoveLoc, StLoc, MutBorrowLoc, ImmBorrowLoc}
 use Rattle.mv_move_types.specs.Options.{◌>>=◌}
 use Rattle.mv_move_types.specs.Module.{Module, FunctionDefinition, local_tokens, local_type}
-use Rattle.mv_type_states.specs.TypesHold.{Point}
+use Rattle.mv_type_states.specs.TypesHold.{Point, point_at}
 use Rattle.mv_lattice.specs.Laws.{IsLawful}
 use Rattle.mv_locals_safety.specs.LocalsRules.{availability_leq, locals_leq, locals_after, is_available, needs_available, may_overwrite, may_leave}
-use Rattle.mv_locals_safety.specs.Domain.{IsOfLocals, locals_step, point_in}
+use Rattle.mv_locals_safety.specs.Domain.{IsOfLocals, locals_step}
 use Rattle.mv_locals_safety.specs.Rising.{step_below, reflexive_one}
-
--- what comes of two steps comes of the second
-bind_parts : {A B : Type 0} (o : Option A) (f : A → Option B) (y : B) {P : Type 0} → (o >>= f) ≡ Some y → ((x : A) → o ≡ Some x → f x ≡ Some y → P) → P
-bind_parts None f y e k = cc
-bind_parts (Some x) f y e k = k x refl e
+use Rattle.mv_binary_format.proofs.Binds.{bind_some}
 
 then_some_is : {A : Type 0} (b : Bool) (x y : A) → then_some b x ≡ Some y → x ≡ y
 then_some_is true x y e = cc
@@ -30,22 +26,22 @@ then_some_at : {A : Type 0} (b : Bool) (x y : A) (n : ℕ) (measure : A → ℕ)
 then_some_at b x y n measure h e = ap measure (sym (then_some_is b x y e)) ∙ h
 
 needed_keeps : (l : ℕ) (a b : List Availability) → needs_available l a ≡ Some b → length b ≡ length a
-needed_keeps l a b e = bind_parts (slice_get a l) (λ x. then_some (is_available x) a) b e (λ x _ h. then_some_at (is_available x) a b (length a) length refl h)
+needed_keeps l a b e = bind_some (slice_get a l) (λ x. then_some (is_available x) a) b e (λ x _ h. then_some_at (is_available x) a b (length a) length refl h)
 
 locals_after_keeps : (p : Point) (i : Instruction) (a b : List Availability) → locals_after p i a ≡ Some b → length b ≡ length a
 unfolding locals_after
 locals_after_keeps p (CopyLoc l) a b e = needed_keeps l a b e
 locals_after_keeps p (MoveLoc l) a b e =
-    bind_parts (needs_available l a) (λ before. Some (slice_set before l Unavailable)) b e (λ before needed is.
+    bind_some (needs_available l a) (λ before. Some (slice_set before l Unavailable)) b e (λ before needed is.
     let same : slice_set before l Unavailable ≡ b = cc in
     ap length (sym same) ∙ length-set before l Unavailable ∙ needed_keeps l a before needed)
 locals_after_keeps p (StLoc l) a b e =
-    bind_parts (local_type p.home p.function l) (λ t. slice_get a l >>= λ x. then_some (may_overwrite p t x) (slice_set a l Available)) b e (λ t _ e2.
-    bind_parts (slice_get a l) (λ x. then_some (may_overwrite p t x) (slice_set a l Available)) b e2 (λ x _ h.
+    bind_some (local_type p.home p.function l) (λ t. slice_get a l >>= λ x. then_some (may_overwrite p t x) (slice_set a l Available)) b e (λ t _ e2.
+    bind_some (slice_get a l) (λ x. then_some (may_overwrite p t x) (slice_set a l Available)) b e2 (λ x _ h.
     then_some_at (may_overwrite p t x) (slice_set a l Available) b (length a) length (length-set a l Available) h))
 locals_after_keeps p (MutBorrowLoc l) a b e = needed_keeps l a b e
 locals_after_keeps p (ImmBorrowLoc l) a b e = needed_keeps l a b e
-locals_after_keeps p Ret a b e = bind_parts (local_tokens p.home p.function) (λ ts. then_some (may_leave p ts a) a) b e (λ ts _ h. then_some_at (may_leave p ts a) a b (length a) length refl h)
+locals_after_keeps p Ret a b e = bind_some (local_tokens p.home p.function) (λ ts. then_some (may_leave p ts a) a) b e (λ ts _ h. then_some_at (may_leave p ts a) a b (length a) length refl h)
 locals_after_keeps p _ a b e = let same : a ≡ b = cc in ap length (sym same)
 
 transitive_one : (x y z : Availability) → availability_leq x y ≡ true → availability_leq y z ≡ true → availability_leq x z ≡ true
@@ -75,7 +71,7 @@ pub locals_lawful : (m : Module) (d : FunctionDefinition) → IsLawful (length d
 locals_lawful m d = record {
   reflexive = λ a h. leq_reflexive a;
   transitive = λ a b c ha hb hc p q. leq_transitive a b c p q;
-  keeps = λ at a b within h e. bind_parts (slice_get d.code at) (λ i. locals_after (point_in m d) i a) b e (λ i _ after. locals_after_keeps (point_in m d) i a b after ∙ h);
+  keeps = λ at a b within h e. bind_some (slice_get d.code at) (λ i. locals_after (point_at m d []) i a) b e (λ i _ after. locals_after_keeps (point_at m d []) i a b after ∙ h);
   monotone = λ at a b v within ha hb le e. step_below m d at a b le v e;
   begins = λ g k n b a t graph block next ha begin e. tt;
 }

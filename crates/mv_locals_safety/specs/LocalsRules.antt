@@ -1,5 +1,5 @@
 -- What is known of locals, its order, and the rules that change it.
-use Rattle.std.specs.Prelude.{Bool, true, false, ◌&&◌, List, [], ◌∷◌, ℕ, Option, slice_get, Some, slice_set}
+use Rattle.std.specs.Prelude.{Bool, true, false, ◌&&◌, List, [], ◌∷◌, ℕ, Option, slice_get, Some, slice_set, ◌++◌, ◌-◌, length, replicate}
 use Rattle.std.specs.Bool.{then_some}
 use Rattle.std.specs.Option.{option_map_or}
 use Rattle.mv_move_types.specs.declared.borrow.Availability.{Availability}
@@ -8,7 +8,7 @@ use Rattle.mv_move_types.specs.Options.{◌>>=◌}
 use Rattle.mv_move_types.specs.declared.token.Token.{Token}
 use Rattle.mv_abilities.specs.Abilities.{token_abilities}
 use Rattle.mv_type_states.specs.TypesHold.{Point}
-use Rattle.mv_move_types.specs.Module.{local_tokens, local_type}
+use Rattle.mv_move_types.specs.Module.{local_tokens, local_type, Module, FunctionDefinition, parameter_tokens}
 use Rattle.mv_move_types.specs.declared.instruction.Instruction.{Instruction}
 use Rattle.mv_move_types.specs.declared.instruction.Instruction.TheVariants.{Ret, CopyLoc, MoveLoc, StLoc, MutBorrowLoc, ImmBorrowLoc}
 
@@ -31,6 +31,13 @@ abbrev pub is_available : Availability → Bool
 is_available Available = true
 is_available Unavailable = false
 is_available Maybe = false
+
+-- at the start the parameters hold values, and the other locals hold none
+abbrev pub start_locals : Module → FunctionDefinition → Option (List Availability)
+start_locals m d = do
+  parameters ← parameter_tokens m d
+  locals ← local_tokens m d
+  Some (replicate (length parameters) Available ++ replicate (length locals - length parameters) Unavailable)
 
 -- the local may be read, moved or borrowed
 abbrev pub needs_available : ℕ → List Availability → Option (List Availability)

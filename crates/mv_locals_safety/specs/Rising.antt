@@ -12,9 +12,9 @@ use Rattle.mv_move_types.specs.declared.instruction.Instruction.{Instruction}
 use Rattle.mv_move_types.specs.declared.instruction.Instruction.TheVariants.{Ret, CopyLoc, MoveLoc, StLoc, MutBorrowLoc, ImmBorrowLoc}
 use Rattle.mv_move_types.specs.Options.{◌>>=◌}
 use Rattle.mv_move_types.specs.Module.{Module, FunctionDefinition, local_tokens, local_type}
-use Rattle.mv_type_states.specs.TypesHold.{Point}
+use Rattle.mv_type_states.specs.TypesHold.{Point, point_at}
 use Rattle.mv_locals_safety.specs.LocalsRules.{availability_leq, locals_leq, locals_after, is_available, needs_available, has_drop, may_overwrite, may_leave, store_known, leave_known}
-use Rattle.mv_locals_safety.specs.Domain.{locals_step, point_in}
+use Rattle.mv_locals_safety.specs.Domain.{locals_step}
 
 -- where the second is there, the first is there, and below it
 abbrev pub Below : Option (List Availability) → Option (List Availability) → Type 0
@@ -138,4 +138,4 @@ module _ (p : Point) (a b : List Availability) (below : locals_leq a b ≡ true)
 
 -- the step at a place is defined where it is on availabilities above, and its result is below
 pub step_below : (m : Module) (d : FunctionDefinition) (at : ℕ) (a b : List Availability) → locals_leq a b ≡ true → Below (locals_step m d at a) (locals_step m d at b)
-step_below m d at a b h = found_below (slice_get d.code at) _ _ (λ i. after_below (point_in m d) a b h i)
+step_below m d at a b h = found_below (slice_get d.code at) _ _ (λ i. after_below (point_at m d []) a b h i)

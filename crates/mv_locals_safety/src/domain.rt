@@ -1,9 +1,10 @@
 // A function's locals as a domain of states.
-ghost use Rattle.std.specs.Prelude.{◌≡◌, ◌<◌, ◌++◌, length, slice_get, zip, Option, Some, option_map, IfOk, IfSome, OnOk, IsErrOf};
+ghost use Rattle.std.specs.Prelude.{◌≡◌, ◌<◌, [], ◌++◌, length, slice_get, zip, Option, Some, option_map, IfOk, IfSome, OnOk, IsErrOf};
 ghost use Rattle.std.specs.List.{list_all};
 ghost use Rattle.mv_move_types.specs.Module.{local_tokens, local_type, parameter_tokens};
-ghost use Rattle.mv_locals_safety.specs.LocalsRules.{leave_known, store_known, locals_after};
-ghost use Rattle.mv_locals_safety.specs.Domain.{point_in, start_locals, may_stay, IsOfLocals, Follows, locals_step};
+ghost use Rattle.mv_locals_safety.specs.LocalsRules.{leave_known, store_known, locals_after, start_locals};
+ghost use Rattle.mv_locals_safety.specs.Domain.{may_stay, IsOfLocals, Follows, locals_step};
+ghost use Rattle.mv_type_states.specs.TypesHold.{point_at};
 
 use super::Availabilities;
 use mv_binary_format::{FunctionDefinition, Module};
@@ -121,7 +122,7 @@ impl<'t, 'm> LocalsDomain<'t, 'm> {
 
     /// Leaves the function, which changes nothing; refused where a local may hold what can't be dropped.
     fn leave(&self, s: &Availabilities) -> Result<(), StepError>
-        ensures { Follows result s.now (leave_known (point_in self.now.home self.now.function) s.now) }
+        ensures { Follows result s.now (leave_known (point_at self.now.home self.now.function []) s.now) }
     {
         if !may_all_remain(self.bounded, &self.locals, s.as_slice()) {
             return Err(StepError::Need);
@@ -131,7 +132,7 @@ impl<'t, 'm> LocalsDomain<'t, 'm> {
 
     /// Puts a value into a local; refused where one may still stand there that can't be dropped.
     fn store(&self, local: u16, s: &mut Availabilities) -> Result<(), StepError>
-        ensures { Follows result s.new (store_known (point_in self.now.home self.now.function) local s.old) }
+        ensures { Follows result s.new (store_known (point_at self.now.home self.now.function []) local s.old) }
     {
         let Some(token) = self.local(local) else {
             return Err(StepError::Need);
@@ -164,7 +165,7 @@ impl<'t, 'm> LocalsDomain<'t, 'm> {
     /// Makes of the availabilities what an instruction does.
     #[tactic(auto, unfolding(crate::specs::LocalsRules::locals_after))]
     fn apply(&self, instruction: Instruction, s: &mut Availabilities) -> Result<(), StepError>
-        ensures { Follows result s.new (locals_after (point_in self.now.home self.now.function) instruction s.old) }
+        ensures { Follows result s.new (locals_after (point_at self.now.home self.now.function []) instruction s.old) }
     {
         match instruction {
             Instruction::Ret => self.leave(s),

@@ -74,14 +74,14 @@ abbrev pub show_lines : List Module → Storage → List (List ℕ)
 show_lines modules storage = map (entry_line modules) storage ++ end_line (length storage) ∷ []
 
 -- a struct: how many of its values are stored, were made and were taken apart
-abbrev pub audit_line : Storage → Tallied → List ℕ
-audit_line storage t =
-    codes "count " ++ struct_text t.struct ++ codes " stored " ++ decimal (count storage t.struct)
+abbrev pub count_line : ℕ → Tallied → List ℕ
+count_line stored t =
+    codes "count " ++ struct_text t.struct ++ codes " stored " ++ decimal stored
     ++ codes " packed " ++ decimal t.packs ++ codes " unpacked " ++ decimal t.unpacks
 
 -- a line for each struct with neither copy nor drop
 abbrev pub audit_lines : Storage → List Tallied → List (List ℕ)
-audit_lines storage tallies = map (audit_line storage) tallies ++ end_line (length tallies) ∷ []
+audit_lines storage tallies = map (λ t. count_line (count storage t.struct) t) tallies ++ end_line (length tallies) ∷ []
 
 -- ---- the same in one line of JSON
 
@@ -109,10 +109,10 @@ entry_object modules e =
     object (member (codes "address") (address_text e.key.address) ∷ member (codes "struct") (key_text modules e.key)
     ∷ member (codes "value") (value_text e.value) ∷ [])
 
--- a struct's counts as an object
-abbrev pub audit_object : Storage → Tallied → List ℕ
-audit_object storage t =
-    object (member (codes "packed") (decimal t.packs) ∷ member (codes "stored") (decimal (count storage t.struct))
+-- a struct's counts as an object, where so many of its values are stored
+abbrev pub count_object : ℕ → Tallied → List ℕ
+count_object stored t =
+    object (member (codes "packed") (decimal t.packs) ∷ member (codes "stored") (decimal stored)
     ∷ member (codes "struct") (struct_text t.struct) ∷ member (codes "unpacked") (decimal t.unpacks) ∷ [])
 
 -- all stored values in one line
@@ -121,7 +121,7 @@ show_json modules storage = json_line (codes "show") (map (entry_object modules)
 
 -- all counts in one line
 abbrev pub audit_json : Storage → List Tallied → List ℕ
-audit_json storage tallies = json_line (codes "audit") (map (audit_object storage) tallies)
+audit_json storage tallies = json_line (codes "audit") (map (λ t. count_object (count storage t.struct) t) tallies)
 
 -- ---- replies
 

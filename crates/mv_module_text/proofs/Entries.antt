@@ -50,7 +50,7 @@ ReadsOn-next each n i start items cur next x lt e g =
     }
 
 -- the next can't be read
-entries_from-stops : {A : Type 0} (each : List ℕ → Read A) (k : ℕ) (cur : List ℕ) → each cur ≡ None → entries_from each (suc k) cur ≡ None
+pub entries_from-stops : {A : Type 0} (each : List ℕ → Read A) (k : ℕ) (cur : List ℕ) → each cur ≡ None → entries_from each (suc k) cur ≡ None
 entries_from-stops each k cur e = rw e refl
 
 -- the entries after a count

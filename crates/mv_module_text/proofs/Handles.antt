@@ -8,7 +8,8 @@ use Rattle.mv_move_types.specs.Options.{◌>>=◌}
 use Rattle.mv_module_text.specs.Entries.{ability_bits, module_handle_text, struct_handle_text, function_handle_text, identifier_text, field_handle_text}
 use Rattle.mv_module_text.specs.Fits.{is_index, module_handle_fits, struct_handle_fits, function_handle_fits, identifier_fits, field_handle_fits}
 use Rattle.mv_module_text.specs.Parsing.{index_from, mark_from, bytes_from, abilities_of_bits, module_handle_from, struct_handle_from, function_handle_from, identifier_from, field_handle_from}
-use Rattle.mv_module_text.proofs.Texts.{Front, Parts, Whole, on_bind, then_some-parts, Front-join, Front-as, number-front, number-whole, index-parts, index-whole, mark-front, bytes-front, bytes-whole}
+use Rattle.mv_module_text.proofs.Texts.{Front, Parts, Whole, on_bind, Front-join, Front-as, number-front, number-whole, index-parts, index-whole, mark-front, bytes-front, bytes-whole}
+use Rattle.mv_uleb.proofs.Spelled.{then_some-parts}
 
 pub module_handle-parts : Parts module_handle_from module_handle_text module_handle_fits
 module_handle-parts bytes rest v ok e =

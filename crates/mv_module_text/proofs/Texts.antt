@@ -9,7 +9,7 @@ use Rattle.std.proofs.lemmas.List.Folds.{list_all-append}
 use Rattle.std.proofs.lemmas.Option.{some_pair_parts, none-some, same_Some}
 use Rattle.mv_uleb.specs.Uleb.{uleb}
 use Rattle.mv_uleb.specs.Parsing.{number_from}
-use Rattle.mv_uleb.proofs.Spelled.{number_from-parts, number_from-uleb}
+use Rattle.mv_uleb.proofs.Spelled.{number_from-parts, number_from-uleb, then_some-parts}
 use Rattle.mv_move_types.specs.Options.{◌>>=◌}
 use Rattle.mv_module_text.specs.Fits.{is_byte, is_index}
 use Rattle.mv_module_text.specs.Parsing.{Read, index_from, byte_from, mark_from, bytes_from, entries_from, counted_from, all_from}
@@ -44,11 +44,6 @@ stands from text fits parts whole = λ bytes rest v ok.
 pub on_bind : {A B P : Type 0} (o : Option A) (f : A → Option B) (y : B) → (o >>= f) ≡ Some y → ((x : A) → o ≡ Some x → f x ≡ Some y → P) → P
 on_bind None f y e k = absurd (none-some y e)
 on_bind (Some x) f y e k = k x refl e
-
--- a test that let something through
-pub then_some-parts : {A : Type 0} (b : Bool) (x y : A) → then_some b x ≡ Some y → (b ≡ true) × (x ≡ y)
-then_some-parts true x y e = (refl, same_Some x y e)
-then_some-parts false x y e = absurd (none-some y e)
 
 -- a part of bytes
 pub bytes_after : (x y : List ℕ) → AreBytes (x ++ y) → AreBytes x × AreBytes y

@@ -1,12 +1,8 @@
 -- Entries by ascending key as a map.
-use Rattle.mv_storage.proofs.Common.{[], ℕ, ⊎_elim, ◌∙◌, ◌∷◌, ◌≡◌, ◌⊎◌, Bool, List, None, Some, ap, cond, false, inl, inr, refl, subst, sym, true, Key, FlatEntry, key_before, same_key}
+use Rattle.mv_storage.proofs.Common.{[], ℕ, ⊎_elim, ◌∙◌, ◌∷◌, ◌≡◌, List, None, Some, ap, cond, false, refl, subst, sym, true, Key, FlatEntry, key_before, same_key}
 use Rattle.mv_storage.proofs.Common.{with_words, without_words, words_under, Ascends, IsBelow}
 use Rattle.mv_storage.proofs.Keys.{same_key-refl, same_key-to, same_key-symm, before-apart, before-trans, keys_compare}
-
--- a test is true or false
-pub bool_cases : (b : Bool) → (b ≡ true) ⊎ (b ≡ false)
-bool_cases true = inl refl
-bool_cases false = inr refl
+use Rattle.std.proofs.lemmas.Bool.{cases_Bool}
 
 -- equal keys have the same words
 pub words_under-same : (es : List FlatEntry) (k q : Key) → same_key k q ≡ true → words_under es q ≡ words_under es k
@@ -20,16 +16,16 @@ words_under-with_words (e ∷ es) k w q =
     ⊎_elim
     (λ (here : same_key e.key k ≡ true). rw here (
     let one : e.key ≡ k = same_key-to e.key k here in
-    ⊎_elim (λ (t : same_key k q ≡ true). rw (one, t) refl) (λ (f : same_key k q ≡ false). rw (one, f) refl) (bool_cases (same_key k q))))
+    ⊎_elim (λ (t : same_key k q ≡ true). rw (one, t) refl) (λ (f : same_key k q ≡ false). rw (one, f) refl) (cases_Bool (same_key k q))))
     (λ (apart : same_key e.key k ≡ false). rw apart (
     ⊎_elim (λ (t : key_before k e.key ≡ true). rw t refl)
     (λ (f : key_before k e.key ≡ false). rw f (
     rw (words_under-with_words es k w q) (
     ⊎_elim
     (λ (t : same_key k q ≡ true). let off : same_key e.key q ≡ false = ap (same_key e.key) (sym (same_key-to k q t)) ∙ apart in rw (t, off) refl)
-    (λ (f : same_key k q ≡ false). rw f refl) (bool_cases (same_key k q)))))
-    (bool_cases (key_before k e.key))))
-    (bool_cases (same_key e.key k))
+    (λ (f : same_key k q ≡ false). rw f refl) (cases_Bool (same_key k q)))))
+    (cases_Bool (key_before k e.key))))
+    (cases_Bool (same_key e.key k))
 
 -- a key before the first has no words
 pub words_under-below : (es : List FlatEntry) (k : Key) → IsBelow k es → Ascends es → words_under es k ≡ None
@@ -43,20 +39,20 @@ words_under-below (e ∷ es) k b s =
 
 pub words_under-without_words : (es : List FlatEntry) (k q : Key) → Ascends es → words_under (without_words es k) q ≡ cond (same_key k q) None (words_under es q)
 words_under-without_words [] k q s =
-    ⊎_elim (λ (t : same_key k q ≡ true). rw t refl) (λ (f : same_key k q ≡ false). rw f refl) (bool_cases (same_key k q))
+    ⊎_elim (λ (t : same_key k q ≡ true). rw t refl) (λ (f : same_key k q ≡ false). rw f refl) (cases_Bool (same_key k q))
 words_under-without_words (e ∷ es) k q s =
     ⊎_elim
     (λ (here : same_key e.key k ≡ true). rw here (
     let one : e.key ≡ k = same_key-to e.key k here in
     ⊎_elim
     (λ (t : same_key k q ≡ true). rw t (words_under-same es k q t ∙ words_under-below es k (subst (λ (x : Key). IsBelow x es) one s.0) s.1))
-    (λ (f : same_key k q ≡ false). rw (one, f) refl) (bool_cases (same_key k q))))
+    (λ (f : same_key k q ≡ false). rw (one, f) refl) (cases_Bool (same_key k q))))
     (λ (apart : same_key e.key k ≡ false). rw apart (
     rw (words_under-without_words es k q s.1) (
     ⊎_elim
     (λ (t : same_key k q ≡ true). let off : same_key e.key q ≡ false = ap (same_key e.key) (sym (same_key-to k q t)) ∙ apart in rw (t, off) refl)
-    (λ (f : same_key k q ≡ false). rw f refl) (bool_cases (same_key k q)))))
-    (bool_cases (same_key e.key k))
+    (λ (f : same_key k q ≡ false). rw f refl) (cases_Bool (same_key k q)))))
+    (cases_Bool (same_key e.key k))
 
 -- ---- the keys stay in order
 
@@ -66,11 +62,11 @@ below-with_words (e ∷ es) low k w b h =
     ⊎_elim
     (λ (here : same_key e.key k ≡ true). rw here h)
     (λ (apart : same_key e.key k ≡ false). rw apart (
-    ⊎_elim (λ (t : key_before k e.key ≡ true). rw t h) (λ (f : key_before k e.key ≡ false). rw f b) (bool_cases (key_before k e.key))))
-    (bool_cases (same_key e.key k))
+    ⊎_elim (λ (t : key_before k e.key ≡ true). rw t h) (λ (f : key_before k e.key ≡ false). rw f b) (cases_Bool (key_before k e.key))))
+    (cases_Bool (same_key e.key k))
 
 -- where a key is neither another nor before it, it is after it
-behind : (a b : Key) → same_key a b ≡ false → key_before b a ≡ false → key_before a b ≡ true
+pub behind : (a b : Key) → same_key a b ≡ false → key_before b a ≡ false → key_before a b ≡ true
 behind a b p q = ⊎_elim (λ e. cc) (λ s. ⊎_elim (λ t. t) (λ t. cc) s) (keys_compare a b)
 
 pub Ascends-with_words : (es : List FlatEntry) (k : Key) (w : List ℕ) → Ascends es → Ascends (with_words es k w)
@@ -82,8 +78,8 @@ Ascends-with_words (e ∷ es) k w s =
     ⊎_elim
     (λ (t : key_before k e.key ≡ true). rw t (t, s))
     (λ (f : key_before k e.key ≡ false). rw f (below-with_words es e.key k w s.0 (behind e.key k apart f), Ascends-with_words es k w s.1))
-    (bool_cases (key_before k e.key))))
-    (bool_cases (same_key e.key k))
+    (cases_Bool (key_before k e.key))))
+    (cases_Bool (same_key e.key k))
 
 below-tail : (low : Key) (e : FlatEntry) (es : List FlatEntry) → key_before low e.key ≡ true → IsBelow e.key es → IsBelow low es
 below-tail low e [] h b = tt
@@ -95,7 +91,7 @@ below-without_words (e ∷ es) low k b s =
     ⊎_elim
     (λ (here : same_key e.key k ≡ true). rw here (below-tail low e es b s.0))
     (λ (apart : same_key e.key k ≡ false). rw apart b)
-    (bool_cases (same_key e.key k))
+    (cases_Bool (same_key e.key k))
 
 pub Ascends-without_words : (es : List FlatEntry) (k : Key) → Ascends es → Ascends (without_words es k)
 Ascends-without_words [] k s = tt
@@ -103,7 +99,7 @@ Ascends-without_words (e ∷ es) k s =
     ⊎_elim
     (λ (here : same_key e.key k ≡ true). rw here s.1)
     (λ (apart : same_key e.key k ≡ false). rw apart (below-without_words es e.key k s.0 s.1, Ascends-without_words es k s.1))
-    (bool_cases (same_key e.key k))
+    (cases_Bool (same_key e.key k))
 
 -- ---- entries with the same words at each key are the same
 
@@ -121,7 +117,7 @@ tail-words x xs y ys q one s t h =
     let left : words_under (x ∷ xs) q ≡ words_under xs q = rw off refl in
     let right : words_under (y ∷ ys) q ≡ words_under ys q = rw other refl in
     sym left ∙ h ∙ right)
-    (bool_cases (same_key x.key q))
+    (cases_Bool (same_key x.key q))
 
 pub entries_from_words : (xs ys : List FlatEntry) → Ascends xs → Ascends ys → ((q : Key) → words_under xs q ≡ words_under ys q) → xs ≡ ys
 entries_from_words [] [] s t h = refl

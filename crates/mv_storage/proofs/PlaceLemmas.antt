@@ -1,14 +1,14 @@
 -- Slots in a list, and keys that have places there.
 --   put-at      a slot stands at a key's place, or at a free one that the key gets
 --   removed-at  a key is gone, and its place is free
-use Rattle.mv_storage.proofs.Common.{[], ℕ, ⊎_elim, ◌++◌, ◌<◌, ◌==◌, ◌∙◌, ◌∷◌, ◌≡◌, ◌⊎◌, List, None, Option, Some, ap, arith, cond, false, inl, inr, is_some, length, refl, slice_get}
-use Rattle.mv_storage.proofs.Common.{slice_index_or, slice_set, subst, suc, sym, true, nat_tests, slice_get_within, IsOrdered, get, is_at, lookup, option_and_then, Key, same_key, IsSettling}
+use Rattle.mv_storage.proofs.Common.{[], ℕ, ⊎_elim, ◌++◌, ◌<◌, ◌∙◌, ◌∷◌, ◌≡◌, List, None, Option, Some, ap, cond, false, inl, inr, is_some, length, refl, slice_get}
+use Rattle.mv_storage.proofs.Common.{slice_index_or, slice_set, subst, suc, sym, true, slice_get_within, IsOrdered, get, is_at, lookup, option_and_then, Key, same_key, IsSettling}
 use Rattle.mv_storage.proofs.Common.{IsSound, is_vacant, key_cmp, slot_at, Places, Slot}
 use Rattle.std.proofs.Common.{zero}
 use Rattle.std.proofs.lemmas.Option.{slice_get_read}
 use Rattle.mv_storage.specs.Slots.{IsVacantAt, IsUsedAt}
 use Rattle.mv_storage.proofs.Keys.{same_key-to}
-use Rattle.mv_storage.proofs.Maps.{bool_cases}
+use Rattle.std.proofs.lemmas.Bool.{cases_Bool, cases_eq}
 
 -- ---- the list
 
@@ -42,13 +42,6 @@ pub slice_set-read : {X : Type 0} (xs : List X) (p : ℕ) (x : X) → slice_get 
 slice_set-read [] p x e = refl
 slice_set-read (z ∷ xs) zero x e = cc
 slice_set-read (z ∷ xs) (suc p) x e = ap (λ ys. z ∷ ys) (slice_set-read xs p x e)
-
-nat_cases : (p q : ℕ) → (p ≡ q) ⊎ (p ≡ q → ⊥)
-nat_cases p q =
-    ⊎_elim
-    (λ (e : (p == q) ≡ true). let same : p ≡ q = grind (arith, nat_tests) in inl same)
-    (λ (e : (p == q) ≡ false). inr (λ (same : p ≡ q). grind (arith, nat_tests)))
-    (bool_cases (p == q))
 
 -- ---- places
 
@@ -134,31 +127,31 @@ put-at m n k p t sound settling small used order gets slots = record {
         ⊎_elim
         (λ (here : same_key k q ≡ true). subst (λ (x : Key). x.place < 65536) (same_key-to k q here) small)
         (λ (off : same_key k q ≡ false). sound.fits q (ap is_some (sym (place-off m n k (Some p) gets q off)) ∙ h))
-        (bool_cases (same_key k q));
+        (cases_Bool (same_key k q));
     used = λ q r e.
         ⊎_elim
         (λ (here : same_key k q ≡ true). subst (IsUsedAt n.slots.items) (at-p q r here e) (t, stands, used))
         (λ (off : same_key k q ≡ false). used-off m n k p t (Some p) sound settling gets slots q off r e)
-        (bool_cases (same_key k q));
+        (cases_Bool (same_key k q));
     apart = λ q r x e f.
         ⊎_elim
         (λ (here : same_key k q ≡ true).
         ⊎_elim
         (λ (there : same_key k r ≡ true). both-same k q r here there)
         (λ (off : same_key k r ≡ false). absurd (elsewhere m k p sound settling r x off (sym (place-off m n k (Some p) gets r off) ∙ f) (at-p q x here e)))
-        (bool_cases (same_key k r)))
+        (cases_Bool (same_key k r)))
         (λ (off : same_key k q ≡ false).
         ⊎_elim
         (λ (there : same_key k r ≡ true). absurd (elsewhere m k p sound settling q x off (sym (place-off m n k (Some p) gets q off) ∙ e) (at-p r x there f)))
         (λ (gone : same_key k r ≡ false). sound.apart q r x (sym (place-off m n k (Some p) gets q off) ∙ e) (sym (place-off m n k (Some p) gets r gone) ∙ f))
-        (bool_cases (same_key k r)))
-        (bool_cases (same_key k q));
+        (cases_Bool (same_key k r)))
+        (cases_Bool (same_key k q));
   };
   has = λ q.
       ⊎_elim
       (λ (here : same_key k q ≡ true). rw here (ap (λ x. option_and_then (slice_get n.slots.items) x) (place-here m n k (Some p) gets q here) ∙ stands))
       (λ (off : same_key k q ≡ false). rw off (slot-off m n k p t (Some p) sound settling gets slots q off))
-      (bool_cases (same_key k q));
+      (cases_Bool (same_key k q));
 }
   where
     stands : slice_get n.slots.items p ≡ Some t
@@ -183,12 +176,12 @@ removed-at m n k p t sound settling order gets slots = record {
         ⊎_elim
         (λ (here : same_key k q ≡ true). let e : is_some (get key_cmp n.tree q) ≡ false = ap is_some (place-here m n k None gets q here) in cc)
         (λ (off : same_key k q ≡ false). sound.fits q (ap is_some (sym (place-off m n k None gets q off)) ∙ h))
-        (bool_cases (same_key k q));
+        (cases_Bool (same_key k q));
     used = λ q r e.
         ⊎_elim
         (λ (here : same_key k q ≡ true). absurd (gone q r here e))
         (λ (off : same_key k q ≡ false). used-off m n k p t None sound settling gets slots q off r e)
-        (bool_cases (same_key k q));
+        (cases_Bool (same_key k q));
     apart = λ q r x e f.
         ⊎_elim
         (λ (here : same_key k q ≡ true). absurd (gone q x here e))
@@ -196,14 +189,14 @@ removed-at m n k p t sound settling order gets slots = record {
         ⊎_elim
         (λ (there : same_key k r ≡ true). absurd (gone r x there f))
         (λ (away : same_key k r ≡ false). sound.apart q r x (sym (place-off m n k None gets q off) ∙ e) (sym (place-off m n k None gets r away) ∙ f))
-        (bool_cases (same_key k r)))
-        (bool_cases (same_key k q));
+        (cases_Bool (same_key k r)))
+        (cases_Bool (same_key k q));
   };
   has = λ q.
       ⊎_elim
       (λ (here : same_key k q ≡ true). rw here (ap (λ x. option_and_then (slice_get n.slots.items) x) (place-here m n k None gets q here)))
       (λ (off : same_key k q ≡ false). rw off (slot-off m n k p t None sound settling gets slots q off))
-      (bool_cases (same_key k q));
+      (cases_Bool (same_key k q));
 }
   where
     gone : (q : Key) (r : ℕ) → same_key k q ≡ true → get key_cmp n.tree q ≡ Some r → ⊥
@@ -237,7 +230,7 @@ same-place m n k p at tree q =
     ∙ ⊎_elim
     (λ (here : same_key k q ≡ true). rw here (ap (get key_cmp m.tree) (sym (same_key-to k q here)) ∙ at))
     (λ (off : same_key k q ≡ false). rw off refl)
-    (bool_cases (same_key k q))
+    (cases_Bool (same_key k q))
 
 pub wrote-at : (m n : Places) (k : Key) (p : ℕ) (t : Slot) → IsSound m → get key_cmp m.tree k ≡ Some p → is_vacant t ≡ false
     → n.tree ≡ m.tree → n.slots.items ≡ slice_set m.slots.items p t
@@ -294,15 +287,15 @@ removed-settling m n k p t sound at vacant gets slots q r (inl e) =
     let one : p ≡ r = cc in
     inr (place-here m n k None gets q here, subst (IsVacantAt n.slots.items) one (vacant-place m n k p t sound at vacant slots)))
     (λ (off : same_key k q ≡ false). inl (place-off m n k None gets q off ∙ e))
-    (bool_cases (same_key k q))
+    (cases_Bool (same_key k q))
 removed-settling m n k p t sound at vacant gets slots q r (inr v) =
     inr (
       ⊎_elim
           (λ (here : same_key k q ≡ true). place-here m n k None gets q here)
           (λ (off : same_key k q ≡ false). place-off m n k None gets q off ∙ v.0)
-          (bool_cases (same_key k q)),
+          (cases_Bool (same_key k q)),
       ⊎_elim
           (λ (one : p ≡ r). subst (IsVacantAt n.slots.items) one (vacant-place m n k p t sound at vacant slots))
           (λ (other : p ≡ r → ⊥). (v.1.0, ap (λ xs. slice_get xs r) slots ∙ slice_get-set_other m.slots.items p r t other ∙ v.1.1, v.1.2))
-          (nat_cases p r),
+          (cases_eq p r),
     )

@@ -10,7 +10,8 @@ use Rattle.std.proofs.lemmas.Map.Keys.{sorted_head, sorted_tail}
 use Rattle.mv_storage.specs.Map.{overwritten}
 use Rattle.mv_storage.specs.Slots.{shown_before}
 use Rattle.mv_storage.proofs.Keys.{key_before-is, same_key-is, same_key-symm, same_key-to}
-use Rattle.mv_storage.proofs.Maps.{bool_cases, words_under-below, words_under-with_words, words_under-without_words, Ascends-with_words, Ascends-without_words, entries_from_words}
+use Rattle.mv_storage.proofs.Maps.{words_under-below, words_under-with_words, words_under-without_words, Ascends-with_words, Ascends-without_words, entries_from_words}
+use Rattle.std.proofs.lemmas.Bool.{cases_Bool}
 
 -- places whose keys ascend
 abbrev pub InOrder : List (Key × ℕ) → Type 0
@@ -50,7 +51,7 @@ words_under-found layer slots (e ∷ es) q s =
     (λ (off : same_key e.0 q ≡ false).
     let past : is_eq (key_cmp q e.0) ≡ false = sym (same_key-is q e.0) ∙ same_key-symm q e.0 ∙ off in
     rw past (missed (layer_at layer (slice_get slots e.1)) off ∙ words_under-found layer slots es q (sorted_tail key_cmp e.0 (keys_of es) s)))
-    (bool_cases (same_key e.0 q))
+    (cases_Bool (same_key e.0 q))
   where
     hit : (o : Option (List ℕ)) → same_key e.0 q ≡ true → words_under (shown layer slots es) q ≡ None → words_under (shown_before e.0 o (shown layer slots es)) q ≡ o
     hit None here none = none
@@ -97,7 +98,7 @@ shown-without l m n k s t h =
 -- at one key what was there
 same-at : {X : Type 0} (f : Key → X) (k q : Key) → cond (same_key k q) (f k) (f q) ≡ f q
 same-at f k q =
-    ⊎_elim (λ (t : same_key k q ≡ true). rw t (ap f (same_key-to k q t))) (λ (f : same_key k q ≡ false). rw f refl) (bool_cases (same_key k q))
+    ⊎_elim (λ (t : same_key k q ≡ true). rw t (ap f (same_key-to k q t))) (λ (f : same_key k q ≡ false). rw f refl) (cases_Bool (same_key k q))
 
 unchanged : (l : Layer) (m n : Places) (k : Key) (v : Option (List ℕ)) → IsOrdered key_cmp m.tree → IsOrdered key_cmp n.tree → v ≡ value_at l m k
     → ((q : Key) → value_at l n q ≡ cond (same_key k q) v (value_at l m q))
@@ -127,7 +128,7 @@ shown-edit l m n k from new s t h = by (value_at l m k) refl (words_under-shown 
         ⊎_elim
         (λ (room : nat_le (from + length new) (length old) ≡ true). rw room (shown-with l m n k (take from old ++ new ++ drop (from + length new) old) s t (rw room at h)))
         (λ (none : nat_le (from + length new) (length old) ≡ false). rw none (unchanged l m n k (Some old) s t e (rw none at h)))
-        (bool_cases (nat_le (from + length new) (length old))))
+        (cases_Bool (nat_le (from + length new) (length old))))
 
 -- ---- slots that no run has changed
 

@@ -6,11 +6,10 @@ use Rattle.mv_storage.proofs.Common.{Committed, Current, Slot, Vacant}
 use Rattle.std.specs.BTreeMap.{BTreeMap}
 use Rattle.std.specs.List.{list_any}
 use Rattle.std.proofs.lemmas.List.Folds.{list_any-append}
-use Rattle.std.proofs.lemmas.Bool.{or_left}
+use Rattle.std.proofs.lemmas.Bool.{or_left, cases_Bool}
 use Rattle.mv_storage.specs.Map.{Layers}
 use Rattle.mv_storage.specs.Slots.{is_change, ArePlaced, IsSettled, IsSettledAt, ShowsAt, layers}
 use Rattle.mv_storage.proofs.Keys.{same_key-is, same_key-refl, same_key-symm, same_key-to}
-use Rattle.mv_storage.proofs.Maps.{bool_cases}
 use Rattle.mv_storage.proofs.PlaceLemmas.{HasAt, HasPlace, Put, place-read, settling-used, wrote-at, removed-at, used-not_vacant, same-sound, same-slots, same-settling, wrote-settling}
 use Rattle.mv_storage.proofs.PlaceLemmas.{removed-settling, slice_set-again, slice_set-read}
 use Rattle.mv_storage.proofs.Shown.{shown_of, words_under-shown, shown-same, layers-same}
@@ -29,7 +28,7 @@ at-same k q = sym (same_key-is k q)
 pub has-shows : (layer : Layer) (m n : Places) (k : Key) (slot : Option Slot) (o : Option (List ℕ)) → HasAt m n k slot → layer_at layer slot ≡ o → ShowsAt layer k o m n
 has-shows layer m n k slot o has is q =
     ap (layer_at layer) (has q)
-    ∙ ⊎_elim (λ (here : same_key k q ≡ true). rw here is) (λ (off : same_key k q ≡ false). rw off refl) (bool_cases (same_key k q))
+    ∙ ⊎_elim (λ (here : same_key k q ≡ true). rw here is) (λ (off : same_key k q ≡ false). rw off refl) (cases_Bool (same_key k q))
 
 pub has-same : (layer : Layer) (m n : Places) (k : Key) (slot : Option Slot) → HasAt m n k slot → layer_at layer slot ≡ value_at layer m k → ShowsSame layer m n
 has-same layer m n k slot has is q =
@@ -37,7 +36,7 @@ has-same layer m n k slot has is q =
     ∙ ⊎_elim
     (λ (here : same_key k q ≡ true). rw here (ap (value_at layer m) (same_key-to k q here)))
     (λ (off : same_key k q ≡ false). rw off refl)
-    (bool_cases (same_key k q))
+    (cases_Bool (same_key k q))
 
 -- ---- the keys touched
 
@@ -67,7 +66,7 @@ noted-at m n k slot touched more has noted grows now q h =
     (λ (off : same_key k q ≡ false).
     let is : slot_at n q ≡ slot_at m q = has q ∙ ap (λ b. cond b slot (slot_at m q)) off in
     grows q (noted q (sym (ap is_changed is) ∙ h)))
-    (bool_cases (same_key k q))
+    (cases_Bool (same_key k q))
 
 pub noted-same : (m n : Places) (touched more : List (Key × ℕ)) → ((q : Key) → slot_at n q ≡ slot_at m q) → AreNoted m touched
     → ((q : Key) → list_any (λ t. same_key q t.0) touched ≡ true → list_any (λ t. same_key q t.0) more ≡ true)
@@ -94,17 +93,13 @@ pub settling-rest : (m n : Places) (rest : List (Key × ℕ)) (u : Key × ℕ) �
 settling-rest m n [] u keep h = tt
 settling-rest m n (t ∷ ts) u keep h = (keep t.0 t.1 h.0, settling-rest m n ts u keep h.1)
 
-pub none_from_test : {X : Type 0} (o : Option X) → is_some o ≡ false → o ≡ None
-none_from_test None e = refl
-none_from_test (Some x) e = cc
-
 -- no slot has a key that does not fit
 pub no_slot : (p : Places) (q : Key) → IsSound p → 65536 ≤ q.place → slot_at p q ≡ None
 no_slot p q sound big =
     ⊎_elim
     (λ (there : is_some (get key_cmp p.tree q) ≡ true). absurd (omega (arith, sound.fits q there)))
-    (λ (none : is_some (get key_cmp p.tree q) ≡ false). ap (λ x. option_and_then (slice_get p.slots.items) x) (none_from_test (get key_cmp p.tree q) none))
-    (bool_cases (is_some (get key_cmp p.tree q)))
+    (λ (none : is_some (get key_cmp p.tree q) ≡ false). ap (λ x. option_and_then (slice_get p.slots.items) x) (let nothing : get key_cmp p.tree q ≡ None = grind (arith, none) in nothing))
+    (cases_Bool (is_some (get key_cmp p.tree q)))
 
 -- ---- a slot that is written
 
@@ -126,7 +121,7 @@ tracked-put m n k s t touched more had is put grows now placed = record {
       ⊎_elim
       (λ (was : is_change s ≡ true). grows k (had.noted k (ap is_changed is ∙ was)))
       (λ (not : is_change s ≡ false). now not changed)
-      (bool_cases (is_change s)));
+      (cases_Bool (is_change s)));
   placed = placed;
 }
 
@@ -181,7 +176,7 @@ placed-added m n k p touched none gets placed =
     ⊎_elim
     (λ (here : same_key k q ≡ true). let b : None ≡ Some place = sym none ∙ ap (get key_cmp m.tree) (same_key-to k q here) ∙ e in cc)
     (λ (off : same_key k q ≡ false). gets q ∙ ap (λ b. cond b (Some p) (get key_cmp m.tree q)) off ∙ e)
-    (bool_cases (same_key k q))) placed)
+    (cases_Bool (same_key k q))) placed)
 
 pub tracked-added : (m n : Places) (k : Key) (p : ℕ) (t : Slot) (touched : List (Key × ℕ)) → IsTracked m touched → get key_cmp m.tree k ≡ None
     → Put m n k t → HasPlace m n k (Some p) → IsTracked n (touched ++ (k, p) ∷ [])
@@ -199,7 +194,7 @@ placed-same m n k p touched at gets placed =
     ⊎_elim
     (λ (here : same_key k q ≡ true). gets q ∙ ap (λ b. cond b (Some p) (get key_cmp m.tree q)) here ∙ sym at ∙ ap (get key_cmp m.tree) (same_key-to k q here) ∙ e)
     (λ (off : same_key k q ≡ false). gets q ∙ ap (λ b. cond b (Some p) (get key_cmp m.tree q)) off ∙ e)
-    (bool_cases (same_key k q))) placed
+    (cases_Bool (same_key k q))) placed
 
 pub placed-entries : (a b : BTreeMap Key ℕ) (touched : List (Key × ℕ)) → b.entries ≡ a.entries → ArePlaced a touched → ArePlaced b touched
 placed-entries a b touched same placed =
@@ -225,7 +220,7 @@ noted-rest m n rest u noted done others q h =
     (λ (off : same_key u.0 q ≡ false).
     let had : is_changed (slot_at m q) ≡ true = ap is_changed (sym (others q off)) ∙ h in
     or-left (list_any (λ t. same_key q t.0) rest) (same_key q u.0) (sym (list_any-append (λ t. same_key q t.0) rest (u ∷ [])) ∙ noted q had) (same_key-symm q u.0 ∙ off))
-    (bool_cases (same_key u.0 q))
+    (cases_Bool (same_key u.0 q))
 
 -- a slot under a key, and those of the others
 pub has-here : (m n : Places) (k : Key) (slot : Option Slot) → HasAt m n k slot → slot_at n k ≡ slot
@@ -286,7 +281,7 @@ settles-removed layer m n k p s t sound settling is stands empty order gets slot
     let gone = removed-at m n k p (Vacant m.free) sound (inl at) order gets once in
     record {
       sound = gone.sound;
-      same = has-same layer m n k None gone.has (sym (none_from_test (of_layer layer s) (sym empty)) ∙ ap (layer_at layer) (sym (slot-read m k p s sound at is)));
+      same = has-same layer m n k None gone.has (sym (let none = sym empty in let nothing : of_layer layer s ≡ None = grind (arith, none) in nothing) ∙ ap (layer_at layer) (sym (slot-read m k p s sound at is)));
       settled = ap is_changed (has-here m n k None gone.has);
       others = has-off m n k None gone.has;
       settling = removed-settling m n k p (Vacant m.free) sound at refl gets once;

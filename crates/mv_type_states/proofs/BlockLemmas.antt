@@ -8,22 +8,15 @@ use Rattle.std.proofs.Common.{drop-cons}
 use Rattle.std.specs.Bool.{then_some}
 use Rattle.std.specs.Option.{option_map_or}
 use Rattle.std.proofs.lemmas.Bool.{le-leb, false≢true, and_parts}
-use Rattle.std.proofs.lemmas.List.{append-nil, drop_all}
+use Rattle.std.proofs.lemmas.List.{append-nil, drop_all, drop_more}
 use Rattle.mv_cfg.specs.Blocks.{BasicBlock, blocks}
 use Rattle.mv_stack_use.specs.Heights.{raised}
 use Rattle.mv_type_states.proofs.HeightLemmas.{bind_some, has_effect}
+use Rattle.mv_binary_format.proofs.Binds.{cond_parts}
 
 -- the types before each instruction of a block
 abbrev pub types_in : Module → FunctionDefinition → BasicBlock → List Types
 types_in m d b = types_each m d (slice_range d.code b.first (b.last + 1)) []
-
--- the next element, and those after it
-drop-next : {A : Type 0} (xs : List A) (n : ℕ) (x : A) → n < length xs → drop n xs ≡ get_or xs n x ∷ drop (n + 1) xs
-drop-next xs n x below = rw add-one (drop-cons xs n x below)
-
-cond_true : (b : Bool) (o : Option Types) (t : Types) → cond b o None ≡ Some t → (b ≡ true) × (o ≡ Some t)
-cond_true true o t e = (refl, e)
-cond_true false o t e = absurd (none-some t e)
 
 then_some_on : (b : Bool) (n : ℕ) (f : ℕ → Option ℕ) → IsSome (then_some b n >>= f) → (b ≡ true) × IsSome (f n)
 then_some_on true n f h = (refl, h)
@@ -63,7 +56,7 @@ module _ (m : Module) (d : FunctionDefinition) where
       → whole ≡ types_through m d (drop n code) s → IsSome (height_through m d (drop n code) (length s)) → types_after m d (get_or code n i) s ≡ Some after
       → (whole ≡ types_through m d (drop (n + 1) code) after) × IsSome (height_through m d (drop (n + 1) code) (length after))
   carried code n i s after whole below is room there =
-      let at = drop-next code n i below in
+      let at = drop_more code n i below in
       let next = through-next (get_or code n i) (drop (n + 1) code) s after there (subst (λ (is : List Instruction). IsSome (height_through m d is (length s))) at room) in
       (is ∙ ap (λ is. types_through m d is s) at ∙ next.0, next.1)
 
@@ -73,14 +66,14 @@ module _ (m : Module) (d : FunctionDefinition) where
   listed code n i s after old whole below there is =
       let rest = drop (n + 1) code in
       let each : types_each m d (drop n code) s ≡ s ∷ types_each m d rest after =
-      ap (λ is. types_each m d is s) (drop-next code n i below) ∙ ap (λ o. s ∷ option_map_or (types_each m d rest) o []) there in
+      ap (λ is. types_each m d is s) (drop_more code n i below) ∙ ap (λ o. s ∷ option_map_or (types_each m d rest) o []) there in
       append_assoc old (s ∷ []) (types_each m d rest after) ∙ ap (λ l. old ++ l) (sym each) ∙ is
 
   -- where an instruction is refused, so is what is left
   pub carried_refused : (code : List Instruction) (n : ℕ) (i : Instruction) (s new after : Types) (whole : Option Types) (e : Refusal) → n < length code → whole ≡ types_through m d (drop n code) s
       → Follows (Err e) (types_after m d (get_or code n i) s) new → Follows (Err e) whole after
   carried_refused code n i s new after whole (Phase p) below is r =
-      (r.0, is ∙ ap (λ is. types_through m d is s) (drop-next code n i below) ∙ ap (λ o. o >>= λ t. cond (nat_le (length t) 128) (types_through m d (drop (n + 1) code) t) None) r.1)
+      (r.0, is ∙ ap (λ is. types_through m d is s) (drop_more code n i below) ∙ ap (λ o. o >>= λ t. cond (nat_le (length t) 128) (types_through m d (drop (n + 1) code) t) None) r.1)
   carried_refused code n i s new after whole Memory below is r = tt
 
   -- where none is left, the types are as they are
@@ -95,7 +88,7 @@ module _ (m : Module) (d : FunctionDefinition) where
   heights-through [] s t e = ap (λ x. Some (length x)) (same_Some s t e)
   heights-through (i ∷ is) s t e =
       let h = bind_some (types_after m d i s) _ t e in
-      let low = cond_true (nat_le (length h.0) 128) (types_through m d is h.0) t h.1.1 in
+      let low = cond_parts (nat_le (length h.0) 128) (types_through m d is h.0) t h.1.1 in
       let p = has_effect m d i s h.0 h.1.0 in
       rw (p.is_effect, raised_to (length s) p.effect (length h.0) p.changes.0 p.changes.1 low.0) (heights-through is h.0 t low.1)
 
@@ -112,7 +105,7 @@ module _ (m : Module) (d : FunctionDefinition) where
       → (whole ≡ list_all (block_is_typed m d) (map (basic_block_of g) (drop (k + 1) bs)))
       × (IsTrue (list_all (block_is_level m d) (map (basic_block_of g) (drop (k + 1) bs))) × (length t ≡ 0))
   walked g bs k b t whole below is_b is level there =
-      let at : drop k bs ≡ b ∷ drop (k + 1) bs = subst (λ (x : Block). drop k bs ≡ x ∷ drop (k + 1) bs) (sym is_b) (drop-next bs k b below) in
+      let at : drop k bs ≡ b ∷ drop (k + 1) bs = subst (λ (x : Block). drop k bs ≡ x ∷ drop (k + 1) bs) (sym is_b) (drop_more bs k b below) in
       let rest = map (basic_block_of g) (drop (k + 1) bs) in
       let both = and_parts (block_is_level m d (basic_block_of g b)) (list_all (block_is_level m d) rest)
       (subst (λ (xs : List Block). IsTrue (list_all (block_is_level m d) (map (basic_block_of g) xs))) at level) in
@@ -128,14 +121,14 @@ module _ (m : Module) (d : FunctionDefinition) where
       → old ++ flat_map (types_in m d) (map (basic_block_of g) (drop k bs)) ≡ whole → new ≡ old ++ types_in m d (basic_block_of g b)
       → new ++ flat_map (types_in m d) (map (basic_block_of g) (drop (k + 1) bs)) ≡ whole
   listed_block g bs k b old new whole below is_b is one =
-      let at : drop k bs ≡ b ∷ drop (k + 1) bs = subst (λ (x : Block). drop k bs ≡ x ∷ drop (k + 1) bs) (sym is_b) (drop-next bs k b below) in
+      let at : drop k bs ≡ b ∷ drop (k + 1) bs = subst (λ (x : Block). drop k bs ≡ x ∷ drop (k + 1) bs) (sym is_b) (drop_more bs k b below) in
       let rest = flat_map (types_in m d) (map (basic_block_of g) (drop (k + 1) bs)) in
       ap (λ l. l ++ rest) one ∙ append_assoc old (types_in m d (basic_block_of g b)) rest
       ∙ sym (ap (λ l. old ++ flat_map (types_in m d) (map (basic_block_of g) l)) at) ∙ is
 
   -- the next of a function's blocks
   next_block : (bs : List Block) (k : ℕ) (b : Block) → k < length bs → b ≡ get_or bs k b → drop k bs ≡ b ∷ drop (k + 1) bs
-  next_block bs k b below is_b = subst (λ (x : Block). drop k bs ≡ x ∷ drop (k + 1) bs) (sym is_b) (drop-next bs k b below)
+  next_block bs k b below is_b = subst (λ (x : Block). drop k bs ≡ x ∷ drop (k + 1) bs) (sym is_b) (drop_more bs k b below)
 
   some_height : (o : Option ℕ) → option_map_or (λ h. nat_eq h 0) o false ≡ true → IsSome o
   some_height None h = absurd (false≢true h)

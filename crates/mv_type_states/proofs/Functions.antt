@@ -9,11 +9,10 @@ use Rattle.mv_signatures.specs.Signatures.{WellSigned}
 use Rattle.mv_abilities.specs.Abilities.{AbilitiesHold}
 use Rattle.mv_cfg.specs.Blocks.{ends_well, FlowHolds}
 use Rattle.mv_cfg.specs.FlowGraph.{IsFlowGraph}
-use Rattle.mv_cfg.proofs.Tables.{slice_get-push}
 use Rattle.mv_type_states.specs.TypesHold.{TypesHold}
 use Rattle.mv_type_states.specs.Sound.{FailsTypes, ill_signed, unable, endless, ill_typed, IsRefusedByTypes}
-use Rattle.mv_type_states.proofs.Stacks.{list_all-at, list_all-each}
-pub use Rattle.mv_cfg.proofs.Graphs.{element_at as slice_get-there}
+use Rattle.mv_type_states.proofs.Stacks.{list_all-each}
+use Rattle.mv_bounds.proofs.Entries.{last_or_before, all_at, element_at}
 
 -- what is refused for a part is refused for the whole
 pub refused-wider : (phase : ℕ) (part whole : Type 0) (e : Refusal) → (whole → part) → IsRefusedIn phase part e → IsRefusedIn phase whole e
@@ -27,9 +26,9 @@ AreGraphs-push fs n gs g p there new = record {
   each = λ f d h at there. ⊎_elim
       (λ old. p.each f d h at old)
       (λ last. let is_n : f ≡ n = last.0 ∙ p.entries in
-      subst (λ (x : Cfg). IsFlowGraph d.code x) (sym last.1)
+      subst (λ (x : Cfg). IsFlowGraph d.code x) last.1
       (MatchOption-at_some _ (λ (x : FunctionDefinition). IsFlowGraph x.code g) d (subst (λ (i : ℕ). slice_get fs i ≡ Some d) is_n at) new))
-      (slice_get-push gs g f h there);
+      (last_or_before gs g f h there);
 }
 
 -- each function has a graph, so each ends well
@@ -38,19 +37,19 @@ FlowHolds-from_AreGraphs m gs p =
     list_all-each (λ (d : FunctionDefinition). ends_well d.code) m.functions
     (λ f d at. let in_fs = slice_get_within m.functions f d at in
     let size = p.entries in
-    let graph = slice_get-there gs f (omega arith) in (p.each f d graph.0 at graph.1).ends)
+    let graph = element_at gs f (omega arith) in (p.each f d graph.0 at graph.1).ends)
 
 -- where all functions end well, each does
 pub ends-from_FlowHolds : (m : Module) (f : ℕ) (d : FunctionDefinition) → slice_get m.functions f ≡ Some d → FlowHolds m → IsTrue (ends_well d.code)
-ends-from_FlowHolds m f d at h = list_all-at (λ (x : FunctionDefinition). ends_well x.code) m.functions f d h at
+ends-from_FlowHolds m f d at h = all_at (λ (x : FunctionDefinition). ends_well x.code) m.functions f d h at
 
 pub typed-from_TypesHold : (m : Module) (f : ℕ) (d : FunctionDefinition) → slice_get m.functions f ≡ Some d → TypesHold m → IsTrue (function_is_typed m d)
-typed-from_TypesHold m f d at h = list_all-at (function_is_typed m) m.functions f d h at
+typed-from_TypesHold m f d at h = all_at (function_is_typed m) m.functions f d h at
 
 -- a refusal of function f in phase 7 is one of the module
 pub flow_refused : (m : Module) (f : ℕ) (e : Refusal) → f < length m.functions → IfSome (slice_get m.functions f) (λ d. IsRefusedIn 7 (IsTrue (ends_well d.code)) e) → IsRefusedIn 7 (FlowHolds m) e
 flow_refused m f e there r =
-    let d = slice_get-there m.functions f there in
+    let d = element_at m.functions f there in
     refused-wider 7 (IsTrue (ends_well d.0.code)) (FlowHolds m) e (ends-from_FlowHolds m f d.0 d.1)
     (MatchOption-at_some _ (λ (x : FunctionDefinition). IsRefusedIn 7 (IsTrue (ends_well x.code)) e) d.0 d.1 r)
 
@@ -58,12 +57,12 @@ flow_refused m f e there r =
 pub types_refused : (m : Module) (f : ℕ) (e : Refusal) → f < length m.functions → IfSome (slice_get m.functions f) (λ d. IsRefusedIn 8 (IsTrue (function_is_typed m d)) e)
     → IsRefusedIn 8 (TypesHold m) e
 types_refused m f e there r =
-    let d = slice_get-there m.functions f there in
+    let d = element_at m.functions f there in
     refused-wider 8 (IsTrue (function_is_typed m d.0)) (TypesHold m) e (typed-from_TypesHold m f d.0 d.1)
     (MatchOption-at_some _ (λ (x : FunctionDefinition). IsRefusedIn 8 (IsTrue (function_is_typed m x)) e) d.0 d.1 r)
 
 -- what holds of what is found, wherever it is found
-if_found : {A : Type 0} (found : Option A) (P : A → Type 0) → ((x : A) → found ≡ Some x → P x) → IfSome found P
+pub if_found : {A : Type 0} (found : Option A) (P : A → Type 0) → ((x : A) → found ≡ Some x → P x) → IfSome found P
 if_found None P h = tt
 if_found (Some x) P h = h x refl
 
@@ -90,7 +89,7 @@ AreTyped-push m n before new k d below at =
 pub types_listed : (m : Module) (n : ℕ) (all : List Types) (old : List (List Types)) → n < length m.functions → IfSome (slice_get m.functions n) (λ d. all ≡ types_before m d)
     → old ≡ map (types_before m) (take n m.functions) → old ++ all ∷ [] ≡ map (types_before m) (take (n + 1) m.functions)
 types_listed m n all old below here is =
-    let d = slice_get-there m.functions n below in
+    let d = element_at m.functions n below in
     let one = MatchOption-at_some _ (λ (x : FunctionDefinition). all ≡ types_before m x) d.0 d.1 here in
     let more : take (n + 1) m.functions ≡ take n m.functions ++ d.0 ∷ [] =
     take_more m.functions n d.0 below ∙ ap (λ x. take n m.functions ++ x ∷ []) (get_or_from_slice_get m.functions n d.0 d.0 d.1) in
@@ -101,7 +100,7 @@ types_listed m n all old below here is =
 pub listed_at : {A B : Type 0} (v : A → B) (h : FunctionDefinition → B) (fs : List FunctionDefinition) (f : ℕ) (x : A) (xs : List A) → map v xs ≡ map h fs → f < length fs → x ≡ get_or xs f x
     → IfSome (slice_get fs f) (λ d. v x ≡ h d)
 listed_at v h fs f x xs is below at =
-    let d = slice_get-there fs f below in
+    let d = element_at fs f below in
     let within : f < length xs = omega (arith, ap length is, length-map xs v, length-map fs h) in
     let here : Some (v x) ≡ Some (h d.0) =
     ap (λ t. Some (v t)) at ∙ sym (ap (option_map v) (slice_get-get_or xs f x within)) ∙ sym (slice_get-map v xs f) ∙ ap (λ l. slice_get l f) is ∙ slice_get-map h fs f ∙ ap (option_map h) d.1 in

@@ -8,7 +8,7 @@ use Rattle.std.proofs.lemmas.List.{reverse-reverse}
 use Rattle.std.proofs.Math.Seq.{set-append_seam}
 use Rattle.std.proofs.lemmas.Bool.{ne_eqb, eqb-false}
 use Rattle.std.proofs.Math.Dec.{eqb-suc-zero}
-pub use Rattle.mv_bounds.proofs.FunctionLemmas.{all_at as list_all-at}
+use Rattle.std.proofs.Math.Bool.{and_assoc}
 
 -- a push puts a type on top
 pub reverse-push : (xs : List Token) (x : Token) → reverse (xs ++ x ∷ []) ≡ x ∷ reverse xs
@@ -84,16 +84,12 @@ pushed_fields fields n f first old new below is there =
     let one : map (λ f. f.token) (take n fields ++ get_or fields n f ∷ []) ≡ map (λ f. f.token) (take n fields) ++ token ∷ [] = rw map-append refl in
     all ∙ front ∙ ap (λ xs. first ++ xs) (sym one) ∙ ap (λ fs. first ++ map (λ f. f.token) fs) (sym (take_more fields n f below))
 
-and_assoc : (a b c : Bool) → (a && (b && c)) ≡ ((a && b) && c)
-and_assoc true b c = refl
-and_assoc false b c = refl
-
 same_tokens-front : (r s : List Token) → same_tokens s r ≡ (same_tokens (take (length r) s) r && nat_eq (length (drop (length r) s)) 0)
 same_tokens-front [] [] = refl
 same_tokens-front [] (x ∷ s) = sym (eqb-suc-zero (length s))
 same_tokens-front (y ∷ r) [] = refl
 same_tokens-front (y ∷ r) (x ∷ s) =
-    ap (λ b. same_token x y && b) (same_tokens-front r s) ∙ and_assoc (same_token x y) (same_tokens (take (length r) s) r) (nat_eq (length (drop (length r) s)) 0)
+    ap (λ b. same_token x y && b) (same_tokens-front r s) ∙ sym (and_assoc (same_token x y) (same_tokens (take (length r) s) r) (nat_eq (length (drop (length r) s)) 0))
 
 provided_both : (b : Bool) (d : Types) → provided (b && nat_eq (length d) 0) [] ≡ (provided b d >>= λ below. provided (nat_eq (length below) 0) [])
 provided_both true d = refl

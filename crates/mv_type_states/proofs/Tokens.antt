@@ -19,7 +19,7 @@ kind_of-code k = refl
 pub kinds_equal : (j k : LeafKind) → same_kind j k ≡ true → j ≡ k
 kinds_equal j k e = sym (kind_of-code j) ∙ ap kind_of (eqb-true (kind_code j) (kind_code k) e) ∙ kind_of-code k
 
-value_types_equal : (a b : ValueType) → same_value_type a b ≡ true → a ≡ b
+pub value_types_equal : (a b : ValueType) → same_value_type a b ≡ true → a ≡ b
 value_types_equal (OfLeaf j) (OfLeaf k) e = ap (λ x. OfLeaf x) (kinds_equal j k e)
 value_types_equal (OfStruct i) (OfStruct j) e = ap (λ x. OfStruct x) (eqb-true i j e)
 value_types_equal a b e = cc

@@ -34,3 +34,7 @@ pub record Point : Type 0 where
   pub home : Module
   pub function : FunctionDefinition
   pub types : Types
+
+-- where a function stands, with these types on the stack
+abbrev pub point_at : Module → FunctionDefinition → Types → Point
+point_at m d types = record { home = m; function = d; types = types }

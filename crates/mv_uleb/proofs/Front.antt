@@ -6,9 +6,9 @@ use Rattle.std.proofs.lemmas.Option.{some_pair_parts, none-some}
 use Rattle.std.proofs.lemmas.Bool.{false≢true}
 use Rattle.mv_uleb.specs.declared.UlebError.{UlebError}
 use Rattle.mv_uleb.specs.declared.UlebError.TheVariants.{Ends, Long, Range}
-use Rattle.mv_uleb.specs.Uleb.{IsUleb, uleb}
+use Rattle.mv_uleb.specs.Uleb.{IsUleb, uleb, AreHigh}
 use Rattle.mv_uleb.specs.Parsing.{spelled, with_low, number_from}
-use Rattle.mv_uleb.specs.Reading.{AreHigh, Spells, EndsWithin, IsLongWithin, IsEndless, IsAbove, IsBeyondWithin, Gives}
+use Rattle.mv_uleb.specs.Reading.{Spells, EndsWithin, IsLongWithin, IsEndless, IsAbove, IsBeyondWithin, Gives}
 use Rattle.mv_uleb.proofs.Spelled.{IsUleb-more, spelled-further, spelled-front, with_low-parts, number_from-some, number_from-above, number_from-none, number_from-uleb}
 
 -- the same reason after one more byte

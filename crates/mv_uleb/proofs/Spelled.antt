@@ -126,7 +126,7 @@ unfolding uleb
 IsUleb-uleb n lt = IsUleb-uleb_in 9 n lt
 
 -- what a test lets through
-then_some-parts : {A : Type 0} (b : Bool) (x y : A) → then_some b x ≡ Some y → (b ≡ true) × (x ≡ y)
+pub then_some-parts : {A : Type 0} (b : Bool) (x y : A) → then_some b x ≡ Some y → (b ≡ true) × (x ≡ y)
 then_some-parts true x y e = (refl, same_Some x y e)
 then_some-parts false x y e = absurd (none-some y e)
 

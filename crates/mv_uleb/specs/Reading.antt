@@ -1,13 +1,8 @@
 -- Why no number up to a greatest one, of at most so many bytes, stands at the front of bytes.
-use Rattle.std.specs.Prelude.{◌≡◌, ℕ, ◌<◌, ◌≤◌, List, [], ◌∷◌, ◌++◌, length, take, ◌⊎◌, Result, Ok, Err}
-use Rattle.mv_uleb.specs.Uleb.{IsUleb}
+use Rattle.std.specs.Prelude.{◌≡◌, ℕ, ◌<◌, ◌≤◌, List, ◌∷◌, ◌++◌, length, take, ◌⊎◌, Result, Ok, Err}
+use Rattle.mv_uleb.specs.Uleb.{IsUleb, AreHigh}
 use Rattle.mv_uleb.specs.declared.UlebError.{UlebError}
 use Rattle.mv_uleb.specs.declared.UlebError.TheVariants.{Ends, Long, Range}
-
--- each byte has its high bit: a further byte belongs to the number
-abbrev pub AreHigh : List ℕ → Type 0
-AreHigh [] = Unit {0}
-AreHigh (b ∷ bytes) = (128 ≤ b) × AreHigh bytes
 
 -- the front spells the number
 pub record Spells (most max : ℕ) (bytes : List ℕ) (number used : ℕ) : Type 0 where

@@ -13,6 +13,11 @@ IsUleb (b ∷ c ∷ bytes) n =
 abbrev pub IsUlebUpTo : ℕ → List ℕ → ℕ → Type 0
 IsUlebUpTo max bytes n = IsUleb bytes n × (n ≤ max)
 
+-- each byte has its high bit: another one belongs to the number
+abbrev pub AreHigh : List ℕ → Type 0
+AreHigh [] = Unit {0}
+AreHigh (b ∷ bytes) = (128 ≤ b) × AreHigh bytes
+
 -- the form of a number, in at most so many bytes
 abbrev pub uleb_in : ℕ → ℕ → List ℕ
 uleb_in zero n = n ∷ []

@@ -1,5 +1,5 @@
 -- A frame stays covered where references go, are renamed or come in, and edges grow.
-use Rattle.std.proofs.Common.{◌≡◌, ℕ, List, ◌++◌, Bool, true, false, ◌⊎◌, inl, inr, sym, ◌∙◌, ap, ap₂, append_assoc, Option, Some}
+use Rattle.std.proofs.Common.{◌≡◌, ℕ, List, ◌++◌, true, ◌⊎◌, inl, inr, sym, ◌∙◌, ap, ap₂, append_assoc, Option, Some}
 use Rattle.std.proofs.Math.Decide.{ℕ_discrete}
 use Rattle.mv_borrow_graph.specs.Abstract.Places.{Defined, Local, Global, Place, Below, Overlap, Label, Reach, Matches, LabelBelow, under}
 use Rattle.mv_borrow_graph.proofs.Abstract.Places.{below_trans, overlap_sym, overlap_above, reach_above, matches_above}
@@ -146,9 +146,6 @@ node_same _ _ = no (λ h. cc)
 
 pub one_ref : (f : Frame) (n : Node) (q r : Ref) → Live f n q → Live f n r → q ≡ r
 one_ref f n q r h k = cc
-
-pub only_true : {b : Bool} → b ≡ false → b ≡ true → ⊥
-only_true h k = cc
 
 pub reach_along : (x : Label) (a b : List ℕ) → a ≡ b → Reach x b → Reach x a
 reach_along x a b h r = rw h r

@@ -5,7 +5,8 @@ use Rattle.mv_borrow_graph.specs.Abstract.Places.{Defined, Local, Global, Place,
 use Rattle.mv_borrow_graph.proofs.Abstract.Places.{begins_self, overlap_sym, reach_extend, matches_apart}
 use Rattle.mv_borrow_graph.specs.Abstract.Covers.{Node, Slot, Own, Glob, Temp, Ref, Frame, with_refs, Live, Edges, FromOwn, FromStore, Covers}
 use Rattle.mv_borrow_graph.specs.Abstract.Rows.{after_copy, after_copy_mutable, apart_from, after_field, after_freeze, after_borrow}
-use Rattle.mv_borrow_graph.proofs.Abstract.Covers.{covers_pull, covers_put, covers_derived, only_true}
+use Rattle.mv_borrow_graph.proofs.Abstract.Covers.{covers_pull, covers_put, covers_derived}
+use Rattle.std.proofs.lemmas.Bool.{both_ways}
 
 under_nil : (p : Place) → p ≡ under p []
 under_nil p = λ i. record { root = p.root; path = sym (append-nil p.path) i }
@@ -24,8 +25,8 @@ module _ (f : Frame) (e : Edges) (refs : Node → Option Ref) (cover : Covers f 
       covers_derived f e (after_copy l k e) refs k from (Slot l) from [] (λ x. x) cover pushed
       (λ p x n d w g. inl g) h (λ z w. cc) (λ z w. cc) (under_nil from.place) (λ w. w) reach_nil
       (λ p x d w g. inr (refl, g))
-      (λ n x r d w g t u v o a. only_true m t)
-      (λ d g a. elim a [ inl t ↦ absurd (only_true m t) | inr t ↦ absurd (only_true m t) ])
+      (λ n x r d w g t u v o a. both_ways _ m t)
+      (λ d g a. elim a [ inl t ↦ absurd (both_ways _ m t) | inr t ↦ absurd (both_ways _ m t) ])
 
   pub row_copy_mutable : (l : ℕ) (from : Ref) → Live f (Slot l) from → from.mutable ≡ true → Pushed f refs k from
       → ((x : Label) (c : Node) → e (Slot l) x c → ⊥)
@@ -59,7 +60,7 @@ module _ (f : Frame) (e : Edges) (refs : Node → Option Ref) (cover : Covers f 
       (λ p x n d w g. inl (d, w, g)) h (λ z w. cc) (λ z w. cc) refl (λ w. cc) (λ x q r. reach_extend x position q r)
       (λ p x d w g. inr (refl, d, x, g, refl))
       (λ n x r d w g t u v o a. elim a [
-        | inl b ↦ only_true refl b
+        | inl b ↦ both_ways _ refl b
         | inr b ↦ matches_apart x position from.place r.place v (need x n u (typed n r g ∙ b)) (overlap_sym (field_of from.place position) r.place o)
       ])
       (λ d g a. absurd (d refl))
@@ -73,7 +74,7 @@ module _ (f : Frame) (e : Edges) (refs : Node → Option Ref) (cover : Covers f 
       [] (λ x. x) cover pushed
       (λ p x n d w g. (d, g)) h (λ z w. cc) (λ z w. cc) (under_nil from.place) (λ w. cc) reach_nil
       (λ p x d w g. (d, g))
-      (λ n x r d w g t u v o a. elim a [ inl b ↦ only_true refl b | inr b ↦ need x n u (typed n r g ∙ b) ])
+      (λ n x r d w g t u v o a. elim a [ inl b ↦ both_ways _ refl b | inr b ↦ need x n u (typed n r g ∙ b) ])
       (λ d g a. absurd (d refl))
 
   own_edge : (n : Node) (r : Ref) (l : ℕ) → Live f n r → Overlap (record { root = Local f.number l; path = [] }) r.place → (x : Label) × e (Own l) x n
@@ -112,7 +113,7 @@ module _ (f : Frame) (e : Edges) (refs : Node → Option Ref) (cover : Covers f 
       (λ m h. (Exact [], inr (same_local m l h, refl, refl), refl))
       (λ a t h g. cc)
       (λ n r d h g o a. elim a [
-        | inl b ↦ absurd (only_true refl b)
+        | inl b ↦ absurd (both_ways _ refl b)
         | inr b ↦ let u = own_edge n r l h o in absurd (need u.0 n u.1 (typed n r h ∙ b))
       ])
       (FromOwn l refl) cover
@@ -137,7 +138,7 @@ module _ (f : Frame) (e : Edges) (refs : Node → Option Ref) (cover : Covers f 
       (λ l h. cc)
       (λ b s h g. (Exact [], inr (same_struct a b t s h, refl, refl), refl))
       (λ n r d h g o u. elim u [
-        | inl b ↦ absurd (only_true refl b)
+        | inl b ↦ absurd (both_ways _ refl b)
         | inr b ↦ let w = glob_edge n r a t acq h o in absurd (need w.0 n w.1 (typed n r h ∙ b))
       ])
       (FromStore a t refl acq) cover

@@ -3,8 +3,9 @@ use Rattle.std.proofs.Common.{◌≡◌, ℕ, ◌<◌, ◌≤◌, List, [], ◌�
 use Rattle.mv_borrow_graph.specs.Abstract.Places.{Defined, Local, Global, Place, Below, Overlap, Label, Reach, opened}
 use Rattle.mv_borrow_graph.proofs.Abstract.Places.{below_self, below_trans, overlap_sym, overlap_above, matches_opened, reach_opened}
 use Rattle.mv_borrow_graph.specs.Abstract.Covers.{Node, Own, Glob, Ref, Frame, with_refs, Live, Edges, InList, Given, Origin, FromOwn, FromStore, FromEntry, Leads, Covers}
-use Rattle.mv_borrow_graph.proofs.Abstract.Covers.{only_true, origin_kept, swap, one_ref}
+use Rattle.mv_borrow_graph.proofs.Abstract.Covers.{origin_kept, swap, one_ref}
 use Rattle.mv_borrow_graph.specs.Abstract.Stack.{Entered, Layer, OnStack, Top, Lower, Calls, Homed, Chain, Bottom, Above}
+use Rattle.std.proofs.lemmas.Bool.{both_ways}
 
 pub overlap_root : (a b : Place) → Overlap a b → a.root ≡ b.root
 overlap_root a b (inl h) = h.0
@@ -144,11 +145,11 @@ module _ (depends : ℕ → ℕ → Type 0) (home_of : Defined → ℕ)
     at_imm w v below n m q i d Top g s a b o free further =
         elim ((chain_covers w below d).pairs n m q i (λ z. differ z) g s o (inl a)) [
           | inl u ↦ free u.1 m u.2
-          | inr u ↦ only_true b u.0
+          | inr u ↦ both_ways _ b u.0
         ]
       where
         differ : n ≡ m → ⊥
-        differ z = only_true (ap (λ (r : Ref). r.mutable) (one_ref w.frame m q i (rw z at g) s) ∙ b) a
+        differ z = both_ways _ (ap (λ (r : Ref). r.mutable) (one_ref w.frame m q i (rw z at g) s) ∙ b) a
     at_imm w v below n m q i d (Lower p) g s a b o free further = further p
 
     -- no mutable reference of an upper frame overlaps a live immutable one of a frame below it

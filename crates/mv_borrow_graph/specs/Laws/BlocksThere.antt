@@ -19,19 +19,19 @@ use Rattle.mv_cfg.specs.FlowGraph.{IsFlowGraph, basic_block_of, first_of}
 use Rattle.mv_cfg.proofs.Beginnings.{blocks_at-get, length-blocks_at}
 use Rattle.mv_cfg.proofs.Tiling.{inside-block}
 use Rattle.mv_type_states.specs.TypeRules.{Types, types_after}
-use Rattle.mv_type_states.specs.TypesHold.{types_through, block_is_typed}
+use Rattle.mv_type_states.specs.TypesHold.{types_through, block_is_typed, point_at}
 use Rattle.mv_type_states.specs.Sound.{types_each, types_before}
 use Rattle.mv_lattice.specs.Flow.{carried, through}
 use Rattle.mv_edges.specs.Edges.{Edge}
 use Rattle.mv_edges.specs.Sorted.{sorted}
 use Rattle.mv_type_states.proofs.HeightLemmas.{bind_some}
-use Rattle.mv_bounds.proofs.FunctionLemmas.{all_at}
 use Rattle.mv_borrow_graph.specs.BorrowRules.{edges_after}
-use Rattle.mv_borrow_graph.specs.Domain.{point_at, ordered, edges_step}
+use Rattle.mv_borrow_graph.specs.Domain.{ordered, edges_step}
 use Rattle.mv_borrow_graph.specs.Nodes.{edge_is_there, are_there, may_begin_with, IsGraphOf}
 use Rattle.mv_borrow_graph.specs.Laws.There.{each_sorted}
 use Rattle.mv_borrow_graph.specs.Laws.KeptThere.{HasPlainFields, after_there}
 use Rattle.mv_borrow_graph.specs.Laws.Standing.{Stands, Stands-head, Stands-tail, Stands-range, length-range, Stands-types, block_at}
+use Rattle.mv_bounds.proofs.Entries.{all_at, none_within}
 
 -- none of the instructions is a return
 abbrev NoReturn : List Instruction → Type 0
@@ -80,9 +80,6 @@ leads_on code k b at =
     let is : block_between code (get_or (starts code) k 0) (get_or (starts code) (suc k) (length code)) ≡ b = same_Some _ b (sym (blocks_at-get code (starts code) k h) ∙ at) in
     subst (λ (x : BasicBlock). x.next ≡ leads_to code x.last) is refl
 
-nothing_contained : (xs : List ℕ) (n : ℕ) → length xs ≡ 0 → Contains xs n → ⊥
-nothing_contained xs n none c = let h = c.1 in omega (arith, h, none)
-
 -- a return ends a block, and leads nowhere
 return_ends : (i : Instruction) → i ≡ Ret → ends_block i ≡ true
 return_ends i e = ap ends_block e
@@ -103,10 +100,10 @@ no_return code g k n b fg here next j i at is =
     let same : b.first + j ≡ b.last = omega (arith, low, size, last, order) in
     let there : slice_get code b.last ≡ Some Ret = subst (λ x. slice_get code x ≡ Some i) same read ∙ ap Some is in
     let none : map (first_of g) b.successors.items ≡ [] = leads_on code k st place ∙ ap (λ o. option_map_or (successors b.last) o []) there in
-    nothing_contained b.successors.items n (sym (length-map b.successors.items (first_of g)) ∙ ap length none) next)
+    none_within b.successors.items n (sym (length-map b.successors.items (first_of g)) ∙ ap length none) next)
     (cases_lt (b.first + j) b.last)
 
-empty_end : (o : Option Types) → option_map_or (λ stack. length stack == 0) o false ≡ true → o ≡ Some []
+pub empty_end : (o : Option Types) → option_map_or (λ stack. length stack == 0) o false ≡ true → o ≡ Some []
 empty_end None h = absurd (false≢true h)
 empty_end (Some []) h = refl
 empty_end (Some (t ∷ ts)) h = absurd (let no = eqb-true (length (t ∷ ts)) 0 h in omega (arith, no))

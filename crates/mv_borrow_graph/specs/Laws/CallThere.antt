@@ -1,5 +1,5 @@
 -- A call: the arguments' edges go, and the results lead from where the arguments did.
-use Rattle.std.proofs.Common.{◌≡◌, ℕ, zero, suc, ◌+◌, ◌-◌, Bool, true, false, not, ◌&&◌, List, [], ◌∷◌, ◌++◌, length, filter, reverse, slice_get}
+use Rattle.std.proofs.Common.{◌≡◌, ℕ, zero, suc, ◌+◌, ◌-◌, Bool, true, false, not, ◌&&◌, List, [], ◌∷◌, ◌++◌, length, reverse, slice_get}
 use Rattle.std.proofs.Common.{refl, sym, ap, ◌∙◌, subst, arith, true≢false, ⊎_elim, inl, inr, Contains}
 use Rattle.std.specs.Prelude.{if◌then◌else◌}
 use Rattle.std.specs.List.{list_all, list_any}
@@ -13,17 +13,17 @@ use Rattle.mv_move_types.specs.declared.token.Token.{Token}
 use Rattle.mv_move_types.specs.declared.token.Token.TheVariants.{Plain, Reference, MutableReference}
 use Rattle.mv_move_types.specs.Module.{Module, FunctionDefinition}
 use Rattle.mv_type_states.specs.TypeRules.{Types}
-use Rattle.mv_type_states.specs.TypesHold.{Point}
-use Rattle.mv_edges.specs.Edges.{Edge, same_node, opened, inherited, without}
+use Rattle.mv_type_states.specs.TypesHold.{Point, point_at}
+use Rattle.mv_edges.specs.Edges.{Edge, same_node, opened, inherited, without, without_each}
 use Rattle.mv_edges.proofs.Insertion.{contains_here, contains_cases, all_contains, all_from_contains, all_filter}
 use Rattle.mv_edges.proofs.Related.{list_any_from}
 use Rattle.mv_edges.proofs.Sorting.{any_passes}
-use Rattle.mv_borrow_graph.specs.BorrowRules.{is_mutable_token, is_reference_token, no_edge_out, reference_nodes, without_all, opened_edges, result_edges}
-use Rattle.mv_borrow_graph.specs.Domain.{point_at}
+use Rattle.mv_borrow_graph.specs.BorrowRules.{is_mutable_token, is_reference_token, no_edge_out, reference_nodes, opened_edges, result_edges}
 use Rattle.mv_borrow_graph.specs.Nodes.{has_place, leads_out, leads_in, edge_is_there, are_there}
 use Rattle.mv_borrow_graph.specs.Laws.Places.{is_under, has_over, under_apart, out_stays, either_place}
 use Rattle.mv_borrow_graph.specs.Laws.Shifts.{Shift}
-use Rattle.mv_borrow_graph.specs.Laws.There.{node_itself, there_parts, there_from, each_filter, each_append, each_inherited, each_flat, neither, edge_stays}
+use Rattle.mv_borrow_graph.specs.Laws.There.{node_itself, there_parts, there_from, each_append, each_inherited, each_flat, neither, edge_stays}
+use Rattle.mv_edges.proofs.Moved.{all_pass}
 
 -- a parameter that passes the test has its node among those that do
 named : (test : Token → Bool) (k : ℕ) (ts : List Token) (j : ℕ) → option_map_or test (slice_get ts j) false ≡ true → Contains (reference_nodes test k ts) (Temp (k + j))
@@ -39,24 +39,17 @@ named test k (t ∷ ts) (suc j) h =
     (Contains-append_right (if test t then (Temp k ∷ []) else []) (reference_nodes test (k + 1) ts) (Temp (k + 1 + j)) (named test (k + 1) ts j h))
 
 -- what all edges have, those have that are left
-left_all : (q : Edge → Bool) (ns : List Node) (es : List Edge) → list_all q es ≡ true → list_all q (without_all ns es) ≡ true
+left_all : (q : Edge → Bool) (ns : List Node) (es : List Edge) → list_all q es ≡ true → list_all q (without_each ns es) ≡ true
 left_all q [] es h = h
 left_all q (n ∷ ns) es h = left_all q ns (without n es) (all_filter (λ e. not (same_node e.from n) && not (same_node e.to n)) q es h)
 
-filter_passes : (k : Edge → Bool) (es : List Edge) → list_all k (filter k es) ≡ true
-filter_passes k es = each_filter k (λ _. true) k (λ e t _. t) es (all_true es)
-  where
-    all_true : (es : List Edge) → list_all (λ _. true) es ≡ true
-    all_true [] = refl
-    all_true (e ∷ es) = all_true es
-
 -- none of those left is at one of the nodes
-left_free : (ns : List Node) (n : Node) (es : List Edge) → Contains ns n → list_all (λ e. not (same_node e.from n) && not (same_node e.to n)) (without_all ns es) ≡ true
+left_free : (ns : List Node) (n : Node) (es : List Edge) → Contains ns n → list_all (λ e. not (same_node e.from n) && not (same_node e.to n)) (without_each ns es) ≡ true
 left_free [] n es c = absurd (let h = c.1 in let no : ⊥ = omega (arith, h) in no)
 left_free (x ∷ ns) n es c =
     elim (contains_cases x ns n c) [
-      | inl same ↦ subst (λ y. list_all (λ e. not (same_node e.from y) && not (same_node e.to y)) (without_all ns (without x es)) ≡ true) same
-          (left_all (λ e. not (same_node e.from x) && not (same_node e.to x)) ns (without x es) (filter_passes (λ e. not (same_node e.from x) && not (same_node e.to x)) es))
+      | inl same ↦ subst (λ y. list_all (λ e. not (same_node e.from y) && not (same_node e.to y)) (without_each ns (without x es)) ≡ true) same
+          (left_all (λ e. not (same_node e.from x) && not (same_node e.to x)) ns (without x es) (all_pass (λ e. not (same_node e.from x) && not (same_node e.to x)) es))
       | inr there ↦ left_free ns n (without x es) there
     ]
 
@@ -126,14 +119,14 @@ module _ (m : Module) (d : FunctionDefinition) (params results rest : Types) whe
         (λ e c. and_from (edge_is_there before e) (is_under b e.from) (all_contains (edge_is_there before) es e there c) (from_low e c))
 
     -- those left are under the arguments
-    rest_there : are_there after (without_all all es) ≡ true
+    rest_there : are_there after (without_each all es) ≡ true
     rest_there =
-        all_from_contains (edge_is_there after) (without_all all es)
+        all_from_contains (edge_is_there after) (without_each all es)
         (λ e c.
-        let both = and_parts (edge_is_there before e) (is_under b e.from) (all_contains (comes_from_under before b) (without_all all es) e (left_all (comes_from_under before b) all es all_from_low) c) in
+        let both = and_parts (edge_is_there before e) (is_under b e.from) (all_contains (comes_from_under before b) (without_each all es) e (left_all (comes_from_under before b) all es all_from_low) c) in
         let was = there_parts before e both.0 in
         edge_stays m d (reverse params) (reverse results) rest e was both.1
-        (in_low e.to was.into (λ j here. (neither (Temp (b + j)) e (all_contains (λ x. not (same_node x.from (Temp (b + j))) && not (same_node x.to (Temp (b + j)))) (without_all all es) e (left_free all (Temp (b + j)) es here) c)).1)))
+        (in_low e.to was.into (λ j here. (neither (Temp (b + j)) e (all_contains (λ x. not (same_node x.from (Temp (b + j))) && not (same_node x.to (Temp (b + j)))) (without_each all es) e (left_free all (Temp (b + j)) es here) c)).1)))
 
     -- a result's edges
     opened_there : (ns : List Node) (j : ℕ) → leads_in after (Temp (b + j)) ≡ true → are_there after (opened_edges ns (Temp (b + j)) es) ≡ true
@@ -172,22 +165,22 @@ module _ (m : Module) (d : FunctionDefinition) (params results rest : Types) whe
         ap (λ k. leads_in after (Temp (b + k))) place ∙ has_over (reverse results) rest is_reference_token i
         ∙ ap (λ ts. option_map_or is_reference_token (slice_get ts i) false) (reverse-reverse results) ∙ h
 
-    called_there : are_there after (without_all all es ++ result_edges mutable all b results es) ≡ true
+    called_there : are_there after (without_each all es ++ result_edges mutable all b results es) ≡ true
     called_there =
         let first : b + 0 ≡ b = omega arith in
-        each_append (edge_is_there after) (without_all all es) (result_edges mutable all b results es) rest_there
+        each_append (edge_is_there after) (without_each all es) (result_edges mutable all b results es) rest_there
         (subst (λ k. are_there after (result_edges mutable all k results es) ≡ true) first (results_there 0 results result_place mutable all))
 
 -- after a call each edge leads between nodes that are there
 pub call_row : (m : Module) (d : FunctionDefinition) (params results : List Token) (s t : Types) → Shift s t (reverse params) (reverse results) → (base : ℕ) → base ≡ length s - length params
     → (es : List Edge)
     → list_all (λ n. no_edge_out n es) (reference_nodes is_mutable_token base params) ≡ true → are_there (point_at m d s) es ≡ true
-    → are_there (point_at m d t) (without_all (reference_nodes is_reference_token base params) es
+    → are_there (point_at m d t) (without_each (reference_nodes is_reference_token base params) es
     ++ result_edges (reference_nodes is_mutable_token base params) (reference_nodes is_reference_token base params) base results es) ≡ true
 call_row m d params results s t h base is es needed there =
     let low : base ≡ length h.rest = below h.before in
-    subst (λ x. are_there (point_at m d x) (without_all (reference_nodes is_reference_token base params) es ++ result_edges (reference_nodes is_mutable_token base params) (reference_nodes is_reference_token base params) base results es) ≡ true) (sym h.after)
-    (subst (λ k. are_there (point_at m d (reverse results ++ h.rest)) (without_all (reference_nodes is_reference_token k params) es ++ result_edges (reference_nodes is_mutable_token k params) (reference_nodes is_reference_token k params) k results es) ≡ true) (sym low)
+    subst (λ x. are_there (point_at m d x) (without_each (reference_nodes is_reference_token base params) es ++ result_edges (reference_nodes is_mutable_token base params) (reference_nodes is_reference_token base params) base results es) ≡ true) (sym h.after)
+    (subst (λ k. are_there (point_at m d (reverse results ++ h.rest)) (without_each (reference_nodes is_reference_token k params) es ++ result_edges (reference_nodes is_mutable_token k params) (reference_nodes is_reference_token k params) k results es) ≡ true) (sym low)
     (called_there m d params results h.rest es (subst (λ x. are_there (point_at m d x) es ≡ true) h.before there)
     (subst (λ k. list_all (λ n. no_edge_out n es) (reference_nodes is_mutable_token k params) ≡ true) low needed)))
   where

@@ -24,14 +24,12 @@ use Rattle.mv_move_types.specs.Options.{◌>>=◌}
 use Rattle.mv_move_types.specs.Module.{Module, FunctionDefinition, StructDefinition, local_type, own_acquires}
 use Rattle.mv_binary_format.proofs.Binds.{then_some_parts}
 use Rattle.mv_type_states.specs.TypeRules.{Types, types_after, boolean, number, address, keyed_type, field_types}
-use Rattle.mv_type_states.specs.TypesHold.{Point}
-use Rattle.mv_edges.specs.Edges.{Edge, same_node, here, inherited, agrees, out_of, without, renamed, an_edge}
+use Rattle.mv_type_states.specs.TypesHold.{Point, point_at}
+use Rattle.mv_edges.specs.Edges.{Edge, same_node, here, inherited, agrees, out_of, without, renamed, an_edge, without_each}
 use Rattle.mv_type_states.proofs.HeightLemmas.{bind_some}
-use Rattle.mv_bounds.proofs.FunctionLemmas.{all_at}
 use Rattle.mv_borrow_graph.specs.BorrowRules.{edges_after, is_mutable_token, is_reference_token, is_mutable, next_temp, top_temp, no_edge_out}
 use Rattle.mv_borrow_graph.specs.BorrowRules.{no_mutable_from, copy_edges, move_edges, store_edges, field_edges, position_of, global_edges}
-use Rattle.mv_borrow_graph.specs.BorrowRules.{reference_nodes, without_all, result_edges, call_edges}
-use Rattle.mv_borrow_graph.specs.Domain.{point_at}
+use Rattle.mv_borrow_graph.specs.BorrowRules.{reference_nodes, result_edges, call_edges}
 use Rattle.mv_borrow_graph.specs.Nodes.{are_there}
 use Rattle.mv_borrow_graph.specs.Laws.Shifts.{Shift, PlainShift, is_plain, exchanged, plain_exchanged, plain_taken, plain_pushed, unchanged}
 use Rattle.mv_borrow_graph.specs.Laws.Shifts.{constant_shift, two_numbers_shift, equality_shift, shift_shift, cast_shift, pack_shift, unpack_shift}
@@ -39,6 +37,7 @@ use Rattle.mv_borrow_graph.specs.Laws.Shifts.{global_shift, plain_global, move_t
 use Rattle.mv_borrow_graph.specs.Laws.Shifts.{mutable_field_shift, immutable_field_shift, read_shift, write_shift, freeze_shift}
 use Rattle.mv_borrow_graph.specs.Laws.RowsThere.{plain_row, top_row, write_row, second_row, freeze_row, field_row, global_row, lent_at, copied_at, child_at, moved_at, stored_at, local_is}
 use Rattle.mv_borrow_graph.specs.Laws.CallThere.{call_row}
+use Rattle.mv_bounds.proofs.Entries.{all_at}
 
 -- no field is a reference, and none is the 33rd
 pub record HasPlainFields (m : Module) : Type 0 where
@@ -50,7 +49,7 @@ call_known : (p : Point) (i : ℕ) (es fs : List Edge) (handle : FunctionHandle)
     → slice_get p.home.signatures handle.parameters ≡ Some params
     → slice_get p.home.signatures handle.results ≡ Some results → call_edges p i es ≡ Some fs
     → then_some (list_all (λ n. no_edge_out n es) (reference_nodes is_mutable_token (length p.types - length params) params) && list_all (λ g. no_edge_out (Glob g) es) (own_acquires p.home i))
-    (without_all (reference_nodes is_reference_token (length p.types - length params) params) es
+    (without_each (reference_nodes is_reference_token (length p.types - length params) params) es
     ++ result_edges (reference_nodes is_mutable_token (length p.types - length params) params)
     (reference_nodes is_reference_token (length p.types - length params) params) (length p.types - length params) results es) ≡ Some fs
 call_known p i es fs handle params results a b c e = rw (a, b, c) at e

@@ -16,12 +16,11 @@ use Rattle.mv_move_types.specs.declared.token.Token.{Token}
 use Rattle.mv_move_types.specs.declared.token.Token.TheVariants.{Plain, Reference, MutableReference}
 use Rattle.mv_move_types.specs.Module.{Module, FunctionDefinition}
 use Rattle.mv_type_states.specs.TypeRules.{Types}
-use Rattle.mv_type_states.specs.TypesHold.{Point}
+use Rattle.mv_type_states.specs.TypesHold.{Point, point_at}
 use Rattle.mv_edges.specs.Edges.{same_node}
-use Rattle.mv_bounds.proofs.FunctionLemmas.{all_at}
 use Rattle.mv_borrow_graph.specs.BorrowRules.{is_mutable_token, is_reference_token}
-use Rattle.mv_borrow_graph.specs.Domain.{point_at}
 use Rattle.mv_borrow_graph.specs.Nodes.{has_place, leads_out, leads_in}
+use Rattle.mv_bounds.proofs.Entries.{all_at}
 
 -- the node is no operand from this place on
 abbrev pub is_under : ℕ → Node → Bool

@@ -4,7 +4,7 @@
 use Rattle.std.proofs.Common.{◌≡◌, ℕ, ◌+◌, ◌-◌, Bool, true, false, not, ◌&&◌, ◌||◌, List, [], ◌∷◌, ◌++◌, length, Option, Some, None, slice_get, refl, sym, ap, subst, true≢false}
 use Rattle.std.specs.Bool.{then_some}
 use Rattle.std.specs.List.{list_all, list_any}
-use Rattle.std.proofs.lemmas.Bool.{and_parts, and_from}
+use Rattle.std.proofs.lemmas.Bool.{and_parts, and_from, not-true}
 use Rattle.mv_move_types.specs.declared.borrow.Node.{Node}
 use Rattle.mv_move_types.specs.declared.borrow.Node.TheVariants.{Slot, Own, Glob, Temp}
 use Rattle.mv_move_types.specs.declared.token.Token.{Token}
@@ -15,9 +15,9 @@ use Rattle.mv_move_types.specs.declared.instruction.Instruction.TheVariants.{Mut
 use Rattle.mv_move_types.specs.declared.instruction.Instruction.TheVariants.{ImmBorrowGlobal, MoveFrom, MoveTo, FreezeRef}
 use Rattle.mv_move_types.specs.Options.{◌>>=◌}
 use Rattle.mv_move_types.specs.Module.{Module, FunctionDefinition, local_type, own_acquires}
-use Rattle.mv_type_states.specs.TypesHold.{Point}
+use Rattle.mv_type_states.specs.TypesHold.{Point, point_at}
 use Rattle.mv_type_states.specs.Sound.{types_before}
-use Rattle.mv_edges.specs.Edges.{Edge, Label, here, extended, opened, agrees, out_of, but_out_of, inherited, without, renamed, an_edge, edges_leq, label_leq}
+use Rattle.mv_edges.specs.Edges.{Edge, Label, here, extended, opened, agrees, out_of, but_out_of, inherited, without, renamed, an_edge, edges_leq, label_leq, without_each}
 use Rattle.mv_edges.specs.Related.{edges_related}
 use Rattle.mv_edges.specs.Sorted.{sorted}
 use Rattle.mv_edges.proofs.Insertion.{all_weaker}
@@ -27,9 +27,9 @@ use Rattle.mv_edges.proofs.Changes.{none_out_passes_below, related-append, relat
 use Rattle.mv_edges.proofs.Changes.{related-but_out_of, related-renamed, related-inherited}
 use Rattle.mv_borrow_graph.specs.BorrowRules.{next_temp, top_temp, is_mutable, is_reference_token, is_mutable_token, is_root_node, is_temp}
 use Rattle.mv_borrow_graph.specs.BorrowRules.{no_edge_out, no_mutable_from, copy_edges, move_edges, store_edges, field_edges, mutable_field_edges}
-use Rattle.mv_borrow_graph.specs.BorrowRules.{immutable_field_edges, position_of, reference_nodes, without_all, opened_edges, result_edges}
+use Rattle.mv_borrow_graph.specs.BorrowRules.{immutable_field_edges, position_of, reference_nodes, opened_edges, result_edges}
 use Rattle.mv_borrow_graph.specs.BorrowRules.{call_edges, return_edges, edges_after}
-use Rattle.mv_borrow_graph.specs.Domain.{ordered, point_at, edges_step}
+use Rattle.mv_borrow_graph.specs.Domain.{ordered, edges_step}
 
 module _ (le : Label → Label → Bool) (kept : IsKept le) where
   abbrev pub Below : Option (List Edge) → Option (List Edge) → Type 0
@@ -57,10 +57,6 @@ module _ (le : Label → Label → Bool) (kept : IsKept le) where
   self : (e : Edge) → edges_related le (e ∷ []) (e ∷ []) ≡ true
   self e = related_from_contains le kept.itself (e ∷ []) (e ∷ []) (λ x c. c)
 
-  not_true : (b : Bool) → not b ≡ true → b ≡ false
-  not_true true e = absurd (true≢false (sym e))
-  not_true false e = refl
-
   module _ (a b : List Edge) (below : edges_related le a b ≡ true) where
     -- ---- tests
 
@@ -68,7 +64,7 @@ module _ (le : Label → Label → Bool) (kept : IsKept le) where
     free_below n = none_out_below le n a b below
 
     unpassed_below : (n : Node) (q : Edge → Bool) → IsRising le q → not (list_any q (out_of n b)) ≡ true → not (list_any q (out_of n a)) ≡ true
-    unpassed_below n q rises t = ap not (none_out_passes_below le n q rises a b below (not_true (list_any q (out_of n b)) t))
+    unpassed_below n q rises t = ap not (none_out_passes_below le n q rises a b below (not-true (list_any q (out_of n b)) t))
 
     readable_below : (p : Point) (n : Node) → no_mutable_from p n b ≡ true → no_mutable_from p n a ≡ true
     readable_below p n = unpassed_below n (λ e. is_mutable p e.to) (nodes_rise le (λ _ to. is_mutable p to))
@@ -152,25 +148,25 @@ module _ (le : Label → Label → Bool) (kept : IsKept le) where
     return_below p =
         let q : Edge → Bool = λ e. is_temp e.to && (is_root_node e.from || is_temp e.from && is_mutable p e.from) in
         kept_below (not (list_any q a)) (not (list_any q b))
-        (λ t. ap not (none_passes_below le q (nodes_rise le (λ from to. is_temp to && (is_root_node from || is_temp from && is_mutable p from))) a b below (not_true (list_any q b) t)))
+        (λ t. ap not (none_passes_below le q (nodes_rise le (λ from to. is_temp to && (is_root_node from || is_temp from && is_mutable p from))) a b below (not-true (list_any q b) t)))
 
-  all_without_below : (ns : List Node) (a b : List Edge) → edges_related le a b ≡ true → edges_related le (without_all ns a) (without_all ns b) ≡ true
+  all_without_below : (ns : List Node) (a b : List Edge) → edges_related le a b ≡ true → edges_related le (without_each ns a) (without_each ns b) ≡ true
   all_without_below [] a b h = h
   all_without_below (n ∷ ns) a b h = all_without_below ns (without n a) (without n b) (related-without le n a b h)
 
   -- a call of a function with these types
   tied_below : (a b : List Edge) → edges_related le a b ≡ true → (mutable al : List Node) (acquired : List ℕ) (base : ℕ) (results : List Token)
-      → Below (then_some (list_all (λ n. no_edge_out n a) mutable && list_all (λ t. no_edge_out (Glob t) a) acquired) (without_all al a ++ result_edges mutable al base results a))
-      (then_some (list_all (λ n. no_edge_out n b) mutable && list_all (λ t. no_edge_out (Glob t) b) acquired) (without_all al b ++ result_edges mutable al base results b))
+      → Below (then_some (list_all (λ n. no_edge_out n a) mutable && list_all (λ t. no_edge_out (Glob t) a) acquired) (without_each al a ++ result_edges mutable al base results a))
+      (then_some (list_all (λ n. no_edge_out n b) mutable && list_all (λ t. no_edge_out (Glob t) b) acquired) (without_each al b ++ result_edges mutable al base results b))
   tied_below a b h mutable al acquired base results =
       tested_below (list_all (λ n. no_edge_out n a) mutable && list_all (λ t. no_edge_out (Glob t) a) acquired) (list_all (λ n. no_edge_out n b) mutable && list_all (λ t. no_edge_out (Glob t) b) acquired)
-      (without_all al a ++ result_edges mutable al base results a) (without_all al b ++ result_edges mutable al base results b)
+      (without_each al a ++ result_edges mutable al base results a) (without_each al b ++ result_edges mutable al base results b)
       (λ t.
       let parts = and_parts (list_all (λ n. no_edge_out n b) mutable) (list_all (λ t. no_edge_out (Glob t) b) acquired) t in
       and_from (list_all (λ n. no_edge_out n a) mutable) (list_all (λ t. no_edge_out (Glob t) a) acquired)
       (all_weaker (λ n. no_edge_out n b) (λ n. no_edge_out n a) (free_below a b h) mutable parts.0)
       (all_weaker (λ t. no_edge_out (Glob t) b) (λ t. no_edge_out (Glob t) a) (λ t. free_below a b h (Glob t)) acquired parts.1))
-      (related-append le (without_all al a) (without_all al b) (result_edges mutable al base results a) (result_edges mutable al base results b) (all_without_below al a b h) (results_below a b h mutable al base results))
+      (related-append le (without_each al a) (without_each al b) (result_edges mutable al base results a) (result_edges mutable al base results b) (all_without_below al a b h) (results_below a b h mutable al base results))
 
   call_below : (a b : List Edge) → edges_related le a b ≡ true → (p : Point) (i : ℕ) → Below (call_edges p i a) (call_edges p i b)
   call_below a b h p i =

@@ -3,7 +3,7 @@ use Rattle.std.proofs.Common.{◌≡◌, ℕ, zero, suc, ◌+◌, ◌-◌, Bool,
 use Rattle.std.specs.Prelude.{nat_lt, if◌then◌else◌}
 use Rattle.std.specs.List.{list_all}
 use Rattle.std.specs.Option.{option_map_or}
-use Rattle.std.proofs.lemmas.Bool.{and_from, false≢true}
+use Rattle.std.proofs.lemmas.Bool.{and_from, false≢true, not-true}
 use Rattle.std.proofs.lemmas.List.Folds.{list_all-append}
 use Rattle.mv_move_types.specs.declared.borrow.Node.{Node}
 use Rattle.mv_move_types.specs.declared.borrow.Node.TheVariants.{Slot, Glob, Temp}
@@ -12,15 +12,14 @@ use Rattle.mv_move_types.specs.declared.token.Token.{Token}
 use Rattle.mv_move_types.specs.declared.token.Token.TheVariants.{Plain}
 use Rattle.mv_move_types.specs.Module.{Module, FunctionDefinition, local_type}
 use Rattle.mv_type_states.specs.TypeRules.{Types}
-use Rattle.mv_type_states.specs.TypesHold.{Point}
+use Rattle.mv_type_states.specs.TypesHold.{Point, point_at}
 use Rattle.mv_edges.specs.Edges.{Label, Edge, same_node, here, extended, inherited, without, renamed, an_edge}
 use Rattle.mv_edges.proofs.Insertion.{all_weaker}
 use Rattle.mv_borrow_graph.specs.BorrowRules.{is_mutable_token, is_reference_token, next_temp, top_temp, field_edges, global_edges}
-use Rattle.mv_borrow_graph.specs.Domain.{point_at}
 use Rattle.mv_borrow_graph.specs.Nodes.{has_place, has_local, leads_out, leads_in, edge_is_there, are_there}
 use Rattle.mv_borrow_graph.specs.Laws.Places.{is_under, plain_none, has_over, under_apart, out_stays, in_stays, out_under, in_under, out_free, in_free}
 use Rattle.mv_borrow_graph.specs.Laws.Shifts.{Shift, PlainShift, is_plain}
-use Rattle.mv_borrow_graph.specs.Laws.There.{IsThere, not_true, same_is, there_parts, there_from, is_small, each_filter, each_append, each_one}
+use Rattle.mv_borrow_graph.specs.Laws.There.{IsThere, there_parts, there_from, is_small, each_filter, each_append, each_one, same_node-is}
 use Rattle.mv_borrow_graph.specs.Laws.There.{each_inherited, is_free_of, renamed_there, edge_stays, all_stay, others_stay}
 
 -- a local whose type is known
@@ -114,14 +113,14 @@ module _ (m : Module) (d : FunctionDefinition) where
         each_filter (λ e. not (same_node e.from (top_temp before))) (edge_is_there before) (edge_is_there after)
         (λ e free t.
         let was = there_parts before e t in
-        let ne = not_true (same_node e.from (top_temp before)) free in
+        let ne = not-true (same_node e.from (top_temp before)) free in
         by_to e was ne (same_node e.to (top_temp before)) refl)
         es h
       where
         by_to : (e : Edge) → IsThere before e → same_node e.from (top_temp before) ≡ false → (b : Bool) → same_node e.to (top_temp before) ≡ b → edge_is_there after e ≡ true
         by_to e was ne true at_top = there_from after e (record {
           out = out_stays m d (x ∷ []) (y ∷ []) rest e.from was.out (out_other e.from was.out ne);
-          into = ap (leads_in after) (same_is e.to (top_temp before) at_top) ∙ into_top;
+          into = ap (leads_in after) (same_node-is e.to (top_temp before) at_top) ∙ into_top;
           apart = was.apart;
           small = was.small;
         })
@@ -144,7 +143,7 @@ module _ (m : Module) (d : FunctionDefinition) where
         (each_inherited (edge_is_there before) (edge_is_there after) (extended f) top top
         (λ e t into_it.
         let was = there_parts before e t in
-        into_new e.from (extended f e.label) was.out (ap (same_node e.from) (sym (same_is e.to top into_it)) ∙ was.apart) (longer_small f low e.label was.small))
+        into_new e.from (extended f e.label) was.out (ap (same_node e.from) (sym (same_node-is e.to top into_it)) ∙ was.apart) (longer_small f low e.label was.small))
         es h)
 
     global_at : is_plain x ≡ true → (i : ℕ) → nat_lt i (length m.structs) ≡ true → (es : List Edge) → are_there before es ≡ true → are_there after (global_edges before i es) ≡ true
@@ -241,7 +240,7 @@ module _ (m : Module) (d : FunctionDefinition) where
         by_out : (n : Node) → leads_out under n ≡ true → (b : Bool) → same_node n (Slot l) ≡ b → leads_out over (cond b (next_temp under) n) ≡ true
         by_out n h true is =
             ap (leads_out over) next_is ∙ has_over (y ∷ []) rest is_mutable_token 0
-            ∙ local_type_is is_mutable_token under l y typed (ap (leads_out under) (sym (same_is n (Slot l) is)) ∙ h)
+            ∙ local_type_is is_mutable_token under l y typed (ap (leads_out under) (sym (same_node-is n (Slot l) is)) ∙ h)
         by_out n h false is = outs_stay n h
 
         by_in : (n : Node) → leads_in under n ≡ true → (b : Bool) → same_node n (Slot l) ≡ b → leads_in over (cond b (next_temp under) n) ≡ true
@@ -266,7 +265,7 @@ module _ (m : Module) (d : FunctionDefinition) where
         by_out : (n : Node) → leads_out over n ≡ true → (b : Bool) → same_node n (top_temp over) ≡ b → leads_out under (cond b (Slot l) n) ≡ true
         by_out n h true is =
             local_is is_mutable_token under l y typed
-            (sym (has_over (y ∷ []) rest is_mutable_token 0) ∙ ap (leads_out over) (sym top_of) ∙ ap (leads_out over) (sym (same_is n (top_temp over) is)) ∙ h)
+            (sym (has_over (y ∷ []) rest is_mutable_token 0) ∙ ap (leads_out over) (sym top_of) ∙ ap (leads_out over) (sym (same_node-is n (top_temp over) is)) ∙ h)
         by_out n h false other = out_stays m d (y ∷ []) [] rest n h (out_under m d (y ∷ []) [] rest 0 (only_one y) n h (ap (same_node n) (sym top_of) ∙ other))
 
         by_in : (n : Node) → leads_in over n ≡ true → (b : Bool) → same_node n (top_temp over) ≡ b → leads_in under (cond b (Slot l) n) ≡ true

@@ -22,9 +22,9 @@ use Rattle.mv_type_states.specs.TypeRules.{of_borrow_local, keyed_type, field_ty
 use Rattle.mv_type_states.specs.TypeRules.{of_read, of_write, of_freeze, of_constant, of_global, of_move_to}
 use Rattle.mv_type_states.proofs.Tokens.{lists_equal}
 use Rattle.mv_type_states.proofs.HeightLemmas.{bind_some, provided_true, top_some}
-use Rattle.mv_bounds.proofs.FunctionLemmas.{all_at}
 use Rattle.mv_borrow_graph.specs.BorrowRules.{is_reference_token}
 use Rattle.mv_borrow_graph.specs.Laws.Places.{all_reverse}
+use Rattle.mv_bounds.proofs.Entries.{all_at}
 
 -- whether a type is no reference
 abbrev pub is_plain : Token → Bool
@@ -88,13 +88,13 @@ pub two_numbers_shift : (given : Width → Token) (s t : Types) → of_two_numbe
 two_numbers_shift given s t e =
     let h = bind_some (top_width s) _ t e in plain_exchanged (number h.0 ∷ number h.0 ∷ []) (given h.0 ∷ []) s t refl h.1.1
 
-plain_is : (t : Token) (v : ValueType) → plain_of t ≡ Some v → t ≡ Plain v
-plain_is (Plain x) v e = ap Plain (same_Some x v e)
-plain_is (Reference x) v e = absurd (none-some v e)
-plain_is (MutableReference x) v e = absurd (none-some v e)
+pub plain_of-is : (t : Token) (v : ValueType) → plain_of t ≡ Some v → t ≡ Plain v
+plain_of-is (Plain x) v e = ap Plain (same_Some x v e)
+plain_of-is (Reference x) v e = absurd (none-some v e)
+plain_of-is (MutableReference x) v e = absurd (none-some v e)
 
 pub plain_type : (t : Token) (v : ValueType) → plain_of t ≡ Some v → is_plain t ≡ true
-plain_type t v e = ap is_plain (plain_is t v e)
+plain_type t v e = ap is_plain (plain_of-is t v e)
 
 pub equality_shift : (m : Module) (s t : Types) → of_equality m s ≡ Some t → PlainShift s t
 equality_shift m s t e =

@@ -2,20 +2,19 @@
 use Rattle.std.proofs.Common.{◌≡◌, ℕ, ◌+◌, Bool, true, false, cond, not, ◌&&◌, List, [], ◌∷◌, ◌++◌, length, map, filter, flat_map, refl, sym, ap, ◌∙◌, true≢false}
 use Rattle.std.specs.Prelude.{nat_lt}
 use Rattle.std.specs.List.{list_all}
-use Rattle.std.proofs.lemmas.Bool.{and_parts, and_from, false≢true}
+use Rattle.std.proofs.lemmas.Bool.{and_parts, and_from, not-true}
 use Rattle.std.proofs.lemmas.List.Folds.{list_all-append, list_all-map}
 use Rattle.mv_move_types.specs.declared.borrow.Node.{Node}
 use Rattle.mv_move_types.specs.declared.borrow.Node.TheVariants.{Temp}
 use Rattle.mv_move_types.specs.Module.{Module, FunctionDefinition}
 use Rattle.mv_type_states.specs.TypeRules.{Types}
-use Rattle.mv_type_states.specs.TypesHold.{Point}
+use Rattle.mv_type_states.specs.TypesHold.{Point, point_at}
 use Rattle.mv_edges.specs.Edges.{Label, Edge, same_node, inherited, into, without, renamed, renamed_node}
 use Rattle.mv_edges.specs.Equality.{same_node_decides}
 use Rattle.mv_edges.specs.Sorted.{sorted}
 use Rattle.mv_edges.proofs.Insertion.{all_weaker, all_contains, all_from_contains}
 use Rattle.mv_edges.proofs.Sorting.{contains-sorted}
 use Rattle.mv_borrow_graph.specs.BorrowRules.{is_reference_token}
-use Rattle.mv_borrow_graph.specs.Domain.{point_at}
 use Rattle.mv_borrow_graph.specs.Nodes.{has_place, leads_out, leads_in, edge_is_there, are_there}
 use Rattle.mv_borrow_graph.specs.Laws.Places.{is_under, out_stays, in_stays, out_under, in_under, out_free, in_free}
 
@@ -30,16 +29,12 @@ pub record IsThere (p : Point) (e : Edge) : Type 0 where
   pub apart : same_node e.from e.to ≡ false
   pub small : is_small e.label ≡ true
 
-pub not_true : (b : Bool) → not b ≡ true → b ≡ false
-not_true true e = absurd (false≢true e)
-not_true false e = refl
-
 pub there_parts : (p : Point) (e : Edge) → edge_is_there p e ≡ true → IsThere p e
 there_parts p e h =
     let three = and_parts (leads_out p e.from && leads_in p e.to && not (same_node e.from e.to)) (is_small e.label) h in
     let two = and_parts (leads_out p e.from && leads_in p e.to) (not (same_node e.from e.to)) three.0 in
     let one = and_parts (leads_out p e.from) (leads_in p e.to) two.0 in
-    record { out = one.0; into = one.1; apart = not_true (same_node e.from e.to) two.1; small = three.1 }
+    record { out = one.0; into = one.1; apart = not-true (same_node e.from e.to) two.1; small = three.1 }
 
 pub there_from : (p : Point) (e : Edge) → IsThere p e → edge_is_there p e ≡ true
 there_from p e t =
@@ -83,8 +78,8 @@ each_inherited q r change old new f es h =
 
 -- ---- nodes
 
-pub same_is : (n m : Node) → same_node n m ≡ true → n ≡ m
-same_is n m = (same_node_decides n m).0
+pub same_node-is : (n m : Node) → same_node n m ≡ true → n ≡ m
+same_node-is n m = (same_node_decides n m).0
 
 pub node_itself : (n : Node) → same_node n n ≡ true
 node_itself n = (same_node_decides n n).1 refl
@@ -94,13 +89,13 @@ apart_turned n m h = by_test (same_node m n) refl
   where
     by_test : (b : Bool) → same_node m n ≡ b → b ≡ false
     by_test false t = refl
-    by_test true t = absurd (true≢false (sym ((same_node_decides n m).1 (sym (same_is m n t))) ∙ h))
+    by_test true t = absurd (true≢false (sym ((same_node_decides n m).1 (sym (same_node-is m n t))) ∙ h))
 
 -- the nodes that an edge without those at a node has
 pub neither : (n : Node) (e : Edge) → (not (same_node e.from n) && not (same_node e.to n)) ≡ true → (same_node e.from n ≡ false) × (same_node e.to n ≡ false)
 neither n e h =
     let parts = and_parts (not (same_node e.from n)) (not (same_node e.to n)) h in
-    (not_true (same_node e.from n) parts.0, not_true (same_node e.to n) parts.1)
+    (not-true (same_node e.from n) parts.0, not-true (same_node e.to n) parts.1)
 
 -- ---- a node in place of another
 
@@ -116,7 +111,7 @@ module _ (p q : Point) (a c : Node)
     stay_apart f t ne fc tc = by_tests (same_node f a) refl (same_node t a) refl
       where
         by_tests : (x : Bool) → same_node f a ≡ x → (y : Bool) → same_node t a ≡ y → same_node (cond x c f) (cond y c t) ≡ false
-        by_tests true ef true et = absurd (true≢false (sym ((same_node_decides f t).1 (same_is f a ef ∙ sym (same_is t a et))) ∙ ne))
+        by_tests true ef true et = absurd (true≢false (sym ((same_node_decides f t).1 (same_node-is f a ef ∙ sym (same_node-is t a et))) ∙ ne))
         by_tests true ef false et = apart_turned t c tc
         by_tests false ef true et = fc
         by_tests false ef false et = ne

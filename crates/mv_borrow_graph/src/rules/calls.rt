@@ -4,13 +4,13 @@ ghost use Rattle.std.specs.Bool.{then_some};
 ghost use Rattle.std.specs.List.{list_all, list_any};
 ghost use Rattle.mv_move_types.specs.Limits.{most_operands, most_types};
 ghost use Rattle.mv_move_types.specs.declared.borrow.Node.TheVariants.{Glob, Temp};
-ghost use Rattle.mv_edges.specs.Edges.{Edge as EdgeRecord};
+ghost use Rattle.mv_edges.specs.Edges.{Edge as EdgeRecord, without_each};
 ghost use Rattle.mv_edges.specs.Graph.{taken_over};
 ghost use Rattle.mv_move_types.specs.Module.{own_acquires};
 ghost use Rattle.mv_edges.specs.Ascending.{are_ascending};
 ghost use Rattle.mv_edges.specs.Sorted.{sorted};
 ghost use Rattle.mv_borrow_graph.specs.BorrowRules.{call_edges, is_mutable, is_mutable_token, is_reference_token, is_root_node, is_temp, no_edge_out};
-ghost use Rattle.mv_borrow_graph.specs.BorrowRules.{opened_edges, reference_nodes, result_edges, return_edges, without_all};
+ghost use Rattle.mv_borrow_graph.specs.BorrowRules.{opened_edges, reference_nodes, result_edges, return_edges};
 ghost use Rattle.mv_borrow_graph.specs.Domain.{Follows, ordered};
 
 use crate::changes::{keep, taken};
@@ -69,7 +69,7 @@ fn tie(
     s: &mut Graph,
 ) -> Result<(), AllocError>
     requires { place + length results.now ≤ 2 ^ 16 }
-    ensures { OnOk result (s.new ≡ sorted (without_all all.now s.old ++ result_edges mutable.now all.now place results.now s.old)) }
+    ensures { OnOk result (s.new ≡ sorted (without_each all.now s.old ++ result_edges mutable.now all.now place results.now s.old)) }
 {
     let heirs = heirs_of(alloc, mutable, all, place, results)?;
     *s = taken(alloc, s).tied(alloc, all, &heirs)?;
@@ -89,7 +89,7 @@ fn tie_if(
     requires given { place + length results.now ≤ 2 ^ 16 }
     ensures { let mutable = reference_nodes is_mutable_token place parameters.now in
         let all = reference_nodes is_reference_token place parameters.now in
-        Follows result s.new (ordered (then_some holds (without_all all s.old ++ result_edges mutable all place results.now s.old))) }
+        Follows result s.new (ordered (then_some holds (without_each all s.old ++ result_edges mutable all place results.now s.old))) }
 {
     if !holds {
         return Err(StepError::Need);

@@ -2,9 +2,9 @@ use Rattle.std.proofs.Common.{◌≡◌, sym, subst}
 use Rattle.std.proofs.lemmas.Option.{MatchOption-at_some}
 use Rattle.mv_move_types.specs.Module.{FunctionDefinition}
 use Rattle.mv_cfg.specs.Steps.{BranchesInside}
-use Rattle.mv_cfg.proofs.Graphs.{element_at}
 use Rattle.mv_cfg.proofs.Targets.{branches-inside}
 use Rattle.mv_cfg.proofs.blocks.Goals as goal
+use Rattle.mv_bounds.proofs.Entries.{element_at}
 
 pub graph-requires-clause-inside : goal.graph-requires-clause-inside
 graph-requires-clause-inside c =

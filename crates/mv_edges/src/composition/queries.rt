@@ -1,5 +1,5 @@
 // Whether an edge leads from some nodes to others, and agrees with a position.
-ghost use Rattle.std.specs.Prelude.{◌≡◌, ◌≤◌, min, length, false};
+ghost use Rattle.std.specs.Prelude.{◌≡◌, ◌<◌, ◌^◌, min, length, false};
 ghost use Rattle.std.specs.List.{list_any};
 ghost use Rattle.std.specs.Option.{option_map_or};
 ghost use Rattle.mv_edges.specs.Composition.{any_between, edges_of};
@@ -33,7 +33,7 @@ impl Composition {
         position: Option<u8>,
         to: &Q,
     ) -> bool
-        requires few { length noted.old ≤ 2048 }
+        requires few { length noted.old < 2 ^ 16 }
         requires count { length next.old ≡ length noted.old }
         ensures { result ≡ any_between (P.test from.now) position (Q.test to.now) (edges_of self.now) }
     {

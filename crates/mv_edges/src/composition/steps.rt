@@ -1,10 +1,10 @@
 // What becomes of composed edges where references are copied, borrowed from and handed to functions.
 ghost use Rattle.std.specs.Prelude.{◌≡◌, ◌<◌, ◌^◌, ◌++◌, ◌==◌, ◌&&◌, false, true, flat_map, fold, length, not, None, IfOk, OnOk, IsTrue};
 ghost use Rattle.std.specs.List.{list_all};
-ghost use Rattle.mv_edges.specs.Edges.{extended, inherited, out_of, same_node, without};
+ghost use Rattle.mv_edges.specs.Edges.{extended, inherited, out_of, same_node, without, without_each};
 ghost use Rattle.mv_edges.specs.Sorted.{sorted};
 ghost use Rattle.mv_edges.specs.Composition.{Bundle as BundleRecord, any_between, bundle_edges, edges_of, gone, is_numbered};
-ghost use Rattle.mv_edges.specs.Graph.{taken_over, without_each};
+ghost use Rattle.mv_edges.specs.Graph.{taken_over};
 
 use super::super::Change;
 use super::super::graph::Heir;

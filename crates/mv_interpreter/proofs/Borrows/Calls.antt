@@ -10,8 +10,8 @@ use Rattle.mv_interpreter.proofs.Borrows.Common.{held_as, activation, acquires_o
 use Rattle.std.specs.Prelude.{if◌then◌else◌}
 use Rattle.std.proofs.{lemmas.Bool.ne_eqb, lemmas.List.length-drop, lemmas.List.take-append-drop, lemmas.List.reverse-reverse}
 use Rattle.mv_move_types.specs.{Module.own_acquires, Tokens.same_tokens}
-use Rattle.mv_edges.specs.Edges.{opened}
-use Rattle.mv_borrow_graph.specs.BorrowRules.{reference_nodes, without_all, result_edges, opened_edges}
+use Rattle.mv_edges.specs.Edges.{opened, without_each}
+use Rattle.mv_borrow_graph.specs.BorrowRules.{reference_nodes, result_edges, opened_edges}
 use Rattle.mv_borrow_graph.specs.{Abstract.Places.opened as the_opened, Abstract.Covers.InList, Abstract.Rows.IsArgument, Abstract.Rows.after_call, Abstract.Lists.first_locals}
 use Rattle.mv_borrow_graph.specs.{Abstract.Lists.Lent, Abstract.Lists.GivenAt, Abstract.Stack.Calls, Abstract.Stack.Homed}
 use Rattle.mv_type_states.specs.TypeRules.{taken}
@@ -89,7 +89,7 @@ from-base test base (t ∷ ts) n a = by_case (test t) a (λ b. from-base test (b
     by_case true (inr b) further = weaker (further b)
     by_case false b further = weaker (further b)
 
-pub without-all : (ns : List Node) (es : List Edge) (e : Edge) → ((n : Node) → AmongNodes n ns → (e.from ≡ n → ⊥) × (e.to ≡ n → ⊥)) → Member e es → Member e (without_all ns es)
+pub without-all : (ns : List Node) (es : List Edge) (e : Edge) → ((n : Node) → AmongNodes n ns → (e.from ≡ n → ⊥) × (e.to ≡ n → ⊥)) → Member e es → Member e (without_each ns es)
 without-all [] es e far m = m
 without-all (n ∷ ns) es e far m =
     without-all ns (without n es) e (λ k a. far k (inr a))
@@ -172,7 +172,7 @@ module _ (depends : ℕ → ℕ → Type 0) (home : Module) (function : Function
     act_w = activation function.acquires w
 
     needs : ((list_all (λ n. no_edge_out n es) (reference_nodes is_mutable_token base link.parameters) && list_all (λ t. no_edge_out (Glob t) es) (own_acquires home link.index)) ≡ true)
-        × (es' ≡ without_all (reference_nodes is_reference_token base link.parameters) es
+        × (es' ≡ without_each (reference_nodes is_reference_token base link.parameters) es
         ++ result_edges (reference_nodes is_mutable_token base link.parameters) (reference_nodes is_reference_token base link.parameters) base link.results es)
     needs = then-some _ _ es' (rw (link.is_handle, link.is_parameters, link.is_results) at need)
 
@@ -253,7 +253,7 @@ module _ (depends : ℕ → ℕ → Type 0) (home : Module) (function : Function
     return-in u result results typed p x c (no_p, inl (no_c, (e, m, from, on, to))) =
         subst (λ l. edges_of place l p x c) (sym needs.1) (
           e,
-          member_left e (without_all (reference_nodes is_reference_token base link.parameters) es)
+          member_left e (without_each (reference_nodes is_reference_token base link.parameters) es)
               (result_edges (reference_nodes is_mutable_token base link.parameters) (reference_nodes is_reference_token base link.parameters) base link.results es)
               (without-all (reference_nodes is_reference_token base link.parameters) es e far m),
           from,
@@ -272,7 +272,7 @@ module _ (depends : ℕ → ℕ → Type 0) (home : Module) (function : Function
         let e_to : e.to ≡ Temp (base + a.0) = node_of-inj place e.to (Temp (base + a.0)) (sym to ∙ j_is ∙ ap AtTemp a.2) in
         subst (λ l. edges_of place l p x c) (sym needs.1) (
           record { from = e.from; label = opened e.label; to = Temp (base + i) },
-          member_right _ (without_all (reference_nodes is_reference_token base link.parameters) es)
+          member_right _ (without_each (reference_nodes is_reference_token base link.parameters) es)
               (result_edges (reference_nodes is_mutable_token base link.parameters) (reference_nodes is_reference_token base link.parameters) base link.results es)
               (result-in (reference_nodes is_mutable_token base link.parameters) (reference_nodes is_reference_token base link.parameters) base i link.results t.0 es e (Temp (base + a.0)) t.1
               (kind-reference t.0 r.mutable t.2) (among-nodes is_reference_token base a.0 link.parameters a.1 a.3 (kind-reference a.1 g.mutable a.4))

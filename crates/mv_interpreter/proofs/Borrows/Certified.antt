@@ -2,7 +2,7 @@
 use Rattle.mv_interpreter.proofs.Borrows.Common.{refl, sym, ◌≡◌, ℕ, List, [], ◌∷◌, true, false, inl, inr, ap, subst, ◌++◌, Option, Some, Bool, ◌∙◌, ap₂, and_parts, or_cases, same_Some}
 use Rattle.mv_interpreter.proofs.Borrows.Common.{beq, list_any, list_all, ◌&&◌, Module, FunctionDefinition, begins, Availability, Instruction, begins-more, EdgesBelow, LabelBelow, Edge}
 use Rattle.mv_interpreter.proofs.Borrows.Common.{same_node, Label, Types, node_of, Member, edges_of, label_from, label_of, on_bind}
-use Rattle.mv_interpreter.proofs.{Typing.Callees.on_found, Borrows.Edges.same_node-is, Borrows.Kept.label-self, Typing.Tests.beq-is}
+use Rattle.mv_interpreter.proofs.{Typing.Callees.on_found, Borrows.Kept.label-self, Typing.Tests.beq-is}
 use Rattle.std.specs.Str.{bytes_eq}
 use Rattle.std.proofs.lemmas.Slice.Eq.{bytes_eq-Decides}
 use Rattle.mv_cfg.specs.Blocks.{BasicBlock as Block}
@@ -12,6 +12,7 @@ use Rattle.mv_certificate.specs.Certificate.{Known, Rule, through, instructions_
 use Rattle.mv_certificate.specs.Known.{known_after}
 use Rattle.mv_locals_safety.specs.LocalsRules.{locals_after}
 use Rattle.mv_borrow_graph.specs.{BorrowRules.edges_after, Abstract.Places.Begins}
+use Rattle.mv_borrow_graph.specs.Laws.There.{same_node-is}
 
 -- ---- the order
 

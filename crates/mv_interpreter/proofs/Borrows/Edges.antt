@@ -4,14 +4,10 @@ use Rattle.mv_interpreter.proofs.Borrows.Common.{true≢false, cases_Bool, list_
 use Rattle.mv_interpreter.proofs.Borrows.Common.{is_mutable, no_mutable_from, Edge, same_node, out_of, Point, defined, node_of, Member, edges_of, kind_at, AmongNodes}
 use Rattle.std.proofs.lemmas.Bool.{false_from_ne_true, or_parts}
 use Rattle.std.specs.Bool.{then_some}
-use Rattle.mv_edges.specs.Equality.{same_node_decides}
 use Rattle.mv_borrow_graph.specs.{BorrowRules.is_empty, There.node_itself}
+use Rattle.mv_borrow_graph.specs.Laws.There.{same_node-is}
 
 -- ---- nodes
-
--- nodes that the test takes for one are one
-pub same_node-is : (a b : Node) → same_node a b ≡ true → a ≡ b
-same_node-is a b h = (same_node_decides a b).0 h
 
 pub node_of-inj : (w : ℕ) (a b : Node) → node_of w a ≡ node_of w b → a ≡ b
 node_of-inj w (Glob i) (Glob j) h = let same : defined w i ≡ defined w j = cc in ap Glob (ap (λ (d : Defined). d.index) same)

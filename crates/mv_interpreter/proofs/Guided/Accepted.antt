@@ -1,17 +1,18 @@
 -- A certificate that holds of a module holds of each of its functions; and what is known where a callee begins.
-use Rattle.mv_interpreter.proofs.Guided.Common.{◌≡◌, ℕ, zero, suc, ◌+◌, ◌-◌, List, [], ◌∷◌, ◌++◌, map, length, true, refl, sym, ◌∙◌, ap, subst, arith, Bool, Some, None, option_map, Ok}
-use Rattle.mv_interpreter.proofs.Guided.Common.{ap₂, and_parts, length-append, same_Some, slice_get, Module, FunctionDefinition, local_tokens, Tag, same_tag, same_tags, Available}
+use Rattle.mv_interpreter.proofs.Guided.Common.{◌≡◌, ℕ, zero, suc, ◌+◌, ◌-◌, List, ◌∷◌, ◌++◌, map, length, true, refl, sym, ◌∙◌, ap, subst, arith, Bool, Some, None, option_map, Ok, Availability}
+use Rattle.mv_interpreter.proofs.Guided.Common.{and_parts, length-append, same_Some, slice_get, Module, FunctionDefinition, local_tokens, same_tags, Available}
 use Rattle.mv_interpreter.proofs.Guided.Common.{Unavailable, FunctionHandle, Token, callee-is, signature-is, Callee, Here, Value, Known, Certificate, Stated, flow_holds, edges_leq}
 use Rattle.mv_interpreter.proofs.Guided.Common.{on_bind, locals_leq, AsKnown, StoreFacts}
 use Rattle.mv_interpreter.proofs.{Typing.Callees.on_found, Borrows.Available.known-start}
 use Rattle.mv_move_types.specs.Module.{parameter_tokens}
 use Rattle.mv_certificate.specs.Certificate.{known_at_start, locals_hold, edges_hold, each_function}
-use Rattle.mv_locals_safety.specs.LocalsRules.{locals_after}
+use Rattle.mv_locals_safety.specs.LocalsRules.{locals_after, start_locals}
 use Rattle.mv_borrow_graph.specs.BorrowRules.{edges_after}
 use Rattle.mv_machine.specs.StepControl.{callee}
 use Rattle.mv_machine.proofs.Transfers.{tags-long}
-use Rattle.mv_linker.proofs.TagTests.{same_tag-is}
+use Rattle.mv_linker.proofs.TagTests.{same_tags-is}
 use Rattle.std.proofs.Common.{replicate}
+use Rattle.mv_module_text.proofs.Rows.{on_map}
 
 -- what is stated of a function flows
 pub record Flows (m : Module) (d : FunctionDefinition) (stated : Stated) : Type 0 where
@@ -54,13 +55,6 @@ module _ (depends : ℕ → ℕ → Type 0) (modules : List Module) (certificate
 
 -- ---- a callee
 
-pub same-tags : (xs ys : List Tag) → same_tags xs ys ≡ true → xs ≡ ys
-same-tags [] [] h = refl
-same-tags (x ∷ xs) (y ∷ ys) h =
-    let t = and_parts (same_tag x y) (same_tags xs ys) h in
-    ap₂ (λ (a : Tag) (l : List Tag). a ∷ l) (same_tag-is x y t.0) (same-tags xs ys t.1)
-same-tags xs ys h = absurd cc
-
 -- the callee's own parameters
 pub record OwnParameters (c : Callee) : Type 0 where
   pub handle : FunctionHandle
@@ -78,7 +72,7 @@ own-parameters h i c e =
       parameters = p.0;
       is_handle = is.is_own;
       are_parameters = p.1;
-      long = tags-long _ p.0 is.own_parameters p.2 ∙ ap length (sym (same-tags c.parameters is.own_parameters
+      long = tags-long _ p.0 is.own_parameters p.2 ∙ ap length (sym (same_tags-is c.parameters is.own_parameters
           (and_parts (same_tags c.parameters is.own_parameters) (same_tags c.results is.own_results) is.agree).0));
     }
 
@@ -88,8 +82,9 @@ pub entered-known : (m : Module) (d : FunctionDefinition) (start : Known) (handl
     → slice_get m.signatures d.locals ≡ Some others → length args ≡ length parameters → known_at_start m d ≡ Some start
     → AsKnown start.locals (map Some args ++ replicate (length others) None)
 entered-known m d start handle parameters others args handle_is parameters_are others_are long e =
-    on_bind (parameter_tokens m d) _ start e (λ ps ps_are e1.
-    on_bind (local_tokens m d) _ start e1 (λ ts ts_are e2.
+    on_map (start_locals m d) _ start e (λ locals locals_are known.
+    on_bind (parameter_tokens m d) _ locals locals_are (λ ps ps_are e1.
+    on_bind (local_tokens m d) _ locals e1 (λ ts ts_are e2.
     let found : parameter_tokens m d ≡ Some parameters = rw (handle_is, parameters_are) refl in
     let all : local_tokens m d ≡ Some (parameters ++ others) = rw (handle_is, parameters_are, others_are) refl in
     let p : ps ≡ parameters = same_Some ps parameters (sym ps_are ∙ found) in
@@ -98,6 +93,7 @@ entered-known m d start handle parameters others args handle_is parameters_are o
     let b : length ps ≡ length parameters = ap length p in
     let n : length ps ≡ length args = ap length p ∙ sym long in
     let k : length ts - length ps ≡ length others = omega (arith, a, b) in
-    subst (λ (z : Known). AsKnown z.locals (map Some args ++ replicate (length others) None)) (same_Some _ start e2)
+    subst (λ (z : Known). AsKnown z.locals (map Some args ++ replicate (length others) None)) known
+    (subst (λ (z : List Availability). AsKnown z (map Some args ++ replicate (length others) None)) (same_Some _ locals e2)
     (subst (λ (z : ℕ). AsKnown (replicate z Available ++ replicate (length ts - length ps) Unavailable) (map Some args ++ replicate (length others) None)) (sym n)
-    (subst (λ (z : ℕ). AsKnown (replicate (length args) Available ++ replicate z Unavailable) (map Some args ++ replicate (length others) None)) (sym k) (known-start args (length others))))))
+    (subst (λ (z : ℕ). AsKnown (replicate (length args) Available ++ replicate z Unavailable) (map Some args ++ replicate (length others) None)) (sym k) (known-start args (length others))))))))

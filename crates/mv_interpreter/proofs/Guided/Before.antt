@@ -1,12 +1,12 @@
 -- What an accepted certificate says before an instruction, and that it goes on to what it says before each that may come next.
 use Rattle.mv_interpreter.proofs.Guided.Common.{◌≡◌, ℕ, ◌+◌, ◌-◌, List, [], ◌∷◌, ◌++◌, map, length, true, false, refl, sym, ◌∙◌, ap, subst, arith, Bool, Option, Some, option_map, inl, inr}
 use Rattle.mv_interpreter.proofs.Guided.Common.{◌<◌, ◌≤◌, take, and_parts, and_from, leb-true, false_from_ne_true, same_Some, list_all, option_map_or, slice_get, nat_le, zip, slice_range}
-use Rattle.mv_interpreter.proofs.Guided.Common.{ends_block, successors, Module, FunctionDefinition, Availability, Available, Instruction, Known, Stated, flow_holds, through, stated_at}
-use Rattle.mv_interpreter.proofs.Guided.Common.{known_before, known_after, blocks-tile, Block, starts_from, blocks, leads_to, edges_leq, Edge, on_bind, locals_leq, Types, Point, each}
+use Rattle.mv_interpreter.proofs.Guided.Common.{ends_block, successors, Module, FunctionDefinition, Availability, Instruction, Known, Stated, flow_holds, through, stated_at}
+use Rattle.mv_interpreter.proofs.Guided.Common.{known_before, known_after, blocks-tile, Block, starts_from, blocks, leads_to, edges_leq, Edge, on_bind, locals_leq, Types, Point, all_at}
 use Rattle.mv_machine.proofs.Binds.{map-is}
 use Rattle.mv_edges.proofs.Order.{edges_leq_itself}
 use Rattle.mv_certificate.specs.{Certificate.instructions_of, Certificate.flows_into, Certificate.block_holds, Known.known_leq, Known.block_of}
-use Rattle.mv_locals_safety.specs.LocalsRules.{availability_leq, locals_after}
+use Rattle.mv_locals_safety.specs.LocalsRules.{locals_after}
 use Rattle.mv_borrow_graph.specs.BorrowRules.{edges_after}
 use Rattle.mv_type_states.specs.TypeRules.{types_after}
 use Rattle.mv_interpreter.proofs.Typing.FlowFacts.{range_split, BlockFacts, block_facts, ended_begin, next_inside}
@@ -15,16 +15,7 @@ use Rattle.mv_interpreter.proofs.Borrows.Certified.{Inside, inside, held, flows,
 use Rattle.mv_interpreter.proofs.Guided.Tiles.{Tiles, tiles-zip, holds_place, tile-found, tile-ordered, find-has, zip-parts, zip-maps, stated-maps, stated-has, next-is}
 use Rattle.mv_cfg.proofs.Beginnings.{starts_from-ascending}
 use Rattle.std.proofs.Common.{drop}
-
--- ---- each is below itself
-
-availability-self : (a : Availability) → availability_leq a a ≡ true
-availability-self Available = refl
-availability-self a = refl
-
-pub locals-self : (ls : List Availability) → locals_leq ls ls ≡ true
-locals-self [] = refl
-locals-self (l ∷ ls) = and_from (availability_leq l l) (locals_leq ls ls) (availability-self l) (locals-self ls)
+use Rattle.mv_locals_safety.specs.Laws.{leq_reflexive}
 
 -- ---- lists
 
@@ -156,10 +147,10 @@ module _ (m : Module) (d : FunctionDefinition) (stated : Stated) where
           let front_is : slice_range d.code b.block.first (at + 1) ≡ slice_range d.code b.block.first at ++ i ∷ [] =
           front.1 ∙ ap (λ (xs : List Instruction). slice_range d.code b.block.first at ++ i ∷ xs) (front.2 refl) in
           let l = held locals_after m d locals_leq stated_locals b.block b.known.locals
-          (each (block_holds locals_after locals_leq m d stated_locals) stated_locals b.place (b.block, Some b.known.locals) locals_both.1
+          (all_at (block_holds locals_after locals_leq m d stated_locals) stated_locals b.place (b.block, Some b.known.locals) locals_both.1
           (zip-maps (option_map (λ (k : Known). k.locals)) (blocks d.code) stated b.place (b.block, Some b.known) b.is_here)) in
           let g = held edges_after m d edges_leq stated_edges b.block b.known.edges
-          (each (block_holds edges_after edges_leq m d stated_edges) stated_edges b.place (b.block, Some b.known.edges) edges_both.1
+          (all_at (block_holds edges_after edges_leq m d stated_edges) stated_edges b.place (b.block, Some b.known.edges) edges_both.1
           (zip-maps (option_map (λ (k : Known). k.edges)) (blocks d.code) stated b.place (b.block, Some b.known) b.is_here)) in
           from_inside b facts i is l.end g.end l.exits g.exits whole.0 whole.2 front_is
           (inside known_after m d (slice_range d.code b.block.first at) i whole.0 (b.known, []) (record { locals = l.end.0; edges = g.end.0 }, l.end.1)
@@ -210,7 +201,7 @@ module _ (m : Module) (d : FunctionDefinition) (stated : Stated) where
                       }))
                       | inr e ↦ absurd e
                     ],
-                    and_from (locals_leq x.next.locals x.next.locals) (edges_leq x.next.edges x.next.edges) (locals-self x.next.locals) (edges_leq_itself x.next.edges),
+                    and_from (locals_leq x.next.locals x.next.locals) (edges_leq x.next.edges x.next.edges) (leq_reflexive x.next.locals) (edges_leq_itself x.next.edges),
                   )
 
               last : (j : ℕ) → Among j (successors at i) → at ≡ b.block.last → (l : Known) × (us : Types) × (known_before m d stated j ≡ Some (l, us)) × (known_leq x.next l ≡ true)

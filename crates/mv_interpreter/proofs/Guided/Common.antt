@@ -70,5 +70,5 @@ pub use Rattle.mv_interpreter.specs.Guided.Store.{StoreCertified, Depends}
 pub use Rattle.mv_interpreter.specs.Typing.Accepted.{ModuleAccepted}
 pub use Rattle.mv_interpreter.specs.Typing.Facts.{SoundStore}
 pub use Rattle.mv_interpreter.specs.Typing.StateTyped.{StateTyped, HaveTokens}
-pub use Rattle.mv_linker.proofs.Found.{each}
 pub use Rattle.mv_acquires.specs.Acquires.{AcquiresHold}
+pub use Rattle.mv_bounds.proofs.Entries.{all_at}

@@ -7,7 +7,8 @@ use Rattle.mv_interpreter.proofs.Guided.Common.{entry, linked, tag_named, value_
 use Rattle.mv_interpreter.proofs.Guided.Common.{held_as, local_of, StoodFit, AllAgree}
 use Rattle.mv_machine.specs.StepControl.{callee, signature_tags, return_results}
 use Rattle.mv_borrow_graph.specs.Abstract.Lists.{Value as TheValue, Plain as NoRef, Reference as Held}
-use Rattle.mv_interpreter.proofs.{Borrows.Same.SameSeen, Borrows.Same.SameFrames, Borrows.Operands.tags-kinds, Borrows.Invariant.refit, Guided.Accepted.same-tags}
+use Rattle.mv_interpreter.proofs.{Borrows.Same.SameSeen, Borrows.Same.SameFrames, Borrows.Operands.tags-kinds, Borrows.Invariant.refit}
+use Rattle.mv_linker.proofs.TagTests.{same_tags-is}
 
 -- ---- tags
 
@@ -55,7 +56,7 @@ callee-agrees h j c e handle results handle_at results_at own own_results own_at
     let one : handle ≡ is.handle = same_Some handle is.handle (sym handle_at ∙ is.is_handle) in
     let two : own ≡ is.own = same_Some own is.own (sym own_at ∙ is.is_own) in
     signature-kinds h.modules h.home is.handle.results c.results results is.are_results (subst (λ (z : FunctionHandle). slice_get h.home.signatures z.results ≡ Some results) one results_at)
-    ∙ ap (map tag_kind) (same-tags c.results is.own_results (and_parts (same_tags c.parameters is.own_parameters) (same_tags c.results is.own_results) is.agree).1)
+    ∙ ap (map tag_kind) (same_tags-is c.results is.own_results (and_parts (same_tags c.parameters is.own_parameters) (same_tags c.results is.own_results) is.agree).1)
     ∙ sym (signature-kinds h.modules c.home is.own.results is.own_results own_results is.are_own_results
     (subst (λ (z : FunctionHandle). slice_get c.home.signatures z.results ≡ Some own_results) two own_results_at))
 

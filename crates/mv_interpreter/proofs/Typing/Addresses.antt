@@ -1,6 +1,6 @@
 -- An address of 16 bytes is in its range.
 use Rattle.mv_interpreter.proofs.Typing.Common.{◌≡◌, ℕ, zero, suc, ◌+◌, ◌-◌, ◌*◌, ◌^◌, ◌<◌, ◌≤◌, true, List, [], ◌∷◌, length, refl, ap, subst, ◌∙◌, arith, ltb-true, lt-ltb, pow-add}
-use Rattle.mv_interpreter.proofs.Typing.Common.{first_so, second_so, list_all, IsTrue, ◌==◌, ◌&&◌, slice_index, Module, Address, is_byte, is_index, constant_fits, token_fits, each}
+use Rattle.mv_interpreter.proofs.Typing.Common.{first_so, second_so, list_all, IsTrue, ◌==◌, ◌&&◌, slice_index, Module, Address, is_byte, is_index, constant_fits, token_fits, all_at}
 use Rattle.mv_interpreter.proofs.Typing.Common.{StoreAccepted, SoundStore, in_range}
 use Rattle.std.specs.Int.{sum_through, byte_worth}
 use Rattle.std.proofs.Math.Nat.{mul-le-mul_right}
@@ -54,7 +54,7 @@ big_bound bs h =
 
 pub addresses_fit : (modules : List Module) → StoreAccepted modules → AddressesFit modules
 addresses_fit modules store place i m c n m_at c_at e =
-    let written : constant_fits m.version c ≡ true = each (constant_fits m.version) m.constants i c (store.each place m m_at).text.constants c_at in
+    let written : constant_fits m.version c ≡ true = all_at (constant_fits m.version) m.constants i c (store.each place m m_at).text.constants c_at in
     let bytes : list_all is_byte c.bytes ≡ true = second_so (token_fits m.version c.token && is_index (length c.bytes)) (list_all is_byte c.bytes) written in
     on_test (length c.bytes == 16) (big_endian c.bytes) n e (λ test same.
     subst (λ (x : ℕ). IsTrue (in_range Address x)) same (lt-ltb (big_endian c.bytes) (2 ^ 128) (big_bound c.bytes bytes)))

@@ -1,30 +1,26 @@
 -- A typed instruction leads to typed instructions.
-use Rattle.mv_interpreter.proofs.Typing.Common.{◌≡◌, ℕ, zero, suc, ◌+◌, ◌-◌, ◌<◌, ◌≤◌, true, List, [], ◌∷◌, length, refl, ap, subst, ◌∙◌, arith, ◌++◌, Option, Some, None, false, take}
-use Rattle.mv_interpreter.proofs.Typing.Common.{drop, sym, ◌⊎◌, inl, inr, ltb-true, lt-ltb, eqb-true, and_from, eq-eqb, false_from_ne_true, same_Some, list_all, list_any, option_map_or}
+use Rattle.mv_interpreter.proofs.Typing.Common.{◌≡◌, ℕ, zero, suc, ◌+◌, ◌-◌, ◌<◌, ◌≤◌, true, List, [], ◌∷◌, length, refl, ap, subst, ◌∙◌, arith, ◌++◌, Some, false, take}
+use Rattle.mv_interpreter.proofs.Typing.Common.{drop, sym, ◌⊎◌, inl, inr, ltb-true, lt-ltb, and_from, eq-eqb, false_from_ne_true, same_Some, list_all, list_any}
 use Rattle.mv_interpreter.proofs.Typing.Common.{IsTrue, ◌==◌, slice_get, nat_le, nat_lt, ◌||◌, slice_range, ends_block, successors, Module, FunctionDefinition, Instruction, Ret, BrTrue}
-use Rattle.mv_interpreter.proofs.Typing.Common.{BrFalse, Branch, Abort, instruction_in, local_count, IsAscending, ends_well, BasicBlock, starts_from, instruction_fits, each, Types}
+use Rattle.mv_interpreter.proofs.Typing.Common.{BrFalse, Branch, Abort, instruction_in, local_count, IsAscending, ends_well, BasicBlock, starts_from, instruction_fits, all_at, Types}
 use Rattle.mv_interpreter.proofs.Typing.Common.{TypesAt, function_is_typed, types_through, Advance}
 use Rattle.mv_cfg.proofs.Beginnings.{starts_from-ascending}
 use Rattle.mv_cfg.specs.Blocks.{blocks, may_be_last}
 use Rattle.mv_move_types.specs.Flow.{targets}
 use Rattle.mv_type_states.specs.{TypeRules.types_after, TypesHold.block_is_typed}
-use Rattle.mv_linker.proofs.Found.{some_passes, there_at}
 use Rattle.mv_interpreter.specs.Typing.Facts.{AllAt}
 use Rattle.mv_interpreter.proofs.Typing.FlowFacts.{range_split, through_step, through_apart, through_join, through_one, Among, rising_bounds, targets_begin, ended_begin, BlockFacts}
 use Rattle.mv_interpreter.proofs.Typing.FlowFacts.{block_facts, begins_block, next_inside}
 use Rattle.mv_interpreter.proofs.Lists.{below-or-at}
+use Rattle.mv_bounds.proofs.Entries.{element_at}
+use Rattle.mv_borrow_graph.specs.Laws.BlocksThere.{empty_end}
+use Rattle.std.proofs.lemmas.Map.Keys.{any_passes_from_place}
 
 -- the last instruction
 last_is : (code : List Instruction) (k : ℕ) (c : Instruction) → ends_well code ≡ true → slice_get code k ≡ Some c → k + 1 ≡ length code → may_be_last c ≡ true
 last_is (x ∷ []) zero c h e l = subst (λ (z : Instruction). may_be_last z ≡ true) (same_Some x c e) h
 last_is (x ∷ y ∷ code) (suc k) c h e l = last_is (y ∷ code) k c h e (omega (arith, l))
 last_is code k c h e l = absurd (grind arith)
-
--- types that end with no operand
-through_all : (r : Option Types) → option_map_or (λ stack. length stack == 0) r false ≡ true → r ≡ Some []
-through_all None h = let z : false ≡ true = h in absurd cc
-through_all (Some []) h = refl
-through_all (Some (x ∷ xs)) h = let long : suc (length xs) ≡ 0 = eqb-true (suc (length xs)) 0 h in absurd (omega (arith, long))
 
 module _ (m : Module) (d : FunctionDefinition) (typed : IsTrue (function_is_typed m d)) (ends : IsTrue (ends_well d.code))
     (inside : IsTrue (list_all (instruction_in m (local_count m d) (length d.code)) d.code))
@@ -63,10 +59,10 @@ module _ (m : Module) (d : FunctionDefinition) (typed : IsTrue (function_is_type
 
   -- where a block's last instruction leads
   last_leads : (at : ℕ) (c : Instruction) → slice_get d.code at ≡ Some c → (at + 1 ≡ length d.code) ⊎ Among (at + 1) starts → AllBegin (successors at c)
-  last_leads at c e next = by_case c (each (instruction_in m (local_count m d) (length d.code)) d.code at c inside e) (λ t p. target t p) beyond
+  last_leads at c e next = by_case c (all_at (instruction_in m (local_count m d) (length d.code)) d.code at c inside e) (λ t p. target t p) beyond
     where
       target : (t : ℕ) → list_any (λ x. x == t) (targets c) ≡ true → t < length d.code → Among t starts
-      target t p l = targets_begin d.code 0 t true d.code (some_passes (λ x. list_any (λ y. y == t) (targets x)) d.code at c e p) (omega arith) (omega (arith, l))
+      target t p l = targets_begin d.code 0 t true d.code (any_passes_from_place (λ x. list_any (λ y. y == t) (targets x)) d.code at c e p) (omega arith) (omega (arith, l))
 
       beyond : may_be_last c ≡ false → Among (at + 1) starts
       beyond not_last = elim next [ inl p ↦ let last = last_is d.code at c ends e p in absurd cc | inr a ↦ a ]
@@ -100,18 +96,18 @@ module _ (m : Module) (d : FunctionDefinition) (typed : IsTrue (function_is_type
       let low : b.first ≤ at = t.not_before in
       let high : at ≤ b.last = t.not_behind in
       let short : b.last < length d.code = f.inside in
-      let c = there_at d.code at (omega (arith, high, short)) in
+      let c = element_at d.code at (omega (arith, high, short)) in
       let whole = range_split d.code b.first at (b.last + 1) c.0 low (omega (arith, high)) c.1 in
       let front = range_split d.code b.first at (at + 1) c.0 low (omega arith) c.1 in
       let front_is : slice_range d.code b.first (at + 1) ≡ slice_range d.code b.first at ++ c.0 ∷ [] =
       front.1 ∙ ap (λ (xs : List Instruction). slice_range d.code b.first at ++ c.0 ∷ xs) (front.2 refl) in
-      let block_typed : block_is_typed m d b ≡ true = each (block_is_typed m d) (blocks d.code) t.place b typed t.is_block in
-      let all = through_all (types_through m d (slice_range d.code b.first (b.last + 1)) []) block_typed in
+      let block_typed : block_is_typed m d b ≡ true = all_at (block_is_typed m d) (blocks d.code) t.place b typed t.is_block in
+      let all = empty_end (types_through m d (slice_range d.code b.first (b.last + 1)) []) block_typed in
       let all_parts : types_through m d (slice_range d.code b.first at ++ c.0 ∷ whole.0) [] ≡ Some [] = subst (λ (xs : List Instruction). types_through m d xs [] ≡ Some []) whole.1 all in
       let parts = through_apart m d (slice_range d.code b.first at) (c.0 ∷ whole.0) [] [] all_parts in
       let same : parts.0 ≡ types = same_Some parts.0 types (sym parts.1 ∙ t.carried) in
       let step = through_step m d c.0 whole.0 types [] (subst (λ (x : Types). types_through m d (c.0 ∷ whole.0) x ≡ Some []) same parts.2) in
-      let fit : instruction_fits m.version c.0 ≡ true = each (instruction_fits m.version) d.code at c.0 fits c.1 in
+      let fit : instruction_fits m.version c.0 ≡ true = all_at (instruction_fits m.version) d.code at c.0 fits c.1 in
       by_place b f c.0 step.0 c.1 step.1 step.2 fit
       (λ inner. record {
         block = b;

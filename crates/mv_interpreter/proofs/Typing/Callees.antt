@@ -2,7 +2,7 @@
 use Rattle.mv_interpreter.proofs.Typing.Common.{◌≡◌, ℕ, true, List, length, refl, ap, subst, ◌∙◌, ◌++◌, Option, Some, None, Ok, Bool, false, sym, and_from, eq-eqb, or_right}
 use Rattle.mv_interpreter.proofs.Typing.Common.{option_and_then_some, first_so, second_so, list_all, option_map_or, ◌==◌, ◌&&◌, slice_get, ok_or, ◌||◌, Module, FunctionDefinition}
 use Rattle.mv_interpreter.proofs.Typing.Common.{own_name, module_place, function_place, module_named, ◌>>=◌, Tag, FunctionHandle, Token, Here, Callee, Faults, LinkageFault, entry, below}
-use Rattle.mv_interpreter.proofs.Typing.Common.{function_in, instruction_in, local_count, ends_well, on_bind, function_definition_fits, instruction_fits, each, there_below, then_found}
+use Rattle.mv_interpreter.proofs.Typing.Common.{function_in, instruction_in, local_count, ends_well, on_bind, function_definition_fits, instruction_fits, all_at, there_below, then_found}
 use Rattle.mv_interpreter.proofs.Typing.Common.{same_module-same, structs_are_there, tokens_named, function_is_typed, StoreAccepted, ModuleAccepted, CallFacts}
 use Rattle.mv_interpreter.proofs.{Typing.Operands.tags_by, Typing.Advances.start_typed, Typing.Names.tag_is_found, Typing.OwnDefinitions.then_ok}
 use Rattle.mv_move_types.specs.{Names.same_module, Module.module_name, Tags.same_tags, Named.is_module, Named.have_one_name, Named.is_public}
@@ -37,9 +37,9 @@ pub call_facts : (h : Here) → StoreAccepted h.modules → slice_get h.modules 
 unfolding callee
 call_facts h store home_at i handle parameters results handle_at parameters_at results_at =
     let m : Module = h.home in
-    let all = each (λ m. list_all (function_is_there h.modules m) m.function_handles) h.modules h.state.top.function.place m store.links.functions home_at in
-    let fine = each (function_is_there h.modules m) m.function_handles i handle all handle_at in
-    let own_links = each (λ m. structs_are_there h.modules m 0 m.struct_handles) h.modules h.state.top.function.place m store.links.structs home_at in
+    let all = all_at (λ m. list_all (function_is_there h.modules m) m.function_handles) h.modules h.state.top.function.place m store.links.functions home_at in
+    let fine = all_at (function_is_there h.modules m) m.function_handles i handle all handle_at in
+    let own_links = all_at (λ m. structs_are_there h.modules m 0 m.struct_handles) h.modules h.state.top.function.place m store.links.structs home_at in
     on_found (λ n. option_map_or (λ name. option_map_or (function_fits m handle n) (function_named n name) false) (slice_get m.identifiers handle.name) false)
     (module_name m handle.module >>= module_named h.modules) fine (λ n n_is f1.
     on_bind (module_name m handle.module) (module_named h.modules) n n_is (λ home_name home_name_is n_named.
@@ -53,15 +53,15 @@ call_facts h store home_at i handle parameters results handle_at parameters_at r
     same_named m handle.results n own.results (second_so (same_signature m handle.parameters n own.parameters) (same_signature m handle.results n own.results) f4) (λ rtags r_is s_is.
     on_bind (slice_get n.signatures own.parameters) (tokens_named n) ptags q_is (λ own_parameters own_parameters_at own_parameters_named.
     let a : ModuleAccepted n = store.each place n n_at in
-    let links = each (λ m. structs_are_there h.modules m 0 m.struct_handles) h.modules place n store.links.structs n_at in
-    let inside = each (function_in n) n.functions index d a.bounds.functions d_at in
+    let links = all_at (λ m. structs_are_there h.modules m 0 m.struct_handles) h.modules place n store.links.structs n_at in
+    let inside = all_at (function_in n) n.functions index d a.bounds.functions d_at in
     let inside3 = first_so (below d.handle n.function_handles && below d.locals n.signatures && list_all (λ i. below i n.structs) d.acquires)
     (list_all (instruction_in n (local_count n d) (length d.code)) d.code) inside in
     let inside2 = first_so (below d.handle n.function_handles && below d.locals n.signatures) (list_all (λ i. below i n.structs) d.acquires) inside3 in
     let others = there_below n.signatures d.locals (second_so (below d.handle n.function_handles) (below d.locals n.signatures) inside2) in
     let code_inside = second_so (below d.handle n.function_handles && below d.locals n.signatures && list_all (λ i. below i n.structs) d.acquires)
     (list_all (instruction_in n (local_count n d) (length d.code)) d.code) inside in
-    let written = each (function_definition_fits n.version) n.functions index d a.text.functions d_at in
+    let written = all_at (function_definition_fits n.version) n.functions index d a.text.functions d_at in
     let c : Callee = record { function = record { place = place; index = index }; home = n; definition = d; parameters = ptags; results = rtags } in
     let allowed : ((place == h.state.top.function.place) || is_public d) ≡ true = may_call n d place n_at (first_so (is_public d || have_one_name m n) _ f3) in
     let ps = signature_found h.modules m own_links handle.parameters ptags p_is in
@@ -86,8 +86,8 @@ call_facts h store home_at i handle parameters results handle_at parameters_at r
           (then_found (slice_get n.signatures d.locals) _ others.0 (Some (own_parameters ++ others.0)) others.1 refl));
       own_parameter_tags = own_parameters_named;
       own_results = then_found (slice_get n.function_handles d.handle) _ own (Some rtags) own_is s_is;
-      starts = start_typed n d (each (function_is_typed n) n.functions index d a.types d_at)
-          (each (λ (d : FunctionDefinition). ends_well d.code) n.functions index d a.flow d_at) code_inside (second_so _ (list_all (instruction_fits n.version) d.code) written);
+      starts = start_typed n d (all_at (function_is_typed n) n.functions index d a.types d_at)
+          (all_at (λ (d : FunctionDefinition). ends_well d.code) n.functions index d a.flow d_at) code_inside (second_so _ (list_all (instruction_fits n.version) d.code) written);
     }))))))))))
   where
     may_call : (n : Module) (d : FunctionDefinition) (place : ℕ) → slice_get h.modules place ≡ Some n → (is_public d || have_one_name h.home n) ≡ true

@@ -50,7 +50,7 @@ pub use Rattle.mv_cfg.proofs.Beginnings.{IsAscending}
 pub use Rattle.mv_cfg.specs.Blocks.{ends_well, BasicBlock, starts_from}
 pub use Rattle.mv_module_text.proofs.Texts.{on_bind}
 pub use Rattle.mv_module_text.specs.Fits.{address_fits, function_definition_fits, instruction_fits, is_byte, is_index, constant_fits, token_fits}
-pub use Rattle.mv_linker.proofs.Found.{each, there_below, then_found}
+pub use Rattle.mv_linker.proofs.Found.{then_found}
 pub use Rattle.mv_linker.proofs.NameLemmas.{same_module-same, same_struct-same}
 pub use Rattle.mv_linker.specs.StoreRules.{structs_are_there}
 pub use Rattle.mv_linker.specs.TypesByName.{token_named, tokens_named, value_type_named}
@@ -68,3 +68,4 @@ pub use Rattle.mv_interpreter.specs.Typing.StateTyped.{IsWaiting}
 pub use Rattle.mv_interpreter.specs.Typing.Unreached.{Avoid, Unreached, BelowAvoid}
 pub use Rattle.mv_signatures.specs.Signatures.{may_be_field}
 pub use Rattle.mv_abilities.specs.Abilities.{token_abilities, value_type_abilities}
+pub use Rattle.mv_bounds.proofs.Entries.{all_at, there_below}

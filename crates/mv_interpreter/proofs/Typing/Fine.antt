@@ -3,14 +3,15 @@ use Rattle.mv_interpreter.proofs.Typing.Common.{◌≡◌, ℕ, true, List, [], 
 use Rattle.mv_interpreter.proofs.Typing.Common.{second_so, list_all, option_map_or, IsTrue, ◌&&◌, slice_get, Module, struct_name, StructDefinition, name_at, module_place, module_named}
 use Rattle.mv_interpreter.proofs.Typing.Common.{definition_of, StructName, Tag, LeafTag, StructTag, same_kind, Field, Abilities, LeafKind, Signer, Token, Plain, ReferenceTo}
 use Rattle.mv_interpreter.proofs.Typing.Common.{MutableReferenceTo, OfLeaf, OfStruct, Storage, Entry, abilities_at, Value, Leaf, Struct, Ref, Values, NoMore, More, below, struct_in}
-use Rattle.mv_interpreter.proofs.Typing.Common.{field_in, on_bind, address_fits, each, then_found, same_struct-same, token_named, tokens_named, StoreAccepted, ModuleAccepted, in_range}
+use Rattle.mv_interpreter.proofs.Typing.Common.{field_in, on_bind, address_fits, all_at, then_found, same_struct-same, token_named, tokens_named, StoreAccepted, ModuleAccepted, in_range}
 use Rattle.mv_interpreter.proofs.Typing.Common.{IsOf, AreOf, EntryTyped, StorageTyped, may_be_field}
-use Rattle.mv_interpreter.proofs.{Typing.Operands.on_names, Typing.Tests.same_kind-is, Typing.Tests.same_kind-same, Typing.Names.tokens_there, Typing.OwnDefinitions.field_tokens}
+use Rattle.mv_interpreter.proofs.{Typing.Operands.on_names, Typing.Tests.same_kind-same, Typing.Names.tokens_there, Typing.OwnDefinitions.field_tokens}
 use Rattle.mv_interpreter.proofs.{Typing.Callees.on_found}
 use Rattle.mv_move_types.specs.{Options.find_index, Names.same_struct, Named.is_struct}
 use Rattle.mv_machine.specs.Typed.{leaf_fits, is_of_type, are_of_types, is_of_struct, is_fine_entry, is_fine_storage}
 use Rattle.mv_linker.proofs.NameLemmas.{same_struct-is}
 use Rattle.mv_interpreter.specs.Typing.HasType.{fields_by_name}
+use Rattle.mv_type_states.proofs.Tokens.{kinds_equal}
 
 -- what the phases say of a struct's definition: its fields' types have names, and none is a reference or a signer
 pub record Defined (modules : List Module) (m : Module) (fields : List Field) : Type 0 where
@@ -25,12 +26,12 @@ definition_defined modules store name d e =
     on_bind (find_index (is_struct m name) m.structs) _ d e1 (λ i i_is e2.
     on_bind (slice_get m.structs i) _ d e2 (λ s s_at e3.
     let a : ModuleAccepted m = store.each place m m_at in
-    let fine = each (struct_in m) m.structs i s a.bounds.structs s_at in
+    let fine = all_at (struct_in m) m.structs i s a.bounds.structs s_at in
     let tags = tokens_there m a.bounds (map (λ (f : Field). f.token) s.fields) (field_tokens m s.fields (second_so (below s.handle m.struct_handles) (list_all (field_in m) s.fields) fine)) in
     let here : Defined modules m s.fields = record {
       tags = tags.0;
       are_tags = tags.1;
-      may_be = each (λ (d : StructDefinition). list_all (λ f. may_be_field f.token) d.fields) m.structs i s a.signed.fields s_at;
+      may_be = all_at (λ (d : StructDefinition). list_all (λ f. may_be_field f.token) d.fields) m.structs i s a.signed.fields s_at;
     } in
     subst (λ (x : Module × List Field). Defined modules x.0 x.1) (same_Some (m, s.fields) d e3) here))))
 
@@ -55,7 +56,7 @@ module _ (modules : List Module) (store : StoreAccepted modules) where
     of_type : (m : Module) (t : Token) (v : Value) (tag : Tag) → is_of_type modules m t v ≡ true → token_named m t ≡ Some tag → IsOf (fields_by_name modules) v tag
     of_type m (Plain (OfLeaf k)) (Leaf j n) tag h e =
         subst (λ (x : Tag). IsOf (fields_by_name modules) (Leaf j n) x) (same_Some (LeafTag k) tag e)
-        (same_kind-is j k (first_so (same_kind j k) (leaf_fits k n) h), subst (λ (x : LeafKind). IsTrue (in_range x n)) (sym (same_kind-is j k (first_so (same_kind j k) (leaf_fits k n) h))) (leaf_ranges k n (second_so (same_kind j k) (leaf_fits k n) h)))
+        (kinds_equal j k (first_so (same_kind j k) (leaf_fits k n) h), subst (λ (x : LeafKind). IsTrue (in_range x n)) (sym (kinds_equal j k (first_so (same_kind j k) (leaf_fits k n) h))) (leaf_ranges k n (second_so (same_kind j k) (leaf_fits k n) h)))
     of_type m (Plain (OfStruct i)) (Struct name fields) tag h e =
         let same : option_map_or (λ own. same_struct own name) (struct_name m i) false ≡ true =
         first_so (option_map_or (λ own. same_struct own name) (struct_name m i) false)

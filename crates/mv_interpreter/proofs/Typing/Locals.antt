@@ -13,6 +13,7 @@ use Rattle.mv_interpreter.proofs.Typing.Parts.{Part, known, some, passes, tried,
 use Rattle.mv_interpreter.proofs.{Typing.Operands.on_test, Typing.Operands.taken-is, Typing.Stays.stays_at, Typing.Stays.moved, Typing.Stays.top_typed}
 use Rattle.mv_interpreter.proofs.Typing.Keep.{Kept, Nothing, none_to_nothing, keep_stack, keep_locals, keep_below}
 use Rattle.mv_interpreter.proofs.Typing.Roots.{named_plain, plain_is, typed_has_tag, local_at, local_set, other_roots, own_root}
+use Rattle.mv_borrow_graph.specs.Laws.Shifts.{plain_of-is}
 
 -- two roots are one or not
 pub root_is : (root : Root) (n l : ℕ) → (root ≡ Local n l) ⊎ (root ≡ Local n l → ⊥)
@@ -53,10 +54,6 @@ module _ (modules : List Module) (s : State) (l : ℕ) (new : Option Value) wher
       record { gone = Nothing; kept = kept_all (Some (Ref r)) there never; avoids = none_to_nothing s }
   stays_but (Some (Leaf k n)) there free = record { gone = (λ root. root ≡ Local s.top.number l); kept = kept_others; avoids = free (Leaf k n) there refl }
   stays_but (Some (Struct name fields)) there free = record { gone = (λ root. root ≡ Local s.top.number l); kept = kept_others; avoids = free (Struct name fields) there refl }
-
-pub plain_of-is : (t : Token) (u : ValueType) → plain_of t ≡ Some u → t ≡ Plain u
-plain_of-is (Plain t) u e = ap Plain (same_Some t u e)
-plain_of-is t u e = absurd cc
 
 module _ (h : Here) (i : Instruction) (types after : Types) (row : Row h i types after) (next : TypesAt h.home h.function (h.state.top.at + 1) after) where
   -- the local's declared type, and what it holds

@@ -2,7 +2,7 @@
 use Rattle.mv_interpreter.proofs.Typing.Common.{◌≡◌, ℕ, zero, suc, ◌+◌, true, List, [], ◌∷◌, refl, ap, subst, ◌∙◌, arith, Option, Some, None, Result, Ok, Bool, false, sym, and_from}
 use Rattle.mv_interpreter.proofs.Typing.Common.{same_Some, beq, first_so, second_so, booleans_Decides, list_all, option_map_or, ◌&&◌, slice_get, Module, struct_name, StructName, ◌>>=◌}
 use Rattle.mv_interpreter.proofs.Typing.Common.{◌>>=ᵣ◌, Tag, LeafTag, StructTag, ReferenceTag, StructHandle, Abilities, Token, Plain, ReferenceTo, MutableReferenceTo, ValueType, OfLeaf}
-use Rattle.mv_interpreter.proofs.Typing.Common.{OfStruct, tag_named, Failure, below, token_in, on_bind, each, there_below, structs_are_there, token_named, tokens_named, value_type_named}
+use Rattle.mv_interpreter.proofs.Typing.Common.{OfStruct, tag_named, Failure, below, token_in, on_bind, all_at, there_below, structs_are_there, token_named, tokens_named, value_type_named}
 use Rattle.mv_interpreter.proofs.Typing.Common.{Named}
 use Rattle.mv_machine.specs.Typing.{struct_tag, value_type_tag}
 use Rattle.mv_move_types.specs.{Named.declared, AbilitySets.same_abilities}
@@ -14,7 +14,7 @@ module _ (m : Module) (bounds : InBounds m) where
   pub struct_there : (h : ℕ) → below h m.struct_handles ≡ true → (name : StructName) × (struct_name m h ≡ Some name)
   struct_there h e =
       let handle = there_below m.struct_handles h e in
-      let fine = each (struct_handle_in m) m.struct_handles h handle.0 bounds.struct_handles handle.1 in
+      let fine = all_at (struct_handle_in m) m.struct_handles h handle.0 bounds.struct_handles handle.1 in
       let home = module_there m bounds handle.0.module (first_so (below handle.0.module m.module_handles) (below handle.0.name m.identifiers) fine) in
       let name = there_below m.identifiers handle.0.name (second_so (below handle.0.module m.module_handles) (below handle.0.name m.identifiers) fine) in
       (record { home = home.0; name = name.0 }, struct_name_by m bounds h handle.0 home.0 name.0 handle.1 home.1 name.1)

@@ -1,7 +1,7 @@
 -- Operands by their types: what the rules of types say of the stack, and what the stack then is.
 use Rattle.mv_interpreter.proofs.Typing.Common.{◌≡◌, ℕ, suc, true, List, [], ◌∷◌, length, refl, ap, subst, ◌∙◌, arith, ◌++◌, Some, Ok, Bool, false, take, drop, sym, ap₂, reverse}
-use Rattle.mv_interpreter.proofs.Typing.Common.{same_Some, IsTrue, Module, for_each, Tag, LeafTag, same_tokens, same_value_type, LeafKind, Token, Plain, ValueType, OfLeaf, operands}
-use Rattle.mv_interpreter.proofs.Typing.Common.{tag_named, Value, Leaf, on_bind, token_named, tokens_named, lists_equal, tokens_equal, takes_gives, taken, in_range, Roots, HasType}
+use Rattle.mv_interpreter.proofs.Typing.Common.{same_Some, IsTrue, Module, for_each, Tag, LeafTag, same_tokens, LeafKind, Token, Plain, OfLeaf, operands}
+use Rattle.mv_interpreter.proofs.Typing.Common.{tag_named, Value, Leaf, on_bind, token_named, tokens_named, lists_equal, takes_gives, taken, in_range, Roots, HasType}
 use Rattle.mv_interpreter.proofs.Typing.Common.{HasToken, HaveTokens}
 use Rattle.std.proofs.Common.{leb, length-append}
 use Rattle.std.proofs.lemmas.List.{length-reverse, reverse-append, reverse-reverse, take-append-drop}
@@ -11,10 +11,6 @@ use Rattle.std.specs.Bool.{then_some}
 pub use Rattle.mv_type_states.proofs.HeightLemmas.{top_some as top_type-is}
 
 -- ---- tests of types
-
-pub same_value_type-is : (a b : ValueType) → same_value_type a b ≡ true → a ≡ b
-same_value_type-is a b h =
-    let same : Plain a ≡ Plain b = tokens_equal (Plain a) (Plain b) h in cc
 
 -- ---- taking the rules of types apart
 

@@ -2,7 +2,7 @@
 use Rattle.mv_interpreter.proofs.Typing.Common.{◌≡◌, ℕ, true, List, [], ◌∷◌, refl, ap, subst, ◌∙◌, Option, Some, Result, Ok, Bool, map, and_from, same_Some, first_so, second_so, list_all}
 use Rattle.mv_interpreter.proofs.Typing.Common.{slice_get, ok_or, not, Module, struct_name, own_name, StructDefinition, definition_of, StructName, ModuleName, ◌>>◌, need, ◌>>=ᵣ◌, Tag}
 use Rattle.mv_interpreter.proofs.Typing.Common.{Field, StructHandle, Token, Plain, Here, OwnStruct, is_reference_tag, Faults, LinkageFault, entry, below, token_in, struct_in, field_in}
-use Rattle.mv_interpreter.proofs.Typing.Common.{each, there_below, then_found, same_module-same, token_named, tokens_named, StoreAccepted, ModuleAccepted, are_plain, may_be_field}
+use Rattle.mv_interpreter.proofs.Typing.Common.{all_at, there_below, then_found, same_module-same, token_named, tokens_named, StoreAccepted, ModuleAccepted, are_plain, may_be_field}
 use Rattle.mv_interpreter.proofs.{Typing.Operands.on_names, Typing.Roots.named_plain, Typing.Names.tokens_there}
 use Rattle.mv_machine.specs.{Typing.linked, Step.own_struct}
 use Rattle.mv_linker.proofs.OwnDefinitions.{own-definition, owns-structs}
@@ -38,7 +38,7 @@ unfolding own_struct fields_by_name
 own_facts h store home_at i d d_at =
     let m : Module = h.home in
     let a : ModuleAccepted m = store.each h.state.top.function.place m home_at in
-    let fine = each (struct_in m) m.structs i d a.bounds.structs d_at in
+    let fine = all_at (struct_in m) m.structs i d a.bounds.structs d_at in
     let handle = there_below m.struct_handles d.handle (first_so (below d.handle m.struct_handles) (list_all (field_in m) d.fields) fine) in
     let stands = own-definition h.modules h.state.top.function.place m store.once home_at a.bounds a.defined i d d_at in
     let name : StructName = stands.0 in
@@ -59,6 +59,6 @@ own_facts h store home_at i d d_at =
       abilities = then_found (slice_get m.struct_handles d.handle) _ handle.0 (Some handle.0.abilities) handle.1 refl;
       are_tags = tags.1;
       by_name = then_found (definition_of h.modules name) _ (m, d.fields) (Some tags.0) stands.2 tags.1;
-      plain = fields_plain m d.fields tags.0 (each (λ (d : StructDefinition). list_all (λ f. may_be_field f.token) d.fields) m.structs i d a.signed.fields d_at) tags.1;
+      plain = fields_plain m d.fields tags.0 (all_at (λ (d : StructDefinition). list_all (λ f. may_be_field f.token) d.fields) m.structs i d a.signed.fields d_at) tags.1;
       key = then_found (slice_get h.modules h.state.top.function.place) _ m (Some name) home_at (then_found (slice_get m.structs i) _ d (Some name) d_at stands.1);
     }

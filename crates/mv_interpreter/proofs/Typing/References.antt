@@ -5,13 +5,15 @@ use Rattle.mv_interpreter.proofs.Typing.Common.{MutableReferenceTo, ValueType, O
 use Rattle.mv_interpreter.proofs.Typing.Common.{DanglingFault, Value, Struct, Ref, Values, Reference, list_of, on_bind, same_struct-same, token_named, tokens_named, value_type_named}
 use Rattle.mv_interpreter.proofs.Typing.Common.{Types, top_type, plain_of, mutable_target_of, TypesAt, Row, Facts, Roots, IsOf, AreOf, Table, HasType, PointsTo, HasToken, HaveTokens}
 use Rattle.mv_interpreter.proofs.Typing.Common.{TurnTyped, value_type_abilities}
-use Rattle.mv_interpreter.proofs.Typing.Operands.{on_names, on_test, takes_gives-is, top_type-is, same_value_type-is}
-use Rattle.mv_interpreter.proofs.{Typing.Within.leads_on, Typing.Roots.place_of, Typing.Roots.is_plain, Typing.Stays.gives_typed, Typing.Stays.top_typed, Typing.Locals.plain_of-is}
+use Rattle.mv_interpreter.proofs.Typing.Operands.{on_names, on_test, takes_gives-is, top_type-is}
+use Rattle.mv_interpreter.proofs.{Typing.Within.leads_on, Typing.Roots.place_of, Typing.Roots.is_plain, Typing.Stays.gives_typed, Typing.Stays.top_typed}
 use Rattle.mv_interpreter.proofs.Typing.Parts.{Part, known, passes, tested, lost}
 use Rattle.std.proofs.lemmas.Option.{slice_get-map}
 use Rattle.mv_type_states.specs.TypeRules.{target_of, field_types, of_mutable_field, of_immutable_field, of_read, of_freeze}
 use Rattle.mv_machine.specs.StepReferences.{extended, own_field, borrow_field, read_reference, freeze, lends}
 use Rattle.mv_interpreter.specs.Typing.HasType.{fields_by_name}
+use Rattle.mv_borrow_graph.specs.Laws.Shifts.{plain_of-is}
+use Rattle.mv_type_states.proofs.Tokens.{value_types_equal}
 
 -- a value of a reference's type
 pub record IsReference (modules : List Module) (look : Roots) (home : Module) (v : Value) (is_mutable : Bool) (u : ValueType) : Type 0 where
@@ -168,7 +170,7 @@ module _ (h : Here) (i : Instruction) (types after : Types) (row : Row h i types
       let f = field_facts h row.facts k x x_is in
       let top = top_typed h i types after row t.0 t.1 (top_type-is types t t_is) in
       let ref = either h.modules (root_value h.state) h.home top.0 t.0 u u_is top.3 in
-      let ref_there = subst (λ (y : ValueType). IsReference h.modules (root_value h.state) h.home top.0 ref.0 y) (same_value_type-is u x.0 same) ref.1 in
+      let ref_there = subst (λ (y : ValueType). IsReference h.modules (root_value h.state) h.home top.0 ref.0 y) (value_types_equal u x.0 same) ref.1 in
       lent_field false k x.0 x.1 f ReferenceTo (immutable_names h.home) h.state.top.stack top.0 top.1 t.1 ref.0 top.2 ref_there (λ r is. refl) top.4 (sym given)))))
 
   pub reads : of_read h.home types ≡ Some after → Part (λ (stack : List Value). HaveTokens h.modules (root_value h.state) h.home stack after) (read_reference h h.state.top.stack)

@@ -10,8 +10,9 @@ use Rattle.mv_type_states.specs.TypeRules.{of_pop, of_equality, of_constant}
 use Rattle.mv_interpreter.specs.Typing.HasType.{fields_by_name}
 use Rattle.mv_interpreter.proofs.Typing.Parts.{Part, known, passes, tested, lost}
 use Rattle.mv_interpreter.proofs.Typing.Operands.{on_test, taken-is, top_type-is, one_operand, leaf, of_leaf}
-use Rattle.mv_interpreter.proofs.{Typing.Roots.named_plain, Typing.Roots.typed_tag, Typing.Roots.typed_has_tag, Typing.Stays.stays_at, Typing.Stays.top_typed, Typing.Locals.plain_of-is}
+use Rattle.mv_interpreter.proofs.{Typing.Roots.named_plain, Typing.Roots.typed_tag, Typing.Roots.typed_has_tag, Typing.Stays.stays_at, Typing.Stays.top_typed}
 use Rattle.mv_interpreter.proofs.{Typing.Families.of_truth}
+use Rattle.mv_borrow_graph.specs.Laws.Shifts.{plain_of-is}
 
 pub constant_is : (t : Token) (kind : LeafKind) (bytes : List ℕ) (n : ℕ) → t ≡ Plain (OfLeaf kind) → leaf_number kind bytes ≡ Some n → constant_value t bytes ≡ Ok (Leaf kind n)
 constant_is t kind bytes n e g = subst (λ (x : Token). constant_value x bytes ≡ Ok (Leaf kind n)) (sym e) (rw g refl)

@@ -3,7 +3,7 @@ use Rattle.mv_interpreter.proofs.Typing.Common.{◌≡◌, ℕ, suc, ◌+◌, �
 use Rattle.mv_interpreter.proofs.Typing.Common.{eqb-true, and_from, pow-add, same_Some, first_so, second_so, list_all, IsTrue, ◌==◌, ◌&&◌, slice_get, nat_lt, slice_index, is_some, Module}
 use Rattle.mv_interpreter.proofs.Typing.Common.{FunctionDefinition, local_tokens, Constant, leaf_number, width_bits, LeafKind, Address, Boolean, Number, Signer, Token, Plain, OfLeaf, Here}
 use Rattle.mv_interpreter.proofs.Typing.Common.{below, function_in, instruction_in, local_count, token_in, ends_well, on_bind, function_definition_fits, instruction_fits, is_byte}
-use Rattle.mv_interpreter.proofs.Typing.Common.{is_index, constant_fits, token_fits, each, structs_are_there, function_is_typed, StoreAccepted, ModuleAccepted, SoundStore, Named}
+use Rattle.mv_interpreter.proofs.Typing.Common.{is_index, constant_fits, token_fits, all_at, structs_are_there, function_is_typed, StoreAccepted, ModuleAccepted, SoundStore, Named}
 use Rattle.mv_interpreter.proofs.Typing.Common.{ConstantFacts, in_range}
 use Rattle.mv_move_types.specs.Numbers.{little_endian}
 use Rattle.mv_signatures.specs.Signatures.{is_constant}
@@ -20,10 +20,10 @@ local_named m d a tokens l t e g =
     on_bind (slice_get m.function_handles d.handle) _ tokens e (λ handle handle_is e1.
     on_bind (slice_get m.signatures handle.parameters) _ tokens e1 (λ ps ps_is e2.
     on_bind (slice_get m.signatures d.locals) _ tokens e2 (λ os os_is e3.
-    let first = each (list_all (token_in m)) m.signatures handle.parameters ps a.bounds.signatures ps_is in
-    let second = each (list_all (token_in m)) m.signatures d.locals os a.bounds.signatures os_is in
+    let first = all_at (list_all (token_in m)) m.signatures handle.parameters ps a.bounds.signatures ps_is in
+    let second = all_at (list_all (token_in m)) m.signatures d.locals os a.bounds.signatures os_is in
     let all : list_all (token_in m) tokens ≡ true = subst (λ (ts : List Token). list_all (token_in m) ts ≡ true) (same_Some (ps ++ os) tokens e3) (all_append (token_in m) ps os first second) in
-    token_there m a.bounds t (each (token_in m) tokens l t all g))))
+    token_there m a.bounds t (all_at (token_in m) tokens l t all g))))
 
 -- constants of bytes
 little_bound : (bs : List ℕ) → list_all is_byte bs ≡ true → little_endian bs < 2 ^ (8 * length bs)
@@ -43,10 +43,10 @@ AddressesFit modules =
 constant_facts : (m : Module) (a : ModuleAccepted m)
     → ((i : ℕ) (c : Constant) (n : ℕ) → slice_get m.constants i ≡ Some c → leaf_number Address c.bytes ≡ Some n → IsTrue (in_range Address n))
     → (i : ℕ) (c : Constant) → slice_get m.constants i ≡ Some c → ConstantFacts c
-constant_facts m a addresses i c c_at = by_token c.token c.bytes refl (each is_constant m.constants i c a.signed.constants c_at) bytes (λ n e. addresses i c n c_at e)
+constant_facts m a addresses i c c_at = by_token c.token c.bytes refl (all_at is_constant m.constants i c a.signed.constants c_at) bytes (λ n e. addresses i c n c_at e)
   where
     written : constant_fits m.version c ≡ true
-    written = each (constant_fits m.version) m.constants i c a.text.constants c_at
+    written = all_at (constant_fits m.version) m.constants i c a.text.constants c_at
 
     bytes : list_all is_byte c.bytes ≡ true
     bytes = second_so (token_fits m.version c.token && is_index (length c.bytes)) (list_all is_byte c.bytes) written
@@ -80,7 +80,7 @@ sound_store modules store addresses = record {
   facts = λ home function s home_at function_at.
       let h : Here = record { modules = modules; home = home; function = function; state = s } in
       let a : ModuleAccepted home = store.each s.top.function.place home home_at in
-      let links = each (λ m. structs_are_there modules m 0 m.struct_handles) modules s.top.function.place home store.links.structs home_at in
+      let links = all_at (λ m. structs_are_there modules m 0 m.struct_handles) modules s.top.function.place home store.links.structs home_at in
       record {
         tag = tag_is_found modules home links;
         local_names = local_named home function a;
@@ -90,10 +90,10 @@ sound_store modules store addresses = record {
       };
   advance = λ place index at m d types m_at d_at typed.
       let a : ModuleAccepted m = store.each place m m_at in
-      let inside = each (function_in m) m.functions index d a.bounds.functions d_at in
+      let inside = all_at (function_in m) m.functions index d a.bounds.functions d_at in
       let code_inside = second_so (below d.handle m.function_handles && below d.locals m.signatures && list_all (λ i. below i m.structs) d.acquires)
       (list_all (instruction_in m (local_count m d) (length d.code)) d.code) inside in
-      let written = each (function_definition_fits m.version) m.functions index d a.text.functions d_at in
-      advances m d (each (function_is_typed m) m.functions index d a.types d_at) (each (λ (d : FunctionDefinition). ends_well d.code) m.functions index d a.flow d_at) code_inside
+      let written = all_at (function_definition_fits m.version) m.functions index d a.text.functions d_at in
+      advances m d (all_at (function_is_typed m) m.functions index d a.types d_at) (all_at (λ (d : FunctionDefinition). ends_well d.code) m.functions index d a.flow d_at) code_inside
       (second_so _ (list_all (instruction_fits m.version) d.code) written) at types typed;
 }

@@ -18,6 +18,11 @@ use Rattle.mv_interpreter.proofs.Typing.Frames.{written_below, written_in, frame
 use Rattle.mv_interpreter.proofs.Typing.Storage.{entry_of, stored_same, stored_other, stored_typed, typed_with}
 use Rattle.std.proofs.lemmas.Bool.{cases_Bool}
 
+-- what a root holds has nothing to do with the operands
+pub root-stack : (s : State) (stack : List Value) (root : Root) → root_value (with_stack s stack) root ≡ root_value s root
+root-stack s stack (Local n l) = refl
+root-stack s stack (Stored key) = refl
+
 -- the numbers stay
 pub numbers_stay : (n l : ℕ) (v : Value) (bound : ℕ) (fs : List Frame) → Numbered bound fs → Numbered bound (map (with_local n l v) fs)
 numbers_stay n l v bound [] h = tt
@@ -152,13 +157,9 @@ module _ (h : Here) (i : Instruction) (types after : Types) (row : Row h i types
       (with_root (with_stack h.state under.1) r.place.root whole.0) (ap (λ (x : Option State). ok_or x (Faults DanglingFault)) written)
       (write_root h i types after row next ref.points.root.value whole.0 ref.points.base ref.points.root.is_of whole.2 under.1 under.4 r.place.root ref.points.root.is_there)))))))))))))))
     where
-      stack_apart : (s : State) (rest : List Value) (root : Root) → root_value (with_stack s rest) root ≡ root_value s root
-      stack_apart s rest (Local n l) = refl
-      stack_apart s rest (Stored key) = refl
-
       with_place_is : (s : State) (rest : List Value) (p : Place) (new old whole : Value) → root_value s p.root ≡ Some old
           → with_value_at old p.path new ≡ Some whole → with_place (with_stack s rest) p new ≡ Some (with_root (with_stack s rest) p.root whole)
       with_place_is s rest p new old whole there put =
           subst (λ (x : Option Value). option_map (with_root (with_stack s rest) p.root) (option_and_then (λ o. with_value_at o p.path new) x) ≡ Some
-          (with_root (with_stack s rest) p.root whole)) (sym (stack_apart s rest p.root ∙ there))
+          (with_root (with_stack s rest) p.root whole)) (sym (root-stack s rest p.root ∙ there))
           (ap (option_map (with_root (with_stack s rest) p.root)) put)

@@ -3,9 +3,10 @@ use Rattle.std.proofs.lemmas.List.{length-map}
 use Rattle.std.proofs.lemmas.Result.{err_from_is_err_and}
 use Rattle.mv_cfg.specs.Graph.{IsBlock}
 use Rattle.mv_lattice.specs.Flow.{IsClosedAt, states_of}
-use Rattle.mv_lattice.proofs.Flows.{block_read, stated_entry, unstated_entry, holds_some, holds_none, stated_within}
+use Rattle.mv_lattice.proofs.Flows.{block_read, stated_entry, unstated_entry, holds_some, holds_none}
 use Rattle.mv_lattice.proofs.check_flow.Goals as goal
 use Rattle.mv_lattice.proofs.check_flow.Goals.{in-Some+else-not-leq, in_default, in-Some-stated+in_ok-check_block, in_default-stated}
+use Rattle.std.proofs.lemmas.Option.{slice_get_within}
 
 pub leq-requires-clause-b : goal.leq-requires-clause-b
 leq-requires-clause-b g c =
@@ -74,5 +75,5 @@ returns-clause-ok g c =
         | in_default w ↦
             let none = unstated_entry g.K.HasState.inner c.args.stated.now 0 c.index-stated-0.result within c.index-stated-0.is w.in_default.is in cc (none, st)
       ];
-      closed = λ k b s eb es. c.loop-k.invariant k b s (let h : k < length c.args.g.now.blocks.items = stated_within c.args.g.now.blocks.items k b eb in omega (arith, c.deref-block-items.ensures.value, c.deref-block-items.ensures.len, h)) eb es;
+      closed = λ k b s eb es. c.loop-k.invariant k b s (let h : k < length c.args.g.now.blocks.items = slice_get_within c.args.g.now.blocks.items k b eb in omega (arith, c.deref-block-items.ensures.value, c.deref-block-items.ensures.len, h)) eb es;
     }

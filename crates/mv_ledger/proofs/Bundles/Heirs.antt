@@ -1,13 +1,15 @@
 -- What stands in a module's place after a bundle: the module itself, or one of its name that may replace it. Its structs stay.
-use Rattle.mv_ledger.proofs.Common.{[], ◌++◌, ◌+◌, ◌∙◌, ◌∷◌, ◌≡◌, ◌⊎◌, Bool, List, None, Option, Some, ap, append-nil, ap₂, arith, false, inl, inr, map, refl, subst, suc, sym, true, zero, ℕ}
-use Rattle.mv_ledger.proofs.Common.{and_parts, cond_both, same_Some, first_so, second_so, AllByRecursion, enumerate_from, filter, list_all, option_map_or, ◌&&◌, ◌||◌, fold, not, option_and_then}
+use Rattle.mv_ledger.proofs.Common.{[], ◌++◌, ◌+◌, ◌∙◌, ◌∷◌, ◌≡◌, ◌⊎◌, Bool, List, Option, Some, ap, append-nil, ap₂, arith, false, inl, inr, map, refl, subst, suc, sym, true, zero, ℕ}
+use Rattle.mv_ledger.proofs.Common.{and_parts, cond_both, same_Some, first_so, second_so, AllByRecursion, enumerate_from, filter, list_all, option_map_or, ◌&&◌, ◌||◌, fold, not}
 use Rattle.mv_ledger.proofs.Common.{slice_get, bytes_eq, same_abilities, Module, StructDefinition, name_at, name_of_struct, own_name, struct_abilities, definition_of, have_one_name, is_module}
-use Rattle.mv_ledger.proofs.Common.{is_struct, module_named, module_place, ModuleName, StructName, same_module, find_index, PublishedModule, has_name_of, with_module, with_modules}
-use Rattle.mv_ledger.proofs.Common.{is_scarce_struct, Field, Abilities, on_bind, each, found_at, then_found, same_abilities-is, is_module-is, same_module-same, IsStore, are_compatible, tables_in}
-use Rattle.mv_ledger.proofs.Common.{function_stays, may_replace, same_fields, same_struct_definition, structs_stay, own_of_store, mapped_at, IsOwn, AreScarce, scarce_indices, Tally}
+use Rattle.mv_ledger.proofs.Common.{is_struct, module_named, module_place, ModuleName, StructName, same_module, find_index, PublishedModule, has_name_of, with_module, with_modules, mapped-at}
+use Rattle.mv_ledger.proofs.Common.{is_scarce_struct, Field, Abilities, on_bind, all_at, then_found, same_abilities-is, is_module-is, same_module-same, IsStore, are_compatible, tables_in}
+use Rattle.mv_ledger.proofs.Common.{function_stays, may_replace, same_fields, same_struct_definition, structs_stay, own_of_store, IsOwn, AreScarce, scarce_indices, Tally}
 use Rattle.std.proofs.lemmas.Slice.Eq.{bytes_eq-Decides}
 use Rattle.mv_ledger.proofs.Bundles.Places.{had, one_own}
-use Rattle.mv_linker.proofs.Found.{passing}
+use Rattle.mv_linker.proofs.Found.{passing, found_passes}
+use Rattle.mv_linker.proofs.Joining.Upgraded.{stays-at}
+use Rattle.std.proofs.lemmas.Option.{option_and_then_some}
 
 -- the module itself, or one of its name that may replace it
 abbrev pub IsHeir : Module → Module → Type 0
@@ -73,8 +75,8 @@ get-mapped f (y ∷ ys) (suc i) x e = get-mapped f ys i x e
 -- each old place has an heir after a bundle that may join
 pub inherited : (old bundle : List PublishedModule) → are_compatible (tables_in old) (tables_in bundle) ≡ true → Inherits (tables_in old) (tables_in (with_modules old bundle))
 inherited old bundle compatible place m m_at =
-    let p = mapped_at (λ (p : PublishedModule). p.tables) old place m m_at in
-    let may = each (λ m. list_all (λ n. not (have_one_name m n) || may_replace m n) (tables_in bundle)) (tables_in old) place m compatible m_at in
+    let p = mapped-at (λ (p : PublishedModule). p.tables) old place m m_at in
+    let may = all_at (λ m. list_all (λ n. not (have_one_name m n) || may_replace m n) (tables_in bundle)) (tables_in old) place m compatible m_at in
     let r = joined_place m bundle old place p.0 (offered m bundle may) p.1 (inl p.2) in
     (r.0.tables, get-mapped (λ (p : PublishedModule). p.tables) (with_modules old bundle) place r.0 r.1, r.2)
 
@@ -105,21 +107,6 @@ module _ (m : Module) (d : StructDefinition) (n : Module) (e : StructDefinition)
   pub fields-same : same_fields m d.fields n e.fields ≡ true
   fields-same = second_so (names_alike && abilities_alike) (same_fields m d.fields n e.fields) same
 
--- a definition that stays stands in its place
-stays-at : (m n : Module) (ds es : List StructDefinition) (i : ℕ) (d : StructDefinition) → structs_stay m ds n es ≡ true → slice_get ds i ≡ Some d →
-    (e : StructDefinition) × (slice_get es i ≡ Some e) × (same_struct_definition m d n e ≡ true)
-stays-at m n (x ∷ xs) (y ∷ ys) zero d h e = (y, refl, subst (λ z. same_struct_definition m z n y ≡ true) (same_Some x d e) (first_so (same_struct_definition m x n y) (structs_stay m xs n ys) h))
-stays-at m n (x ∷ xs) (y ∷ ys) (suc i) d h e = stays-at m n xs ys i d (second_so (same_struct_definition m x n y) (structs_stay m xs n ys) h) e
-stays-at m n _ _ i d h e = absurd cc
-
--- what is found by its place passes the test
-pub found-passes : {A : Type 0} (test : A → Bool) (xs : List A) (i : ℕ) (x : A) → find_index test xs ≡ Some i → slice_get xs i ≡ Some x → test x ≡ true
-found-passes test xs i x e g = let f = found_at test xs i e in subst (λ z. test z ≡ true) (same_Some f.entry x (sym f.at ∙ g)) f.passes
-
-pub on_and_then : {A B P : Type 0} (f : A → Option B) (o : Option A) (y : B) → option_and_then f o ≡ Some y → ((x : A) → o ≡ Some x → f x ≡ Some y → P) → P
-on_and_then f None y e go = absurd cc
-on_and_then f (Some x) y e go = go x refl e
-
 -- a struct's name has its module's
 home-of : (modules : List Module) (name : StructName) (m : Module) (fields : List Field) → definition_of modules name ≡ Some (m, fields) → own_name m ≡ Some name.home
 home-of modules name m fields e =
@@ -129,8 +116,8 @@ home-of modules name m fields e =
     on_bind (slice_get x.structs i) _ whole e2 (λ d d_is e3.
     let made : Module × List Field = (x, d.fields) in
     let same : x ≡ m = ap (λ (p : Module × List Field). p.0) (same_Some made whole e3) in
-    on_and_then (slice_get modules) (module_place modules name.home) x x_is (λ place place_is at.
-    subst (λ (y : Module). own_name y ≡ Some name.home) same (is_module-is name.home x (found-passes (is_module name.home) modules place x place_is at))))))
+    option_and_then_some (slice_get modules) (module_place modules name.home) x x_is (λ place place_is at.
+    subst (λ (y : Module). own_name y ≡ Some name.home) same (is_module-is name.home x (found_passes (is_module name.home) modules place x place_is at))))))
 
 -- a definition of an heir, which is as it was
 pub record Stayed (m : Module) (d : StructDefinition) (name : StructName) (n : Module) (i : ℕ) : Type 0 where

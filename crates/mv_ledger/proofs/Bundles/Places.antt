@@ -1,24 +1,13 @@
 -- Where the modules of a bundle stand in the store that it joins, and the tallies of each module then.
 use Rattle.mv_ledger.proofs.Common.{[], ◌++◌, ◌+◌, ◌<◌, ◌∙◌, ◌∷◌, ◌≡◌, ◌≤◌, Bool, List, None, Option, Some, ap, append-nil, ap₂, arith, cond, drop, false, length, map, refl, subst, suc, sym, true}
 use Rattle.mv_ledger.proofs.Common.{zero, zero-add, ℕ, nat_tests, drop_all, length-map, All-append, All-map, All-nil, sum_by-cons, first_so, second_so, AllByRecursion, list_any, option_map_or}
-use Rattle.mv_ledger.proofs.Common.{◌&&◌, ◌==◌, ◌||◌, All, count_by, fold, nat_le, nat_lt, not, option_and_then, slice_get, unwrap_or, bytes_eq, Module, own_name, have_one_name, is_module}
+use Rattle.mv_ledger.proofs.Common.{◌||◌, All, count_by, fold, nat_le, nat_lt, not, option_and_then, slice_get, unwrap_or, Module, own_name, have_one_name, is_module}
 use Rattle.mv_ledger.proofs.Common.{module_place, ModuleName, same_module, PublishedModule, has_name_of, with_module, with_modules, all_differ, is_module-is, tables_in, with_at, on_found}
 use Rattle.mv_ledger.proofs.Common.{ArePlacedFor, AreWithin, fresh_tally, place_for, tallies_at, with_placed, ArePlaced, AreScarce, scarce_indices, Placed, Tally}
+use Rattle.mv_linker.proofs.Kept.Keyed.{same_module-turns}
+use Rattle.std.proofs.lemmas.Bool.{not-true}
 
 -- ---- modules of one name
-
--- equality of bytes is symmetric
-nat-turns : (a b : ℕ) → (a == b) ≡ (b == a)
-nat-turns a b = grind (arith, nat_tests)
-
-bytes-turn : (a b : List ℕ) → bytes_eq a b ≡ bytes_eq b a
-bytes-turn [] [] = refl
-bytes-turn [] (y ∷ ys) = refl
-bytes-turn (x ∷ xs) [] = refl
-bytes-turn (x ∷ xs) (y ∷ ys) = ap₂ (λ a b. a && b) (nat-turns x y) (bytes-turn xs ys)
-
-module-turns : (a b : ModuleName) → same_module a b ≡ same_module b a
-module-turns a b = ap₂ (λ s t. s && t) (nat-turns a.address b.address) (bytes-turn a.name b.name)
 
 -- so two modules have one name whichever comes first
 pub one_name-turns : (m n : Module) → have_one_name m n ≡ have_one_name n m
@@ -29,7 +18,7 @@ one_name-turns m n = step (own_name m) (own_name n)
     step None None = refl
     step None (Some b) = refl
     step (Some a) None = refl
-    step (Some a) (Some b) = module-turns b a
+    step (Some a) (Some b) = same_module-turns b a
 
 -- modules with one name have the same name
 pub one_own : (m n : Module) → have_one_name m n ≡ true → own_name m ≡ own_name n
@@ -126,9 +115,6 @@ located-next old cur n (m ∷ ms) e h =
     let other : have_one_name m.tables n.tables ≡ false = one_name-turns m.tables n.tables ∙ apart in
     ((there-with cur n m.tables other ∙ h.0.0, λ there. spot-with cur n m.tables (h.0.0 ∙ there) ∙ h.0.1 there), located-next old cur n ms rest h.1)
 
-not-is : (b : Bool) → not b ≡ true → b ≡ false
-not-is b h = grind arith
-
 module _ (old : List PublishedModule) (tss : List (List Tally)) where
   -- the next place after one more
   next-is : (cur : List PublishedModule) (n : PublishedModule) (next : ℕ) → IsLocated old cur n → next ≡ length cur → cond (is_there old n.tables) next (next + 1) ≡ length (with_module cur n)
@@ -148,7 +134,7 @@ module _ (old : List PublishedModule) (tss : List (List Tally)) where
     for.1,
     spotted (with_module cur n) ns ps (cond (is_there old n.tables) next (next + 1))
         (second_so (not (list_any (have_one_name n.tables) (tables_in ns))) (all_differ have_one_name (tables_in ns)) differ)
-        (located-next old cur n ns (not-is (list_any (have_one_name n.tables) (tables_in ns))
+        (located-next old cur n ns (not-true (list_any (have_one_name n.tables) (tables_in ns))
         (first_so (not (list_any (have_one_name n.tables) (tables_in ns))) (all_differ have_one_name (tables_in ns)) differ)) located.1)
         (next-is cur n next located.0 is) for.2,
   )
@@ -172,7 +158,7 @@ module _ (old : List PublishedModule) (tss : List (List Tally)) where
       let here = joined-place (is_there old n.tables) (length old) (length cur) (spot old n.tables) next p.place (spot-below old n.tables) least is at in
       let long = joined-long (is_there old n.tables) (length old) (length cur) (length (with_module cur n)) least grown in
       let apart : all_differ have_one_name (tables_in ns) ≡ true = second_so (not (list_any (have_one_name n.tables) (tables_in ns))) (all_differ have_one_name (tables_in ns)) differ in
-      let none = not-is (list_any (have_one_name n.tables) (tables_in ns)) (first_so (not (list_any (have_one_name n.tables) (tables_in ns))) (all_differ have_one_name (tables_in ns)) differ) in
+      let none = not-true (list_any (have_one_name n.tables) (tables_in ns)) (first_so (not (list_any (have_one_name n.tables) (tables_in ns))) (all_differ have_one_name (tables_in ns)) differ) in
       let rest = joined-count (with_module cur n) ns ps (cond (is_there old n.tables) next (next + 1)) long apart (located-next old cur n ns none located.1) (next-is cur n next located.0 is) for.2 in
       omega (arith, rest, grown, here, sum_by-cons (λ (p : Placed). cond (nat_le (length old) p.place) 1 0) p ps)
   joined-count _ _ _ _ _ _ _ _ for = absurd for

@@ -5,12 +5,13 @@ use Rattle.mv_ledger.proofs.Common.{same_abilities, Module, StructDefinition, na
 use Rattle.mv_ledger.proofs.Common.{module_place, StructName, same_struct, ◌>>=◌, find_index, PublishedModule, LeafTag, ReferenceTag, StructTag, Tag, same_tag, same_kind, Refusal, Field, Key}
 use Rattle.mv_ledger.proofs.Common.{StructHandle, Abilities, Boolean, Token, MutableReference, Plain, Reference, ValueType, OfLeaf, OfStruct, on_bind, address_fits, FlatEntry, fields_from}
 use Rattle.mv_ledger.proofs.Common.{storage_of, struct_from, value_from, value_under, Storage, abilities_at, are_of_types, is_fine_entry, is_fine_storage, is_of_struct, is_of_type, leaf_fits, Leaf}
-use Rattle.mv_ledger.proofs.Common.{More, NoMore, Ref, Struct, Value, Values, each, then_found, same_struct-is, same_tag-is, IsStore, tables_in, struct_is_there, structs_are_there, same_field}
+use Rattle.mv_ledger.proofs.Common.{More, NoMore, Ref, Struct, Value, Values, all_at, then_found, same_struct-is, same_tag-is, IsStore, tables_in, struct_is_there, structs_are_there, same_field}
 use Rattle.mv_ledger.proofs.Common.{same_fields, own_of_store, IsOwn, IsFineWords, IsAcceptedBy}
 use Rattle.mv_linker.specs.TypesByName.{token_named, value_type_named}
-use Rattle.mv_ledger.proofs.Counting.Packs.{there-get}
-use Rattle.mv_ledger.proofs.Bundles.Heirs.{Inherits, inherited, found-passes, on_and_then, stayed, name-stays, Stayed}
-use Rattle.mv_linker.proofs.Found.{passing}
+use Rattle.mv_ledger.proofs.Bundles.Heirs.{Inherits, inherited, stayed, name-stays, Stayed}
+use Rattle.mv_linker.proofs.Found.{passing, found_passes}
+use Rattle.mv_linker.proofs.Joining.Resolving.{structs_there_at}
+use Rattle.std.proofs.lemmas.Option.{option_and_then_some}
 
 -- ---- types by their names
 
@@ -86,10 +87,10 @@ type-by-tag modules m (MutableReference t) v =
 -- a struct that is declared is defined
 defined-there : (modules : List Module) (name : StructName) (a : Abilities) → declared modules name ≡ Some a → (d : Module × List Field) × (definition_of modules name ≡ Some d)
 defined-there modules name a e =
-    on_and_then (declared_in name) (module_named modules name.home) a e (λ m m_is e1.
-    on_and_then (λ i. option_and_then (λ (d : StructDefinition). option_map (λ (h : StructHandle). h.abilities) (slice_get m.struct_handles d.handle)) (slice_get m.structs i))
+    option_and_then_some (declared_in name) (module_named modules name.home) a e (λ m m_is e1.
+    option_and_then_some (λ i. option_and_then (λ (d : StructDefinition). option_map (λ (h : StructHandle). h.abilities) (slice_get m.struct_handles d.handle)) (slice_get m.structs i))
     (find_index (is_struct m name) m.structs) a e1 (λ i i_is e2.
-    on_and_then (λ (d : StructDefinition). option_map (λ (h : StructHandle). h.abilities) (slice_get m.struct_handles d.handle)) (slice_get m.structs i) a e2 (λ d d_is e3.
+    option_and_then_some (λ (d : StructDefinition). option_map (λ (h : StructHandle). h.abilities) (slice_get m.struct_handles d.handle)) (slice_get m.structs i) a e2 (λ d d_is e3.
     let made : Module × List Field = (m, d.fields) in (
       made,
       then_found (module_named modules name.home) _ m (Some made) m_is
@@ -104,7 +105,7 @@ named-there modules m (Plain (OfStruct h)) name all e = on_bind (struct_name m h
     let same : own ≡ name = cc in
     on_bind (slice_get m.struct_handles h) _ own is (λ handle handle_is e1.
     let at : 0 + h ≡ h = omega arith in
-    let here : struct_is_there modules m h handle ≡ true = subst (λ (n : ℕ). struct_is_there modules m n handle ≡ true) at (there-get modules m 0 h m.struct_handles handle all handle_is) in
+    let here : struct_is_there modules m h handle ≡ true = subst (λ (n : ℕ). struct_is_there modules m n handle ≡ true) at (structs_there_at modules m 0 m.struct_handles h handle all handle_is) in
     let n = passing (λ n. option_map_or (same_abilities handle.abilities) (declared modules n) false) (struct_name m h) here in
     let a = passing (same_abilities handle.abilities) (declared modules n.0) n.2 in
     let name_is : n.0 ≡ name = same_Some n.0 own (sym n.1 ∙ is) ∙ same in
@@ -131,10 +132,10 @@ module _ (old new : List PublishedModule) (old_store : IsStore old) (new_store :
       on_bind (module_named (tables_in old) name.home) _ d e (λ m m_is e1.
       on_bind (find_index (is_struct m name) m.structs) _ d e1 (λ i i_is e2.
       on_bind (slice_get m.structs i) _ d e2 (λ x x_is e3.
-      on_and_then (slice_get (tables_in old)) (module_place (tables_in old) name.home) m m_is (λ place place_is at.
+      option_and_then_some (slice_get (tables_in old)) (module_place (tables_in old) name.home) m m_is (λ place place_is at.
       let made : Module × List Field = (m, x.fields) in
       let same : made ≡ d = same_Some made d e3 in
-      let t = passing (λ own. same_struct own name) (name_of_struct m x) (found-passes (is_struct m name) m.structs i x i_is x_is) in
+      let t = passing (λ own. same_struct own name) (name_of_struct m x) (found_passes (is_struct m name) m.structs i x i_is x_is) in
       let named : name_of_struct m x ≡ Some name = t.1 ∙ ap (λ (n : StructName). Some n) (same_struct-is t.0 name t.2) in
       let n = inherits place m at in
       let s : Stayed m x name n.0 i = stayed old new old_store new_store inherits place i m n.0 x name at n.1 n.2 x_is named in
@@ -155,7 +156,7 @@ module _ (old new : List PublishedModule) (old_store : IsStore old) (new_store :
 
   -- the structs of a module's handles are there
   all-there : (place : ℕ) (m : Module) → slice_get (tables_in old) place ≡ Some m → structs_are_there (tables_in old) m 0 m.struct_handles ≡ true
-  all-there place m at = each (λ m. structs_are_there (tables_in old) m 0 m.struct_handles) (tables_in old) place m old_store.links.structs at
+  all-there place m at = all_at (λ m. structs_are_there (tables_in old) m 0 m.struct_handles) (tables_in old) place m old_store.links.structs at
 
   -- ---- values of words
 

@@ -2,7 +2,7 @@
 use Rattle.mv_ledger.proofs.Common.{[], ◌++◌, ◌+◌, ◌<◌, ◌∙◌, ◌∷◌, ◌≡◌, ◌≤◌, Bool, List, Option, Some, ap, append-nil, ap₂, arith, cond, false, get_or, length, map, refl, subst, suc, sym, take}
 use Rattle.mv_ledger.proofs.Common.{true, zero-add, ℕ, cond_both, map-append, take_all, All-cons, All-nil, filter_more, get_or-enumerate_from, length-enumerate_from, first_so, second_so}
 use Rattle.mv_ledger.proofs.Common.{enumerate_from, filter, list_all, All, IsSome, filter_map, slice_get, Module, StructDefinition, module_name, name_at, name_of_struct, StructName}
-use Rattle.mv_ledger.proofs.Common.{is_scarce_struct, InBounds, below, field_in, struct_handle_in, struct_in, scarce_name, untouched_tally, each, then_found, there_below, module_there, fresh_tally}
+use Rattle.mv_ledger.proofs.Common.{is_scarce_struct, InBounds, below, field_in, struct_handle_in, struct_in, scarce_name, untouched_tally, all_at, then_found, there_below, module_there, fresh_tally}
 use Rattle.mv_ledger.proofs.Common.{IsNamed, scarce_indices, tallied, Tally}
 
 module _ (m : Module) where
@@ -51,9 +51,9 @@ module _ (m : Module) where
   -- a struct of the module has a name
   pub struct_there : InBounds m → (k : ℕ) (d : StructDefinition) → slice_get m.structs k ≡ Some d → (name : StructName) × (name_of_struct m d ≡ Some name)
   struct_there bounds k d e =
-      let fine = each (struct_in m) m.structs k d bounds.structs e in
+      let fine = all_at (struct_in m) m.structs k d bounds.structs e in
       let handle = there_below m.struct_handles d.handle (first_so (below d.handle m.struct_handles) (list_all (field_in m) d.fields) fine) in
-      let fine_handle = each (struct_handle_in m) m.struct_handles d.handle handle.0 bounds.struct_handles handle.1 in
+      let fine_handle = all_at (struct_handle_in m) m.struct_handles d.handle handle.0 bounds.struct_handles handle.1 in
       let home = module_there m bounds handle.0.module (first_so (below handle.0.module m.module_handles) (below handle.0.name m.identifiers) fine_handle) in
       let name = there_below m.identifiers handle.0.name (second_so (below handle.0.module m.module_handles) (below handle.0.name m.identifiers) fine_handle) in
       let made : StructName = record { home = home.0; name = name.0 } in (

@@ -1,9 +1,9 @@
 -- The tallies after a bundle: each struct with neither copy nor drop has the one that it had, or an empty one.
 use Rattle.mv_ledger.proofs.Common.{[], ◌++◌, ◌+◌, ◌<◌, ◌∙◌, ◌∷◌, ◌≡◌, Bool, List, None, Option, Some, ap, ap₂, arith, cond, drop, eq-eqb, false, length, map, option_map, refl, subst, suc, sym}
-use Rattle.mv_ledger.proofs.Common.{true, zero, zero-add, ℕ, drop-append_seam, and_from, eqb-true, same_from_decides, length-map, map-append, All-append, All-cons, All-head, All-map, All-nil}
+use Rattle.mv_ledger.proofs.Common.{true, zero, zero-add, ℕ, drop-append_seam, and_from, eqb-true, same_from_decides, length-map, map-append, All-append, All-head, All-map, All-nil}
 use Rattle.mv_ledger.proofs.Common.{All-tail, All-weaker, same_Some, first_so, second_so, ◌&&◌, ◌==◌, All, IsSome, filter_map, find, slice_get, unwrap_or, Module, name_at, StructName, same_struct}
 use Rattle.mv_ledger.proofs.Common.{PublishedModule, InBounds, scarce_name, scarce_structs, tally_of, untouched_tally, Tallied, some-of, then_found, same_struct-is, same_struct-same, IsPublishable}
-use Rattle.mv_ledger.proofs.Common.{IsStore, tables_in, index_of, All-at, mapped_at, nameless, AddsTallies, fresh_tally, tallies_at, ArePlaced, AreScarce, IsNamed, IsSmall, all_of, scarce_indices}
+use Rattle.mv_ledger.proofs.Common.{IsStore, tables_in, index_of, All-at, nameless, AddsTallies, fresh_tally, tallies_at, ArePlaced, AreScarce, IsNamed, IsSmall, all_of, scarce_indices, mapped-at}
 use Rattle.mv_ledger.proofs.Common.{tallied, Tally}
 use Rattle.mv_ledger.proofs.Bundles.Places.{had, EachIs}
 use Rattle.mv_ledger.proofs.Bundles.Heirs.{Inherits, had-first, name-stays}
@@ -11,6 +11,7 @@ use Rattle.mv_ledger.proofs.Runs.ScarceTallies.{All-back, Ascends, ascend-from}
 use Rattle.mv_ledger.proofs.Runs.TalliesAfter.{map-where, map-then}
 use Rattle.mv_ledger.proofs.Bundles.TalliesFresh.{struct_there, fresh-tallied, fresh-named, AreThere}
 use Rattle.mv_binary_format.proofs.Taken.{find-map}
+use Rattle.mv_bounds.proofs.Entries.{All-first, All-second}
 
 -- ---- what is found first
 
@@ -84,14 +85,6 @@ module _ {B : Type 0} (g : Tally → B) (place : ℕ) where
 
 -- ---- lists
 
-All-second : {A : Type 0} (P : A → Type 0) (xs ys : List A) → All P (xs ++ ys) → All P ys
-All-second P [] ys all = all
-All-second P (x ∷ xs) ys all = All-second P xs ys (All-tail P x (xs ++ ys) all)
-
-All-first : {A : Type 0} (P : A → Type 0) (xs ys : List A) → All P (xs ++ ys) → All P xs
-All-first P [] ys all = All-nil P
-All-first P (x ∷ xs) ys all = All-cons P x xs (All-head P x (xs ++ ys) all) (All-first P xs ys (All-tail P x (xs ++ ys) all))
-
 -- what holds of all tallies holds of those at a place
 all-had : (P : Tally → Type 0) (tss : List (List Tally)) (i : ℕ) → All P (all_of tss) → All P (had tss i)
 all-had P [] i all = All-nil P
@@ -150,7 +143,7 @@ module _ (new : List PublishedModule) (store : IsStore new) (tss : List (List Ta
   module _ (place : ℕ) (m : Module) (at : slice_get (tables_in new) place ≡ Some m) (rest : List ℕ) (first : scarce_indices m ≡ map (λ (t : Tally). t.index) (had tss place) ++ rest) where
     bounds : InBounds m
     bounds =
-        let p = mapped_at (λ (p : PublishedModule). p.tables) new place m at in
+        let p = mapped-at (λ (p : PublishedModule). p.tables) new place m at in
         let passed : IsPublishable p.0 = All-at IsPublishable new place p.0 store.passed p.1 in
         subst InBounds p.2 passed.sound.bounds
 

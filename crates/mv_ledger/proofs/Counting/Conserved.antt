@@ -3,7 +3,7 @@ use Rattle.mv_ledger.proofs.Common.{[], ◌+◌, ◌∙◌, ◌∷◌, ◌≡◌
 use Rattle.mv_ledger.proofs.Common.{same_Some, AllByRecursion, list_all, option_map_or, ◌&&◌, ◌==◌, ◌||◌, not, reverse, slice_get, FunctionDefinition, Module, parameter_tokens}
 use Rattle.mv_ledger.proofs.Common.{StructName, same_struct, for_each, Tag, Definition, Token, are_entry_parameters, entry_fits, has_no_results, WhereOk, entry-is, on_some, place-written, Effect}
 use Rattle.mv_ledger.proofs.Common.{Ends, Left, Resumed, Went, Written, arrived, begun, run-keeps, step-stepped, count, AtReturn, FunctionCall, packs, run, unpacks, Event, Frame, State, Storage}
-use Rattle.mv_ledger.proofs.Common.{with_local, with_root, Goes, Here, Returns, Turn, may_drop, with_stack, entry, tag_named, Leaf, Local, Root, Stored, Value, each, Conserves, IsEntryCall}
+use Rattle.mv_ledger.proofs.Common.{with_local, with_root, Goes, Here, Returns, Turn, may_drop, with_stack, entry, tag_named, Leaf, Local, Root, Stored, Value, all_at, Conserves, IsEntryCall}
 use Rattle.mv_ledger.proofs.Common.{IsFineStorage, IsLeaf, IsAbleStore, IsFine, held, held_in_frames, held_in_locals, held_in_stack, made, unmade, IsScarce, StackIsKept}
 use Rattle.mv_move_types.specs.declared.tables.FunctionHandle.{FunctionHandle}
 use Rattle.mv_machine.specs.StepControl.{signature_tags}
@@ -152,7 +152,7 @@ entry-results h call store entered same home_is function_is =
     entered.function_is in
     let at2 : slice_get h.home.functions call.function.index ≡ Some h.function = subst (λ (d : Definition). slice_get h.home.functions d.index ≡ Some h.function) same function_is in
     let function : entered.function ≡ h.function = same_Some entered.function h.function (sym at ∙ at2) in
-    let fits : entry_fits h.home h.function ≡ true = each (entry_fits h.home) h.home.functions h.state.top.function.index h.function
+    let fits : entry_fits h.home h.function ≡ true = all_at (entry_fits h.home) h.home.functions h.state.top.function.index h.function
     (each-get (λ m. IsTrue (list_all (entry_fits m) m.functions)) h.modules h.state.top.function.place h.home store.entries home_is) function_is in
     let is_entry : h.function.is_entry ≡ true = subst (λ (d : FunctionDefinition). d.is_entry ≡ true) function entered.is_entry in
     entry-none h.function.is_entry (has_no_results h.home h.function) (option_map_or are_entry_parameters (parameter_tokens h.home h.function) false) fits is_entry

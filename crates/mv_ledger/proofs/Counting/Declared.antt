@@ -3,9 +3,10 @@ use Rattle.mv_ledger.proofs.Common.{[], ◌∙◌, ◌∷◌, ◌≡◌, List, N
 use Rattle.mv_ledger.proofs.Common.{struct_abilities, declared, declared_in, is_struct, module_named, module_place, StructName, same_struct, find_index, PublishedModule, StructHandle, Abilities}
 use Rattle.mv_ledger.proofs.Common.{on_bind, map-is, count, count_in, count_in_fields, Storage, More, NoMore, Struct, Value, Values, then_found, same_struct-is, IsStore, tables_in}
 use Rattle.mv_ledger.proofs.Common.{AreKept, IsKept, StorageIsKept}
-use Rattle.mv_ledger.proofs.Bundles.Heirs.{Inherits, Stayed, found-passes, on_and_then, stayed}
+use Rattle.mv_ledger.proofs.Bundles.Heirs.{Inherits, Stayed, stayed}
 use Rattle.mv_ledger.proofs.Counting.Packs.{HandlesDeclared, each-declared, each-get}
-use Rattle.mv_linker.proofs.Found.{passing}
+use Rattle.mv_linker.proofs.Found.{passing, found_passes}
+use Rattle.std.proofs.lemmas.Option.{option_and_then_some}
 
 -- the module and the definition that declare a struct
 pub record DeclaredBy (modules : List Module) (name : StructName) (a : Abilities) : Type 0 where
@@ -20,13 +21,13 @@ pub record DeclaredBy (modules : List Module) (name : StructName) (a : Abilities
 
 pub declared-by : (modules : List Module) (name : StructName) (a : Abilities) → declared modules name ≡ Some a → DeclaredBy modules name a
 declared-by modules name a e =
-    on_and_then (declared_in name) (module_named modules name.home) a e (λ m m_is e1.
-    on_and_then (slice_get modules) (module_place modules name.home) m m_is (λ place place_is at.
-    on_and_then (λ i. option_and_then (λ (d : StructDefinition). option_map (λ (h : StructHandle). h.abilities) (slice_get m.struct_handles d.handle)) (slice_get m.structs i))
+    option_and_then_some (declared_in name) (module_named modules name.home) a e (λ m m_is e1.
+    option_and_then_some (slice_get modules) (module_place modules name.home) m m_is (λ place place_is at.
+    option_and_then_some (λ i. option_and_then (λ (d : StructDefinition). option_map (λ (h : StructHandle). h.abilities) (slice_get m.struct_handles d.handle)) (slice_get m.structs i))
     (find_index (is_struct m name) m.structs) a e1 (λ i i_is e2.
-    on_and_then (λ (d : StructDefinition). option_map (λ (h : StructHandle). h.abilities) (slice_get m.struct_handles d.handle)) (slice_get m.structs i) a e2 (λ d d_is e3.
+    option_and_then_some (λ (d : StructDefinition). option_map (λ (h : StructHandle). h.abilities) (slice_get m.struct_handles d.handle)) (slice_get m.structs i) a e2 (λ d d_is e3.
     let handle = map-is (λ (h : StructHandle). h.abilities) (slice_get m.struct_handles d.handle) a e3 in
-    let named = passing (λ own. same_struct own name) (name_of_struct m d) (found-passes (is_struct m name) m.structs i d i_is d_is) in
+    let named = passing (λ own. same_struct own name) (name_of_struct m d) (found_passes (is_struct m name) m.structs i d i_is d_is) in
     record {
       place = place;
       home = m;

@@ -7,7 +7,7 @@ use Rattle.mv_ledger.proofs.Common.{with_stack, abilities_of, Leaf, Local, Place
 use Rattle.mv_ledger.proofs.Common.{held_in_frame, held_in_frames, held_in_local, held_in_locals, held_in_stack, made, unmade, FrameIsKept, FramesAreKept, IsKept, IsScarce, LocalIsKept}
 use Rattle.mv_ledger.proofs.Common.{LocalsAreKept, StackIsKept}
 use Rattle.mv_interpreter.proofs.Typing.Frames.{held_entry, written_below}
-use Rattle.mv_interpreter.proofs.Typing.Write.{numbers_stay}
+use Rattle.mv_interpreter.proofs.Typing.Write.{numbers_stay, root-stack}
 use Rattle.mv_ledger.proofs.Counting.Counts.{held-set, kept-set, kept-get, none_in, lacks_copy, lacks_drop, held-append, held-reverse, held-list_of, held-fields_of, held-entered, kept-append}
 use Rattle.mv_ledger.proofs.Counting.Counts.{kept-first, kept-rest, kept-reverse, kept-list_of, kept-entered, kept-value_at, Replaces, replaces-at}
 use Rattle.mv_ledger.proofs.Counting.Stored.{count-over, kept-stored_at, kept-with, ascending-with, count-without, count-new, kept-without, ascending-without}
@@ -140,10 +140,6 @@ record Wrote (modules : List Module) (s : State) (root : Root) (next : State) (g
   old_is : root_value s root ≡ Some old_root
   next_is : with_root s root new_root ≡ next
   replaces : Replaces modules old_root new_root gone new
-
-root-stack : (s : State) (stack : List Value) (root : Root) → root_value (with_stack s stack) root ≡ root_value s root
-root-stack s stack (Local n l) = refl
-root-stack s stack (Stored key) = refl
 
 -- the write of a value of the old one's abilities, on a state with fewer operands
 wrote : (modules : List Module) (s : State) (below : List Value) (p : Place) (old new : Value) (next : State) → IsFine modules s → IsKept modules new →

@@ -4,10 +4,11 @@ use Rattle.mv_ledger.proofs.Common.{list_all, option_map_or, ◌&&◌, ◌||◌,
 use Rattle.mv_ledger.proofs.Common.{struct_abilities, struct_name, declared, StructName, same_module, ◌>>=◌, for_each, LeafTag, ReferenceTag, StructTag, Tag, same_tag, Field, StructHandle}
 use Rattle.mv_ledger.proofs.Common.{Abilities, Token, MutableReferenceTo, Plain, ReferenceTo, ValueType, OfLeaf, OfStruct, AbilitiesHold, field_is_able, implies, struct_is_able, token_abilities}
 use Rattle.mv_ledger.proofs.Common.{value_type_abilities, WhereOk, map-is, on_some, on_need, on_ok, State, place_value, Here, OwnStruct, abilities_of, has_tag, have_tags, plain_tag, tag_named}
-use Rattle.mv_ledger.proofs.Common.{tag_of, value_type_tag, Leaf, Ref, Struct, Value, fields_of, each, same_abilities-is, same_tag-is, struct_is_there, structs_are_there, on_found, IsAbleStore}
+use Rattle.mv_ledger.proofs.Common.{tag_of, value_type_tag, Leaf, Ref, Struct, Value, fields_of, all_at, same_abilities-is, same_tag-is, struct_is_there, structs_are_there, on_found, IsAbleStore}
 use Rattle.mv_ledger.proofs.Common.{Allows, AreKept, IsKept, StackIsKept}
 use Rattle.mv_machine.specs.StepStructs.{own_struct}
 use Rattle.mv_linker.proofs.Found.{passing}
+use Rattle.mv_linker.proofs.Joining.Resolving.{structs_there_at}
 
 -- ---- the abilities that a tag stands for
 
@@ -56,19 +57,6 @@ each-get P [] i x h e = absurd cc
 each-get P (y ∷ ys) zero x h e = subst P (same_Some y x e) h.0
 each-get P (y ∷ ys) (suc i) x h e = each-get P ys i x h.1 e
 
--- a struct handle of a store's module names a struct that is declared as the handle says
-pub there-get : (modules : List Module) (m : Module) (k j : ℕ) (handles : List StructHandle) (handle : StructHandle) → structs_are_there modules m k handles ≡ true
-    → slice_get handles j ≡ Some handle → struct_is_there modules m (k + j) handle ≡ true
-there-get modules m k j [] handle h e = absurd cc
-there-get modules m k zero (x ∷ xs) handle h e =
-    let at : k ≡ k + 0 = omega arith in
-    subst (λ n. struct_is_there modules m n handle ≡ true) at
-    (subst (λ y. struct_is_there modules m k y ≡ true) (same_Some x handle e) (first_so (struct_is_there modules m k x) (structs_are_there modules m (k + 1) xs) h))
-there-get modules m k (suc j) (x ∷ xs) handle h e =
-    let at : (k + 1) + j ≡ k + suc j = omega arith in
-    subst (λ n. struct_is_there modules m n handle ≡ true) at
-    (there-get modules m (k + 1) j xs handle (second_so (struct_is_there modules m k x) (structs_are_there modules m (k + 1) xs) h) e)
-
 -- each struct handle of a module names a struct that is declared as the handle says
 abbrev pub HandlesDeclared : List Module → Module → Type 0
 HandlesDeclared modules m = (j : ℕ) (handle : StructHandle) (name : StructName) → slice_get m.struct_handles j ≡ Some handle → struct_name m j ≡ Some name
@@ -77,7 +65,7 @@ HandlesDeclared modules m = (j : ℕ) (handle : StructHandle) (name : StructName
 pub handles-declared : (modules : List Module) (m : Module) → structs_are_there modules m 0 m.struct_handles ≡ true → HandlesDeclared modules m
 handles-declared modules m all j handle name handle_is name_is =
     let at : 0 + j ≡ j = omega arith in
-    let here : struct_is_there modules m j handle ≡ true = subst (λ n. struct_is_there modules m n handle ≡ true) at (there-get modules m 0 j m.struct_handles handle all handle_is) in
+    let here : struct_is_there modules m j handle ≡ true = subst (λ n. struct_is_there modules m n handle ≡ true) at (structs_there_at modules m 0 m.struct_handles j handle all handle_is) in
     let named = passing (λ n. option_map_or (same_abilities handle.abilities) (declared modules n) false) (struct_name m j) here in
     let found = passing (same_abilities handle.abilities) (declared modules named.0) named.2 in
     let one : named.0 ≡ name = same_Some named.0 name (sym named.1 ∙ name_is) in
@@ -108,7 +96,7 @@ own_struct-owned h place i s store home_is e =
     on_some (struct_name h.home d.handle) _ _ s e2 (λ name name_is e3.
     on_some (own_name h.home) _ _ s e3 (λ own own_is e4.
     on_need (same_module name.home own) _ _ s e4 (λ met e5.
-    let able : struct_is_able h.home d ≡ true = each (struct_is_able h.home) h.home.structs i d (each-get AbilitiesHold h.modules place h.home store.able home_is) d_is in
+    let able : struct_is_able h.home d ≡ true = all_at (struct_is_able h.home) h.home.structs i d (each-get AbilitiesHold h.modules place h.home store.able home_is) d_is in
     let had = passing (λ a. list_all (field_is_able h.home a) d.fields) (struct_abilities h.home d) able in
     let has : struct_abilities h.home d ≡ Some handle.abilities = ap (λ (o : Option StructHandle). o >>= λ x. Some x.abilities) handle_is in
     let one : had.0 ≡ handle.abilities = same_Some had.0 handle.abilities (sym had.1 ∙ has) in

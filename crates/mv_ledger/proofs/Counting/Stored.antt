@@ -1,22 +1,14 @@
 -- Counts in the storage, whose keys ascend.
-use Rattle.mv_ledger.proofs.Common.{[], ◌+◌, ◌∙◌, ◌∷◌, ◌≡◌, List, None, Some, arith, false, inl, inr, refl, subst, sym, true, both_ways, Module, StructName, Key, before-apart, before-trans}
-use Rattle.mv_ledger.proofs.Common.{keys_compare, same_key-refl, same_key-symm, same_key-to, count, count_in, Storage, key_before, same_key, stored_at, with_stored, without_stored, Value, AreAbove}
+use Rattle.mv_ledger.proofs.Common.{[], ◌+◌, ◌∷◌, ◌≡◌, List, None, Some, arith, false, refl, subst, true, both_ways, Module, StructName, Key, before-apart, before-trans}
+use Rattle.mv_ledger.proofs.Common.{same_key-refl, same_key-to, count, count_in, Storage, key_before, same_key, stored_at, with_stored, without_stored, Value, AreAbove}
 use Rattle.mv_ledger.proofs.Common.{IsAscending, IsKept, StorageIsKept}
+use Rattle.mv_storage.proofs.Maps.{behind}
 
 -- ---- the order of keys
 
 -- of two keys at most one is before the other
 pub before-clash : (a b : Key) → key_before a b ≡ true → key_before b a ≡ true → ⊥
 before-clash a b h g = both_ways (same_key a a) (before-apart a a (before-trans a b a h g)) (same_key-refl a)
-
--- of two keys that differ one is before the other
-pub before-or : (a b : Key) → same_key b a ≡ false → key_before a b ≡ false → key_before b a ≡ true
-before-or a b h g =
-    elim (keys_compare a b) [
-      | inl same ↦ absurd (both_ways (same_key b a) h (sym (same_key-symm a b) ∙ same))
-      | inr (inl before) ↦ absurd (both_ways (key_before a b) g before)
-      | inr (inr after) ↦ after
-    ]
 
 -- ---- what is stored
 
@@ -81,5 +73,5 @@ ascending-with [] key v up = (tt, tt)
 ascending-with (f ∷ es) key v up =
     let same : same_key f.key key ≡ true → AreAbove key es = λ s. subst (λ k. AreAbove k es) (same_key-to f.key key s) up.0 in
     let below : key_before key f.key ≡ true → AreAbove key es = λ b. above-below key f.key es b up.0 in
-    let apart : same_key f.key key ≡ false → key_before key f.key ≡ false → AreAbove f.key (with_stored es key v) = λ s b. above-with f.key es key v up.0 (before-or key f.key s b) in
+    let apart : same_key f.key key ≡ false → key_before key f.key ≡ false → AreAbove f.key (with_stored es key v) = λ s b. above-with f.key es key v up.0 (behind f.key key s b) in
     grind (arith, same, below, apart, ascending-with es key v up.1)

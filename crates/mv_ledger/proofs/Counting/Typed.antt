@@ -3,12 +3,12 @@ use Rattle.mv_ledger.proofs.Common.{[], ◌∙◌, ◌∷◌, ◌≡◌, Bool, L
 use Rattle.mv_ledger.proofs.Common.{Module, name_at, name_of_struct, struct_abilities, struct_name, declared, definition_of, is_struct, module_named, module_place, StructName, same_struct}
 use Rattle.mv_ledger.proofs.Common.{find_index, same_kind, Field, Abilities, Token, MutableReferenceTo, Plain, ReferenceTo, OfLeaf, OfStruct, AbilitiesHold, field_is_able, implies, struct_is_able}
 use Rattle.mv_ledger.proofs.Common.{token_abilities, on_bind, address_fits, Storage, abilities_at, are_of_types, is_fine_entry, is_fine_storage, is_of_struct, is_of_type, leaf_fits, abilities_of}
-use Rattle.mv_ledger.proofs.Common.{Leaf, More, NoMore, Struct, Value, Values, each, same_struct-is, same_kind-is, IsAbleStore, Allows, AreKept, IsKept, StorageIsKept}
-use Rattle.mv_ledger.proofs.Bundles.Heirs.{found-passes, on_and_then}
+use Rattle.mv_ledger.proofs.Common.{Leaf, More, NoMore, Struct, Value, Values, all_at, same_struct-is, kinds_equal, IsAbleStore, Allows, AreKept, IsKept, StorageIsKept}
 use Rattle.mv_ledger.proofs.Counting.Counts.{declared-abilities}
 use Rattle.mv_ledger.proofs.Counting.Packs.{HandlesDeclared, each-declared, each-get, implied}
 use Rattle.mv_ledger.proofs.Counting.Declared.{definition-declared}
-use Rattle.mv_linker.proofs.Found.{passing}
+use Rattle.mv_linker.proofs.Found.{passing, found_passes}
+use Rattle.std.proofs.lemmas.Option.{option_and_then_some}
 
 -- a struct's definition, as far as abilities go
 record Defines (modules : List Module) (name : StructName) (m : Module) (fields : List Field) : Type 0 where
@@ -23,10 +23,10 @@ module _ (modules : List Module) (store : IsAbleStore modules) where
       on_bind (module_named modules name.home) _ found e (λ m m_is e1.
       on_bind (find_index (is_struct m name) m.structs) _ found e1 (λ i i_is e2.
       on_bind (slice_get m.structs i) _ found e2 (λ d d_is e3.
-      on_and_then (slice_get modules) (module_place modules name.home) m m_is (λ place place_is at.
-      let named = passing (λ own. same_struct own name) (name_of_struct m d) (found-passes (is_struct m name) m.structs i d i_is d_is) in
+      option_and_then_some (slice_get modules) (module_place modules name.home) m m_is (λ place place_is at.
+      let named = passing (λ own. same_struct own name) (name_of_struct m d) (found_passes (is_struct m name) m.structs i d i_is d_is) in
       let name_is : name_of_struct m d ≡ Some name = named.1 ∙ ap (λ (n : StructName). Some n) (same_struct-is named.0 name named.2) in
-      let able : struct_is_able m d ≡ true = each (struct_is_able m) m.structs i d (each-get AbilitiesHold modules place m store.able at) d_is in
+      let able : struct_is_able m d ≡ true = all_at (struct_is_able m) m.structs i d (each-get AbilitiesHold modules place m store.able at) d_is in
       let had = passing (λ a. list_all (field_is_able m a) d.fields) (struct_abilities m d) able in
       let declares : HandlesDeclared modules m = each-get (HandlesDeclared modules) modules place m (each-declared modules modules store.structs) at in
       let here : Defines modules name m d.fields = record {
@@ -43,7 +43,7 @@ module _ (modules : List Module) (store : IsAbleStore modules) where
 
   -- a value of a type has the abilities that its type has
   typed-abilities : (m : Module) (t : Token) (v : Value) (a : Abilities) → HandlesDeclared modules m → is_of_type modules m t v ≡ true → token_abilities m t ≡ Some a → a ≡ abilities_of modules v
-  typed-abilities m (Plain (OfLeaf k)) (Leaf j n) a declares h e = sym (same_Some (leaf_abilities k) a e) ∙ sym (ap leaf_abilities (same_kind-is j k (first_so (same_kind j k) (leaf_fits k n) h)))
+  typed-abilities m (Plain (OfLeaf k)) (Leaf j n) a declares h e = sym (same_Some (leaf_abilities k) a e) ∙ sym (ap leaf_abilities (kinds_equal j k (first_so (same_kind j k) (leaf_fits k n) h)))
   typed-abilities m (Plain (OfStruct i)) (Struct name fields) a declares h e =
       let named = passing (λ own. same_struct own name) (struct_name m i) (first_so (option_map_or (λ own. same_struct own name) (struct_name m i) false) (fields_fit name fields) h) in
       on_bind (slice_get m.struct_handles i) _ a e (λ handle handle_is e1.

@@ -4,6 +4,7 @@ use Rattle.mv_ledger.proofs.Common.{uleb, address-parts, address-whole, Front, F
 use Rattle.mv_ledger.proofs.Common.{address_from, index_from, FlatEntry, AreLeaves, coded, kinds_under, entry_from, leaves_from, leaf_from, leaf_bytes}
 use Rattle.mv_ledger.specs.Parts.BodyParts.{struct_from}
 use Rattle.mv_ledger.proofs.ShapesOfArguments.{leaf-parts, leaf-whole}
+use Rattle.mv_ledger.specs.Parts.Saving.{struct_under}
 
 -- ---- leaves
 
@@ -27,10 +28,6 @@ leaves-whole (kind ∷ kinds) (n ∷ words) rest h =
 leaves-whole _ _ _ h = absurd h
 
 -- ---- a stored value
-
--- the struct of a key
-abbrev pub struct_under : Key → Definition
-struct_under k = record { place = k.place; index = k.index }
 
 -- its place and index, where they are written
 abbrev pub known_text : Option Definition → Key → List ℕ

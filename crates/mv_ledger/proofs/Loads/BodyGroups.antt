@@ -4,8 +4,9 @@ use Rattle.mv_ledger.proofs.Common.{subst, suc, sym, true, zero, ℕ, and_from, 
 use Rattle.mv_ledger.proofs.Common.{Definition, Key, number_from, uleb, Front, Front-from, Front-join, number-front, number-whole, on_bind, then_some-parts, counted, AreBytes, Ascends, IsBelow}
 use Rattle.mv_ledger.proofs.Common.{FlatEntry, entry_from, group_into, groups_into, is_after, rising_into, with_entry}
 use Rattle.mv_ledger.proofs.Loads.BodyLookups.{puts, is_of, under, Ascends-under}
-use Rattle.mv_ledger.proofs.Loads.BodyEntries.{struct_under, entry_text, IsEntry, entry-parts, entry-whole}
+use Rattle.mv_ledger.proofs.Loads.BodyEntries.{entry_text, IsEntry, entry-parts, entry-whole}
 use Rattle.mv_ledger.proofs.Lists.{all-weaker, all-append}
+use Rattle.mv_ledger.specs.Parts.Saving.{struct_under}
 
 -- ---- keys ascend
 

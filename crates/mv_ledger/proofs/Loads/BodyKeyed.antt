@@ -1,14 +1,15 @@
 -- The structs with key, by place of their module and index: each stands once among them.
-use Rattle.mv_ledger.proofs.Common.{[], ◌++◌, ◌+◌, ◌<◌, ◌∙◌, ◌∷◌, ◌≡◌, ◌≤◌, ◌⊎◌, List, Option, Some, ap, arith, cond, false, inl, inr, map, subst, suc, true, zero, zero-add, ℕ, AllByRecursion}
+use Rattle.mv_ledger.proofs.Common.{[], ◌++◌, ◌+◌, ◌<◌, ◌∙◌, ◌∷◌, ◌≡◌, ◌≤◌, List, Option, Some, ap, arith, cond, false, inl, inr, map, subst, suc, true, zero, zero-add, ℕ, AllByRecursion}
 use Rattle.mv_ledger.proofs.Common.{enumerate_from, filter, option_map_or, slice_get, Module, StructDefinition, Definition, Abilities, on_bind, abilities_at, on_found, is_keyed, has_key}
 use Rattle.mv_ledger.proofs.Common.{keyed_from, keyed_indices}
+use Rattle.mv_interpreter.proofs.Borrows.Standing.{Among as IsIn}
 use Rattle.mv_ledger.proofs.Loads.BodyGroups.{Among, IsApart, Distinct}
 use Rattle.mv_ledger.proofs.Lists.{all-weaker, all-append}
 
 -- ---- of one module
 
 -- the indices of structs with key among those from an index on
-abbrev keyed_after : Module → ℕ → List StructDefinition → List ℕ
+abbrev pub keyed_after : Module → ℕ → List StructDefinition → List ℕ
 keyed_after m k ds = map (λ (p : ℕ × StructDefinition). p.0) (filter (λ p. has_key m p.1) (enumerate_from k ds))
 
 abbrev IsUp : List ℕ → Type 0
@@ -58,10 +59,6 @@ keyed-distinct place [] = tt
 keyed-distinct place (m ∷ ms) = distinct-append place (keyed_indices m) (keyed_from (place + 1) ms) (keyed-up m 0 m.structs) (keyed-low (place + 1) ms) (keyed-distinct (place + 1) ms)
 
 -- ---- each struct with key is among them
-
-abbrev IsIn : ℕ → List ℕ → Type 0
-IsIn i [] = ⊥
-IsIn i (j ∷ js) = (i ≡ j) ⊎ IsIn i js
 
 index-in : (m : Module) (k i : ℕ) (ds : List StructDefinition) (d : StructDefinition) → slice_get ds i ≡ Some d → has_key m d ≡ true → IsIn (k + i) (keyed_after m k ds)
 index-in m k i [] d e h = absurd cc

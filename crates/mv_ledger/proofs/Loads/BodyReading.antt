@@ -3,6 +3,7 @@ use Rattle.mv_ledger.proofs.Common.{[], ◌++◌, ◌+◌, ◌-◌, ◌<◌, ◌
 use Rattle.mv_ledger.proofs.Common.{length, map, option_map, refl, suc, sym, take, true, ℕ, map-set_same, drop_all, drop_more, map-append, take_more_set, OnErr, is_some, not, slice_set, Module}
 use Rattle.mv_ledger.proofs.Common.{◌>>=◌, Definition, Key, LeafKind, number_from, after, Read, FlatStorage, with_words, words_under, FlatEntry, counts_of, entry_from}
 use Rattle.mv_ledger.proofs.Common.{group_into, groups_into, is_after, leaves_from, rising_into, struct_of, with_entry, leaf_from, Tally}
+use Rattle.mv_module_text.proofs.Entries.{after-nil}
 
 -- what holds anyway holds of an error
 pub OnErr-any : {T E : Type 0} (r : Result T E) (P : Type 0) → P → OnErr r P
@@ -15,14 +16,9 @@ OnErr-any (Err e) P h = h
 pub record LeavesOn (kinds : List LeafKind) (i : ℕ) (start : List ℕ) (words cur : List ℕ) : Type 0 where
   pub goes : leaves_from kinds start ≡ option_map (after words) (leaves_from (drop i kinds) cur)
 
--- nothing was read before
-pub after-none : {A : Type 0} (o : Read (List A)) → o ≡ option_map (after []) o
-after-none None = refl
-after-none (Some r) = refl
-
 -- none are read yet
 pub LeavesOn-start : (kinds : List LeafKind) (start : List ℕ) → LeavesOn kinds 0 start [] start
-LeavesOn-start kinds start = record { goes = after-none (leaves_from kinds start) }
+LeavesOn-start kinds start = record { goes = after-nil (leaves_from kinds start) }
 
 after-one : (words : List ℕ) (n : ℕ) (o : Read (List ℕ)) → option_map (after words) (o >>= λ xs. Some (n ∷ xs.0, xs.1)) ≡ option_map (after (words ++ n ∷ [])) o
 after-one words n None = refl

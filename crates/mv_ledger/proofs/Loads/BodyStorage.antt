@@ -3,17 +3,19 @@ use Rattle.mv_ledger.proofs.Common.{[], ◌++◌, ◌<◌, ◌^◌, ◌∙◌, �
 use Rattle.mv_ledger.proofs.Common.{suc, sym, true, zero, ℕ, and_from, length-map, All-head, All-tail, slice_get_within, first_so, second_so, AllByRecursion, filter, list_all, All, nat_le}
 use Rattle.mv_ledger.proofs.Common.{slice_get, leaves_within, Module, name_at, name_of_struct, StructName, ◌>>=◌, PublishedModule, Definition, Key, uleb, few_structs, HasText, Front, on_bind}
 use Rattle.mv_ledger.proofs.Common.{counted, is_index, AreBytes, same_key-to, entries_from_words, with_words, words_under, Ascends, FlatEntry, flat_storage, Storage, same_key, is_fine_entry}
-use Rattle.mv_ledger.proofs.Common.{is_fine_storage, each, IsPublishable, IsStore, tables_in, struct_is_small, on_found, IsAscending, is_keyed, storage_into, with_entry, First, Form, Second}
+use Rattle.mv_ledger.proofs.Common.{is_fine_storage, all_at, IsPublishable, IsStore, tables_in, struct_is_small, on_found, IsAscending, is_keyed, storage_into, with_entry, First, Form, Second}
 use Rattle.mv_ledger.proofs.Common.{addressed_text, is_under, keyed_from, storage_text, stored_text, struct_text}
 use Rattle.mv_linker.proofs.Joining.Scopes.{within_tables}
 use Rattle.mv_ledger.proofs.Loads.BodyLookups.{or_else, words-append, puts, words-puts, Ascends-puts, puts-ascending, is_of, under, is_key_of, words-under, under-puts}
-use Rattle.mv_ledger.proofs.Loads.BodyEntries.{struct_under, entry_text, IsEntry}
+use Rattle.mv_ledger.proofs.Loads.BodyEntries.{entry_text, IsEntry}
 use Rattle.mv_ledger.proofs.Loads.BodyGroups.{rises-ascends, ascends-rises, group-parts, group-whole, Among, group_text, groups-parts, groups-whole, is-own, own-is, own-entry}
 use Rattle.mv_ledger.proofs.Loads.BodyKeyed.{keyed-distinct, keyed-among}
-use Rattle.mv_ledger.proofs.Loads.BodyValues.{flat_entry, valued, entry-valued, EachIsSized, FineParts, fine-parts, stored-as, addressed-as, ascending-ascends, ascends-ascending, under-valued}
+use Rattle.mv_ledger.proofs.Loads.BodyValues.{valued, entry-valued, EachIsSized, FineParts, fine-parts, stored-as, addressed-as, ascending-ascends, ascends-ascending, under-valued}
 use Rattle.mv_ledger.proofs.Loads.BodyValues.{under-flat}
 use Rattle.mv_ledger.proofs.Lists.{all-weaker, all-filter}
 use Rattle.mv_binary_format.proofs.Back.{filter-shorter}
+use Rattle.mv_ledger.specs.Parts.Saving.{struct_under}
+use Rattle.mv_interpreter.specs.Flat.Represents.{flat_entry}
 
 -- ---- what is read
 
@@ -110,8 +112,8 @@ pub store-sized : (published : List PublishedModule) → IsStore published → E
 store-sized published store place index name named =
     on_bind (slice_get (tables_in published) place) _ name named (λ m m_is n1.
     on_bind (slice_get m.structs index) (name_of_struct m) name n1 (λ d d_is n2.
-    let small = each (λ m. list_all (struct_is_small (tables_in published) m) m.structs) (tables_in published) place m store.links.small m_is in
-    let own : struct_is_small (tables_in published) m d ≡ true = each (struct_is_small (tables_in published) m) m.structs index d small d_is in
+    let small = all_at (λ m. list_all (struct_is_small (tables_in published) m) m.structs) (tables_in published) place m store.links.small m_is in
+    let own : struct_is_small (tables_in published) m d ≡ true = all_at (struct_is_small (tables_in published) m) m.structs index d small d_is in
     on_found (λ n. nat_le n 256) (name_of_struct m d >>= leaves_within 8 (tables_in published)) own (λ n n_is le. (n, sym (ap (λ o. o >>= leaves_within 8 (tables_in published)) n2) ∙ n_is))))
 
 -- each module of a store has a text

@@ -3,7 +3,7 @@ use Rattle.mv_ledger.proofs.Common.{[], ◌++◌, ◌+◌, ◌<◌, ◌∙◌, �
 use Rattle.mv_ledger.proofs.Common.{suc, sym, take, zero, zero-add, ℕ, map-set_same, drop-set-lt, drop_all, drop_more, get_or-map, length-map, map-append, map-set, take_all, take_more_set}
 use Rattle.mv_ledger.proofs.Common.{with_items_is, All-cons, All-head, All-nil, All-tail, All, slice_set, with_items, Global, Vec, ◌>>=◌, Definition, after, Read, entries_from, counts_of}
 use Rattle.mv_ledger.proofs.Common.{struct_of, ArePlaced, all_of, Tally}
-use Rattle.mv_ledger.proofs.Loads.BodyReading.{after-none}
+use Rattle.mv_module_text.proofs.Entries.{after-nil}
 
 -- ---- so many entries, and then others
 
@@ -34,7 +34,7 @@ step-both each m n both (Some x) = ap (pushed x.0) (both x.1) ∙ push-both each
 
 -- the first entries, if they can be read, and the others after them
 entries-both : {A : Type 0} (each : List ℕ → Read A) (m n : ℕ) (bytes : List ℕ) → entries_from each (m + n) bytes ≡ with_more each n (entries_from each m bytes)
-entries-both each zero n bytes = ap (λ k. entries_from each k bytes) (zero-add n) ∙ after-none (entries_from each n bytes)
+entries-both each zero n bytes = ap (λ k. entries_from each k bytes) (zero-add n) ∙ after-nil (entries_from each n bytes)
 entries-both each (suc m) n bytes =
     let more : suc m + n ≡ suc (m + n) = omega arith in
     ap (λ k. entries_from each k bytes) more ∙ step-both each m n (λ b. entries-both each m n b) (each bytes)
@@ -47,7 +47,7 @@ pub record TalliesOn (each : List ℕ → Read (ℕ × ℕ)) (n i : ℕ) (start 
 
 -- none are read yet
 pub TalliesOn-start : (each : List ℕ → Read (ℕ × ℕ)) (start : List ℕ) (tss : List (List Tally)) → TalliesOn each (length (all_of tss)) 0 start tss start
-TalliesOn-start each start tss = record { goes = after-none (entries_from each (length (all_of tss)) start) }
+TalliesOn-start each start tss = record { goes = after-nil (entries_from each (length (all_of tss)) start) }
 
 all-split : (xs ys : List (List Tally)) → all_of (xs ++ ys) ≡ all_of xs ++ all_of ys
 all-split [] ys = refl

@@ -8,7 +8,10 @@ use Rattle.mv_ledger.proofs.Common.{same_kind-same, AreAbove, IsAscending, AreLe
 use Rattle.mv_ledger.proofs.Common.{is_under, leaves_text, stored_text}
 use Rattle.mv_ledger.proofs.Loads.LeafKinds.{kinds-count, struct-leaves}
 use Rattle.mv_ledger.proofs.Loads.BodyLookups.{under, IsLow, low-all}
-use Rattle.mv_ledger.proofs.Loads.BodyEntries.{struct_under, entry_text, IsEntry}
+use Rattle.mv_ledger.proofs.Loads.BodyEntries.{entry_text, IsEntry}
+use Rattle.mv_binary_format.proofs.Binds.{cond_parts}
+use Rattle.mv_ledger.specs.Parts.Saving.{struct_under}
+use Rattle.mv_interpreter.specs.Flat.Represents.{flat_entry}
 
 -- ---- leaves of the kinds that a struct's values have are those of such a value
 
@@ -125,14 +128,6 @@ module _ (modules : List Module) where
 
 -- ---- what entries stand for
 
--- an entry of a storage of words
-abbrev pub flat_entry : Entry → FlatEntry
-flat_entry e = record { key = e.key; words = flat e.value }
-
--- something that is there only if a test holds
-cond-some : {A : Type 0} (b : Bool) (o : Option A) (x : A) → cond b o None ≡ Some x → (b ≡ true) × (o ≡ Some x)
-cond-some b o x h = grind arith
-
 -- the struct of a key is there, has key and such leaves
 pub record IsKeyed (modules : List Module) (k : Key) (kinds : List LeafKind) : Type 0 where
   pub name : StructName
@@ -142,7 +137,7 @@ pub record IsKeyed (modules : List Module) (k : Key) (kinds : List LeafKind) : T
 
 pub keyed-from : (modules : List Module) (k : Key) (kinds : List LeafKind) → kinds_under modules (struct_under k) ≡ Some kinds → IsKeyed modules k kinds
 keyed-from modules k kinds h =
-    let p = cond-some (is_keyed modules (struct_under k)) (name_at modules k.place k.index >>= leaf_kinds modules) kinds h in
+    let p = cond_parts (is_keyed modules (struct_under k)) (name_at modules k.place k.index >>= leaf_kinds modules) kinds h in
     on_bind (name_at modules k.place k.index) (leaf_kinds modules) kinds p.1 (λ name name_is leaves. record { name = name; named = name_is; keyed = p.0; leaves = leaves })
 
 module _ (modules : List Module) where

@@ -1,15 +1,16 @@
 -- How many values of a struct are stored, at any depth, from how many values are stored of each struct with key.
-use Rattle.mv_ledger.proofs.Common.{[], ◌*◌, ◌+◌, ◌∙◌, ◌∷◌, ◌≡◌, Bool, List, Option, Some, ap, ap₂, arith, cond, false, inl, inr, length, refl, subst, suc, sym, true, zero, ℕ, none-some, first_so}
-use Rattle.mv_ledger.proofs.Common.{second_so, AllByRecursion, option_map_or, leaves_of, leaves_within, sum_of_fields, Module, struct_name, definition_of, StructName, same_struct, ◌>>=◌}
+use Rattle.mv_ledger.proofs.Common.{[], ◌*◌, ◌+◌, ◌∙◌, ◌∷◌, ◌≡◌, Bool, List, Option, Some, ap, ap₂, arith, cond, inl, inr, length, refl, subst, suc, sym, true, zero, ℕ, none-some, first_so}
+use Rattle.mv_ledger.proofs.Common.{second_so, AllByRecursion, option_map_or, leaves_of, leaves_within, sum_of_fields, Module, struct_name, definition_of, StructName, same_struct}
 use Rattle.mv_ledger.proofs.Common.{Definition, Field, Token, Plain, OfLeaf, OfStruct, on_bind, count, count_in, count_in_fields, FlatEntry, flat_storage, Storage, are_of_types, is_fine_storage}
-use Rattle.mv_ledger.proofs.Common.{is_of_struct, is_of_type, Leaf, More, NoMore, Struct, Value, Values, same_struct-is, on_found, structs_in_fields, structs_in_token, structs_under}
+use Rattle.mv_ledger.proofs.Common.{is_of_struct, is_of_type, Leaf, More, NoMore, Struct, Value, Values, structs_in_fields, structs_in_token, structs_under}
 use Rattle.mv_ledger.proofs.Common.{structs_within, keyed_from}
 use Rattle.mv_ledger.proofs.Loads.BodyLookups.{under}
-use Rattle.mv_ledger.proofs.Loads.BodyEntries.{struct_under}
 use Rattle.mv_ledger.proofs.Loads.BodyGroups.{is-own, is-other, Among, IsApart, Distinct, apart-among}
 use Rattle.mv_ledger.proofs.Loads.BodyKeyed.{keyed-distinct, keyed-among}
 use Rattle.mv_ledger.proofs.Loads.BodyValues.{EachIsSized, FineParts}
 use Rattle.mv_ledger.proofs.Loads.BodyStorage.{all-parts}
+use Rattle.mv_ledger.specs.Parts.Saving.{struct_under}
+use Rattle.mv_ledger.proofs.Loads.StructParts.{on_struct, on_struct_field}
 
 -- ---- how many values of a struct are inside another one
 
@@ -27,17 +28,9 @@ module _ (modules : List Module) (s : StructName) where
     field-count depth m (Plain (OfLeaf k)) (Leaf j i) n e h = refl
     field-count zero m (Plain (OfStruct i)) (Struct name fields) n e h = on_bind (struct_name m i) (leaves_within zero modules) n e (λ own own_is e1. absurd (none-some n e1))
     field-count (suc depth) m (Plain (OfStruct i)) (Struct name fields) n e h =
-        let named = option_map_or (λ (own : StructName). same_struct own name) (struct_name m i) false in
-        let typed = option_map_or (λ (d : Module × List Field). are_of_types modules d.0 d.1 fields) (definition_of modules name) false in
-        on_found (λ own. same_struct own name) (struct_name m i) (first_so named typed h) (λ own own_is is_name.
-        let leaves : leaves_within (suc depth) modules own ≡ Some n = subst (λ (x : Option StructName). (x >>= leaves_within (suc depth) modules) ≡ Some n) own_is e in
-        let one : own ≡ name = same_struct-is own name is_name in
-        on_bind (definition_of modules own) (λ d. sum_of_fields (leaves_of (leaves_within depth modules) d.0) d.1) n leaves (λ d d_is e1.
-        let found : definition_of modules name ≡ Some d = subst (λ (x : StructName). definition_of modules x ≡ Some d) one d_is in
-        of-fields depth own name fields d d_is one
-        (fields-count depth d.0 d.1 fields n e1 (subst (λ (x : Option (Module × List Field)). option_map_or (λ (d : Module × List Field). are_of_types modules d.0 d.1 fields) x false ≡ true) found
-        (second_so named typed h)))
-        ∙ ap (λ (o : Option StructName). option_map_or (structs_within (suc depth) modules s) o 0) (sym own_is)))
+        on_struct_field modules (λ d. sum_of_fields (leaves_of (leaves_within depth modules) d.0) d.1) m i name fields n e h (λ own d own_is d_is one leaves typed.
+        of-fields depth own name fields d d_is one (fields-count depth d.0 d.1 fields n leaves typed)
+        ∙ ap (λ (o : Option StructName). option_map_or (structs_within (suc depth) modules s) o 0) (sym own_is))
     field-count depth m _ _ n e h = absurd cc
 
     fields-count : (depth : ℕ) (m : Module) (fs : List Field) (vs : Values) (n : ℕ) → sum_of_fields (leaves_of (leaves_within depth modules) m) fs ≡ Some n → are_of_types modules m fs vs ≡ true
@@ -55,14 +48,8 @@ module _ (modules : List Module) (s : StructName) where
       → count_in s v ≡ structs_within depth modules s name
   struct-count zero name v n e h = absurd (none-some n e)
   struct-count (suc depth) name (Struct own fields) n e h =
-      let same : same_struct name own ≡ true = first_so (same_struct name own) (option_map_or (λ (d : Module × List Field). are_of_types modules d.0 d.1 fields) (definition_of modules own) false) h in
-      let typed = second_so (same_struct name own) (option_map_or (λ (d : Module × List Field). are_of_types modules d.0 d.1 fields) (definition_of modules own) false) h in
-      let one : name ≡ own = same_struct-is name own same in
-      on_bind (definition_of modules name) (λ d. sum_of_fields (leaves_of (leaves_within depth modules) d.0) d.1) n e (λ d d_is e1.
-      let found : definition_of modules own ≡ Some d = subst (λ (x : StructName). definition_of modules x ≡ Some d) one d_is in
-      of-fields depth name own fields d d_is one
-      (fields-count depth d.0 d.1 fields n e1 (subst (λ (x : Option (Module × List Field)). option_map_or (λ (d : Module × List Field). are_of_types modules d.0 d.1 fields) x false ≡ true) found
-      typed)))
+      on_struct modules (λ d. sum_of_fields (leaves_of (leaves_within depth modules) d.0) d.1) name own fields n e h (λ d d_is one leaves typed.
+      of-fields depth name own fields d d_is one (fields-count depth d.0 d.1 fields n leaves typed))
   struct-count _ name _ n e h = absurd cc
 
 -- ---- entry by entry

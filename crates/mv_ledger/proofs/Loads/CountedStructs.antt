@@ -2,18 +2,18 @@
 use Rattle.mv_ledger.proofs.Common.{[], ◌*◌, ◌++◌, ◌+◌, ◌<◌, ◌^◌, ◌∙◌, ◌∷◌, ◌≡◌, ◌≤◌, Bool, List, None, Option, Some, ap, ap₂, arith, false, get_or, length, map, refl, subst, suc, sym, take, true}
 use Rattle.mv_ledger.proofs.Common.{zero, ℕ, get_or-map, get_or-replicate, length-map, length-replicate, map-append, map-set, take_all, take_more, slice_get_within, option_map_or, All, replicate}
 use Rattle.mv_ledger.proofs.Common.{slice_get, slice_set, Global, Vec, Module, name_at, name_of_struct, StructName, PublishedModule, Definition, on_bind, count, FlatEntry, storage_of, IsStore}
-use Rattle.mv_ledger.proofs.Common.{tables_in, fine_words-typed, typed_is_fine, IsFineWords, structs_under, structs_within, structs_at, Adds, AreAll, AreStored, HasRows, capped, count_at}
+use Rattle.mv_ledger.proofs.Common.{tables_in, fine_words-typed, typed_is_fine, IsFineWords, structs_under, structs_within, structs_in, Adds, AreAll, AreStored, HasRows, capped, count_at}
 use Rattle.mv_ledger.proofs.Common.{no_counts, row_at, with_count, IsOfStore, keyed_from}
 use Rattle.std.proofs.lemmas.List.{set_past}
 use Rattle.mv_binary_format.proofs.Back.{filter-shorter}
 use Rattle.mv_ledger.specs.Parts.CountRows.{stored_of}
 use Rattle.mv_ledger.proofs.Accepted.Stores.{accepted_store}
 use Rattle.mv_ledger.proofs.Loads.Adding.{capped-more, own-count, other-count, rows-kept}
-use Rattle.mv_ledger.proofs.Loads.BodyEntries.{struct_under}
 use Rattle.mv_ledger.proofs.Loads.BodyGroups.{own-is, is-own}
 use Rattle.mv_ledger.proofs.Loads.BodyLookups.{is_of}
 use Rattle.mv_ledger.proofs.Loads.BodyStorage.{store-sized}
 use Rattle.mv_ledger.proofs.Loads.CountedStorage.{by_structs, count-by_structs, under-own, under-other}
+use Rattle.mv_ledger.specs.Parts.Saving.{struct_under}
 
 -- ---- counts of the values of structs, as they are made and changed
 
@@ -21,14 +21,14 @@ use Rattle.mv_ledger.proofs.Loads.CountedStorage.{by_structs, count-by_structs, 
 abbrev pub rows_in : List (Vec ℕ Global) → List (List ℕ)
 rows_in vs = map (λ v. v.items) vs
 
-pub row-is : (modules : List Module) (place : ℕ) → place < length modules → get_or (no_counts modules) place [] ≡ replicate (structs_at modules place) 0
+pub row-is : (modules : List Module) (place : ℕ) → place < length modules → get_or (no_counts modules) place [] ≡ replicate (structs_in modules place) 0
 row-is [] place lt = absurd (omega (arith, lt))
 row-is (m ∷ ms) zero lt = refl
 row-is (m ∷ ms) (suc place) lt = row-is ms place (omega (arith, lt))
 
 -- one more module's
 pub rows-more : (modules : List Module) (place : ℕ) (vs after : List (Vec ℕ Global)) (v : Vec ℕ Global) → place < length modules → rows_in vs ≡ take place (no_counts modules) → after ≡ vs ++ v ∷ []
-    → v.items ≡ replicate (structs_at modules place) 0 → rows_in after ≡ take (place + 1) (no_counts modules)
+    → v.items ≡ replicate (structs_in modules place) 0 → rows_in after ≡ take (place + 1) (no_counts modules)
 rows-more modules place vs after v lt is after_is own =
     let short : place < length (no_counts modules) = omega (arith, lt, length-map modules (λ m. replicate {A = ℕ} (length m.structs) 0)) in
     ap rows_in after_is ∙ map-append (λ (w : Vec ℕ Global). w.items) vs (v ∷ [])
@@ -51,27 +51,27 @@ module _ (ms : List Module) where
   -- where a struct with a name stands
   record Stands (d : Definition) : Type 0 where
     pub place : d.place < length ms
-    pub index : d.index < structs_at ms d.place
+    pub index : d.index < structs_in ms d.place
 
   stands : (d : Definition) (name : StructName) → name_at ms d.place d.index ≡ Some name → Stands d
   stands d name named =
       on_bind (slice_get ms d.place) _ name named (λ m m_is e1.
       on_bind (slice_get m.structs d.index) (name_of_struct m) name e1 (λ x x_is e2.
       let low : d.index < length m.structs = slice_get_within m.structs d.index x x_is in
-      let same : structs_at ms d.place ≡ length m.structs = ap (λ o. option_map_or (λ m. length m.structs) o 0) m_is in
+      let same : structs_in ms d.place ≡ length m.structs = ap (λ o. option_map_or (λ m. length m.structs) o 0) m_is in
       record { place = slice_get_within ms d.place m m_is; index = omega (arith, low, same) }))
 
-  row-at : (d : Definition) (name : StructName) → name_at ms d.place d.index ≡ Some name → row_at (no_counts ms) d.place ≡ replicate (structs_at ms d.place) 0
+  row-at : (d : Definition) (name : StructName) → name_at ms d.place d.index ≡ Some name → row_at (no_counts ms) d.place ≡ replicate (structs_in ms d.place) 0
   row-at d name named = row-is ms d.place (stands d name named).place
 
   none-rows : HasRows ms (no_counts ms)
   none-rows d name named =
       let s = stands d name named in
-      let long : length (row_at (no_counts ms) d.place) ≡ structs_at ms d.place = ap length (row-at d name named) ∙ length-replicate {A = ℕ} (structs_at ms d.place) 0 in
+      let long : length (row_at (no_counts ms) d.place) ≡ structs_in ms d.place = ap length (row-at d name named) ∙ length-replicate {A = ℕ} (structs_in ms d.place) 0 in
       (omega (arith, s.place, length-map ms (λ m. replicate {A = ℕ} (length m.structs) 0)), omega (arith, s.index, long))
 
   none-counts : (d : Definition) (name : StructName) → name_at ms d.place d.index ≡ Some name → count_at (no_counts ms) d ≡ 0
-  none-counts d name named = ap (λ row. get_or row d.index 0) (row-at d name named) ∙ get_or-replicate (structs_at ms d.place) d.index 0 0 (stands d name named).index
+  none-counts d name named = ap (λ row. get_or row d.index 0) (row-at d name named) ∙ get_or-replicate (structs_in ms d.place) d.index 0 0 (stands d name named).index
 
   -- ---- value by value
 

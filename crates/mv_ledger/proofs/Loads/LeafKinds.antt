@@ -1,9 +1,10 @@
 -- The leaves of a fine value are of the kinds that its struct says, and its text is theirs.
-use Rattle.mv_ledger.proofs.Common.{[], ◌++◌, ◌+◌, ◌∙◌, ◌∷◌, ◌≡◌, List, None, Option, Some, ap, append-nil, append_assoc, ap₂, false, length, length-append, option_map, refl, subst, suc, sym, true}
-use Rattle.mv_ledger.proofs.Common.{zero, ℕ, none-some, same_Some, first_so, second_so, option_map_or, leaves_of, leaves_within, sum_of_fields, Module, struct_name, definition_of, StructName}
-use Rattle.mv_ledger.proofs.Common.{same_struct, ◌>>=◌, same_kind, Field, LeafKind, Token, Plain, OfLeaf, OfStruct, on_bind, flat, flat_fields, are_of_types, is_of_struct, is_of_type, leaf_fits}
-use Rattle.mv_ledger.proofs.Common.{Leaf, More, NoMore, Struct, Value, Values, same_struct-is, on_found, same_kind-is, AreLeaves, coded, kinds_of_fields, kinds_of_token, kinds_within, leaf_bytes}
+use Rattle.mv_ledger.proofs.Common.{[], ◌++◌, ◌+◌, ◌∙◌, ◌∷◌, ◌≡◌, List, None, Option, Some, ap, append-nil, append_assoc, ap₂, length, length-append, option_map, refl, subst, suc, sym, true}
+use Rattle.mv_ledger.proofs.Common.{zero, ℕ, none-some, same_Some, first_so, second_so, leaves_of, leaves_within, sum_of_fields, Module, struct_name, definition_of, StructName}
+use Rattle.mv_ledger.proofs.Common.{◌>>=◌, same_kind, Field, LeafKind, Token, Plain, OfLeaf, OfStruct, on_bind, flat, flat_fields, are_of_types, is_of_struct, is_of_type, leaf_fits}
+use Rattle.mv_ledger.proofs.Common.{Leaf, More, NoMore, Struct, Value, Values, kinds_equal, AreLeaves, coded, kinds_of_fields, kinds_of_token, kinds_within, leaf_bytes}
 use Rattle.mv_ledger.proofs.Common.{leaves_of_fields, leaves_text}
+use Rattle.mv_ledger.proofs.Loads.StructParts.{on_struct, on_struct_field}
 
 -- ---- there are as many kinds as leaves
 
@@ -62,19 +63,13 @@ module _ (modules : List Module) where
     field-leaves : (depth : ℕ) (m : Module) (t : Token) (v : Value) (ks : List LeafKind) → kinds_of_token (kinds_within depth modules) m t ≡ Some ks → is_of_type modules m t v ≡ true
         → HasLeaves ks (flat v) (leaves_text v)
     field-leaves depth m (Plain (OfLeaf k)) (Leaf j n) ks e h =
-        let same : j ≡ k = same_kind-is j k (first_so (same_kind j k) (leaf_fits k n) h) in
+        let same : j ≡ k = kinds_equal j k (first_so (same_kind j k) (leaf_fits k n) h) in
         subst (λ (l : List LeafKind). HasLeaves l (n ∷ []) (leaf_bytes j n)) (same_Some (k ∷ []) ks e)
         (record { are = (second_so (same_kind j k) (leaf_fits k n) h, tt); text = ap (λ (x : LeafKind). leaf_bytes x n) same ∙ sym (append-nil (leaf_bytes k n)) })
     field-leaves zero m (Plain (OfStruct i)) (Struct name fields) ks e h = on_bind (struct_name m i) (kinds_within zero modules) ks e (λ own own_is e1. absurd (none-some ks e1))
     field-leaves (suc depth) m (Plain (OfStruct i)) (Struct name fields) ks e h =
-        let named = option_map_or (λ (own : StructName). same_struct own name) (struct_name m i) false in
-        let typed = option_map_or (λ (d : Module × List Field). are_of_types modules d.0 d.1 fields) (definition_of modules name) false in
-        on_found (λ own. same_struct own name) (struct_name m i) (first_so named typed h) (λ own own_is is_name.
-        let kinds : kinds_within (suc depth) modules own ≡ Some ks = subst (λ (x : Option StructName). (x >>= kinds_within (suc depth) modules) ≡ Some ks) own_is e in
-        on_bind (definition_of modules own) (λ d. kinds_of_fields (kinds_of_token (kinds_within depth modules) d.0) d.1) ks kinds (λ d d_is e1.
-        let found : definition_of modules name ≡ Some d = subst (λ (x : StructName). definition_of modules x ≡ Some d) (same_struct-is own name is_name) d_is in
-        fields-leaves depth d.0 d.1 fields ks e1 (subst (λ (x : Option (Module × List Field)). option_map_or (λ (d : Module × List Field). are_of_types modules d.0 d.1 fields) x false ≡ true) found
-        (second_so named typed h))))
+        on_struct_field modules (λ d. kinds_of_fields (kinds_of_token (kinds_within depth modules) d.0) d.1) m i name fields ks e h
+        (λ own d own_is d_is one kinds typed. fields-leaves depth d.0 d.1 fields ks kinds typed)
     field-leaves depth m _ _ ks e h = absurd cc
 
     -- of fields
@@ -95,10 +90,6 @@ module _ (modules : List Module) where
       (leaves_text v)
   struct-leaves zero name v ks e h = absurd (none-some ks e)
   struct-leaves (suc depth) name (Struct own fields) ks e h =
-      let same : same_struct name own ≡ true = first_so (same_struct name own) (option_map_or (λ (d : Module × List Field). are_of_types modules d.0 d.1 fields) (definition_of modules own) false) h in
-      let typed = second_so (same_struct name own) (option_map_or (λ (d : Module × List Field). are_of_types modules d.0 d.1 fields) (definition_of modules own) false) h in
-      on_bind (definition_of modules name) (λ d. kinds_of_fields (kinds_of_token (kinds_within depth modules) d.0) d.1) ks e (λ d d_is e1.
-      let found : definition_of modules own ≡ Some d = subst (λ (x : StructName). definition_of modules x ≡ Some d) (same_struct-is name own same) d_is in
-      fields-leaves depth d.0 d.1 fields ks e1 (subst (λ (x : Option (Module × List Field)). option_map_or (λ (d : Module × List Field). are_of_types modules d.0 d.1 fields) x false ≡ true) found
-      typed))
+      on_struct modules (λ d. kinds_of_fields (kinds_of_token (kinds_within depth modules) d.0) d.1) name own fields ks e h
+      (λ d d_is one kinds typed. fields-leaves depth d.0 d.1 fields ks kinds typed)
   struct-leaves _ name _ ks e h = absurd cc

@@ -14,10 +14,10 @@ use Rattle.mv_ledger.proofs.Accepted.Stores.{accepted_store}
 use Rattle.mv_ledger.proofs.Loads.LoadedHead.{head-parts, head-whole, head-had}
 use Rattle.mv_ledger.proofs.Runs.Countable.{still-countable}
 use Rattle.mv_ledger.proofs.Loads.LoadedTallies.{counts-are, still-long, still-many, still-scarce, still-named, still-tallied}
-use Rattle.mv_ledger.proofs.Phases.{phase-no-memory}
 use Rattle.mv_ledger.proofs.Spelling.{passed-spelled}
 use Rattle.mv_ledger.proofs.Bundles.Verifying.{as-many}
 use Rattle.mv_ledger.proofs.Lists.{all-weaker}
+use Rattle.mv_linker.proofs.Outcomes.{phase-no-memory}
 
 -- ---- lists
 

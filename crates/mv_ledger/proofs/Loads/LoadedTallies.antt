@@ -3,10 +3,7 @@ use Rattle.mv_ledger.proofs.Common.{[], ◌++◌, ◌∙◌, ◌∷◌, ◌≡�
 use Rattle.mv_ledger.proofs.Common.{Definition, Tallied, nameless, counts_of, struct_of, counted_by, AreScarce, IsNamed, all_of, scarce_indices, tallied, Tally}
 use Rattle.mv_ledger.proofs.Runs.ScarceTallies.{All-back}
 use Rattle.mv_ledger.proofs.Runs.TalliesAfter.{map-then}
-
--- the structs of tallies, module by module
-abbrev structs_in : List (List Tally) → List (List Definition)
-structs_in tss = map (map struct_of) tss
+use Rattle.mv_ledger.proofs.Loads.BodyTallies.{structs_in}
 
 -- each module's list has its structs with neither copy nor drop
 abbrev AreScarceBy : List Module → List (List Definition) → Type 0

@@ -1,10 +1,12 @@
 -- A run's tally as it is added, entry by entry, each to the tallies of its module alone.
 use Rattle.mv_ledger.proofs.Common.{[], ◌++◌, ◌+◌, ◌-◌, ◌<◌, ◌^◌, ◌∙◌, ◌∷◌, ◌≡◌, ◌≤◌, List, ap, ap₂, arith, cond, false, get_or, length, map, refl, subst, suc, sym, take, true, zero, zero-add, ℕ}
-use Rattle.mv_ledger.proofs.Common.{eqb-true, get_or-map, length-map, map-append, map-set, with_items_is, All-cons, All-head, All-map, All-nil, All-tail, All-weaker, sum_by-cons, sum_by_more}
+use Rattle.mv_ledger.proofs.Common.{eqb-true, get_or-map, length-map, map-append, map-set, with_items_is, All-head, All-map, All-tail, All-weaker, sum_by-cons, sum_by_more}
 use Rattle.mv_ledger.proofs.Common.{sum_by_more_le_part, sum_by, IsStrictlyIncreasing, All, slice_set, with_items, Global, Vec, is_tally_at, StructTally, AtMost, AreInOrder, HasRoomFor}
 use Rattle.mv_ledger.proofs.Common.{HasRoomLeft, IsRoomFor, tally_after, ArePlaced, all_of, Tally}
 use Rattle.mv_ledger.proofs.Runs.TalliesAfter.{map-then}
 use Rattle.mv_ledger.proofs.Runs.TalliesFound.{tally-other, with_counts}
+use Rattle.mv_bounds.proofs.Entries.{All-first, All-second}
+use Rattle.mv_ledger.proofs.Loads.BodyTallies.{lists}
 
 -- ---- an entry has room
 
@@ -112,26 +114,14 @@ all-map f (ts ∷ tss) = ap (λ xs. map f ts ++ xs) (all-map f tss) ∙ sym (map
 -- what holds of all of them holds of a module's
 pub all-at : (P : Tally → Type 0) (tss : List (List Tally)) (p : ℕ) (d : List Tally) → All P (all_of tss) → p < length tss → All P (get_or tss p d)
 all-at P [] p d all h = absurd (omega (arith, h))
-all-at P (ts ∷ tss) zero d all h = All-front ts (all_of tss) all
-  where
-    All-front : (xs ys : List Tally) → All P (xs ++ ys) → All P xs
-    All-front [] ys both = All-nil P
-    All-front (x ∷ xs) ys both = All-cons P x xs (All-head P x (xs ++ ys) both) (All-front xs ys (All-tail P x (xs ++ ys) both))
-all-at P (ts ∷ tss) (suc p) d all h = all-at P tss p d (All-after ts (all_of tss) all) (omega (arith, h))
-  where
-    All-after : (xs ys : List Tally) → All P (xs ++ ys) → All P ys
-    All-after [] ys both = both
-    All-after (x ∷ xs) ys both = All-after xs ys (All-tail P x (xs ++ ys) both)
+all-at P (ts ∷ tss) zero d all h = All-first P ts (all_of tss) all
+all-at P (ts ∷ tss) (suc p) d all h = all-at P tss p d (All-second P ts (all_of tss) all) (omega (arith, h))
 
 -- the tallies of a vector whose slice was changed
 pub written : (e : StructTally) (v : Vec Tally Global) (before after : List Tally) → after ≡ map (tally_after (e ∷ [])) before → before ≡ v.items → length before ≡ v.len
     → (with_items v after).items ≡ map (tally_after (e ∷ [])) v.items
 written e v before after after_is before_is len =
     with_items_is v after (ap length after_is ∙ length-map before (tally_after (e ∷ [])) ∙ len) ∙ after_is ∙ ap (map (tally_after (e ∷ []))) before_is
-
--- the lists of vectors
-abbrev pub lists : List (Vec Tally Global) → List (List Tally)
-lists vs = map (λ v. v.items) vs
 
 module _ (run : List StructTally) (i : ℕ) (d e : StructTally) (old : List (List Tally)) (vs : List (Vec Tally Global)) (h : i < length run) (e_is : e ≡ get_or run i d) (placed : ArePlaced 0 old)
     (is : lists vs ≡ map (map (tally_after (take i run))) old) where

@@ -1,14 +1,16 @@
 -- What is stored, as it is put into the sections of its structs.
-use Rattle.mv_ledger.proofs.Common.{[], ◌++◌, ◌+◌, ◌<◌, ◌^◌, ◌∙◌, ◌∷◌, ◌≡◌, Bool, List, None, Option, Some, ap, append-nil, append_assoc, ap₂, arith, cond, false, flat_map, length, length-append}
+use Rattle.mv_ledger.proofs.Common.{[], ◌++◌, ◌+◌, ◌<◌, ◌^◌, ◌∙◌, ◌∷◌, ◌≡◌, Bool, List, None, Some, ap, append-nil, append_assoc, ap₂, arith, cond, false, flat_map, length, length-append}
 use Rattle.mv_ledger.proofs.Common.{refl, subst, sym, true, ℕ, eqb-true, length-map, map-append, flat_map-append, All-cons, All-head, All-nil, All-tail, filter-append, same_Some, first_so}
 use Rattle.mv_ledger.proofs.Common.{second_so, filter, list_all, option_map_or, ◌&&◌, ◌==◌, All, IfSome, IsSome, slice_get, Module, name_at, ◌>>=◌, PublishedModule, Definition, Abilities, LeafKind}
 use Rattle.mv_ledger.proofs.Common.{on_bind, address_text, address_fits, FlatEntry, flat, storage_of, value_under, Entry, abilities_at, is_fine_entry, is_of_struct, some-of, then_found, IsStore}
 use Rattle.mv_ledger.proofs.Common.{tables_in, fine_words-typed, on_found, typed_is_fine, IsFineWords, AreLeaves, coded, is_keyed, kinds_under, leaf_kinds, IsOfStore, AddsValue, AreSections}
-use Rattle.mv_ledger.proofs.Common.{HasOneMore, IsAdded, IsSection, KnowsKinds, definition_at, same_definition, section_at, stored_in, addressed_text, is_under, leaves_text, Section}
-use Rattle.mv_ledger.specs.Parts.Saving.{struct_of}
+use Rattle.mv_ledger.proofs.Common.{HasOneMore, IsAdded, IsSection, KnowsKinds, definition_at, is_same_definition, section_at, stored_in, addressed_text, is_under, leaves_text, Section}
+use Rattle.mv_ledger.specs.Parts.Saving.{struct_under}
 use Rattle.mv_ledger.proofs.Accepted.Stores.{accepted_store}
 use Rattle.mv_ledger.proofs.Loads.LeafKinds.{HasLeaves, struct-leaves}
 use Rattle.mv_binary_format.proofs.Back.{filter-shorter}
+use Rattle.mv_type_states.proofs.Functions.{if_found}
+use Rattle.mv_frames.proofs.Counts.{definition-to}
 
 -- a stored value as it is read
 abbrev pub read : List Module → FlatEntry → Entry
@@ -18,8 +20,8 @@ read modules e = record { key = e.key; value = value_under modules e.key e.words
 
 -- a stored value's struct has key, and its words are leaves of its struct's kinds
 pub record IsReadable (modules : List Module) (e : FlatEntry) : Type 0 where
-  pub keyed : is_keyed modules (struct_of e.key) ≡ true
-  pub leaves : (ks : List LeafKind) → kinds_under modules (struct_of e.key) ≡ Some ks → HasLeaves ks e.words (leaves_text (value_under modules e.key e.words))
+  pub keyed : is_keyed modules (struct_under e.key) ≡ true
+  pub leaves : (ks : List LeafKind) → kinds_under modules (struct_under e.key) ≡ Some ks → HasLeaves ks e.words (leaves_text (value_under modules e.key e.words))
 
 head_words : List FlatEntry → List ℕ
 head_words [] = []
@@ -36,22 +38,17 @@ fine-readable published store e fine =
     let is : is_fine_entry modules x ≡ true = first_so (is_fine_entry modules x) (list_all (is_fine_entry modules) []) all in
     let same : flat x.value ≡ e.words = ap head_words words.whole in
     let struct = option_map_or (λ name. is_of_struct modules name x.value) (name_at modules e.key.place e.key.index) false in
-    let keyed : is_keyed modules (struct_of e.key) ≡ true = second_so (address_fits e.key.address && struct) (is_keyed modules (struct_of e.key)) is in
+    let keyed : is_keyed modules (struct_under e.key) ≡ true = second_so (address_fits e.key.address && struct) (is_keyed modules (struct_under e.key)) is in
     record {
       keyed = keyed;
       leaves = λ ks ks_is.
           on_found (λ name. is_of_struct modules name x.value) (name_at modules e.key.place e.key.index)
-          (second_so (address_fits e.key.address) struct (first_so (address_fits e.key.address && struct) (is_keyed modules (struct_of e.key)) is)) (λ name name_is typed.
+          (second_so (address_fits e.key.address) struct (first_so (address_fits e.key.address && struct) (is_keyed modules (struct_under e.key)) is)) (λ name name_is typed.
           let chain : (name_at modules e.key.place e.key.index >>= leaf_kinds modules) ≡ Some ks = subst
           (λ (b : Bool). cond b (name_at modules e.key.place e.key.index >>= leaf_kinds modules) None ≡ Some ks) keyed ks_is in
           let kinds : leaf_kinds modules name ≡ Some ks = subst (λ o. (o >>= leaf_kinds modules) ≡ Some ks) name_is chain in
           subst (λ (ws : List ℕ). HasLeaves ks ws (leaves_text x.value)) same (struct-leaves modules 8 name x.value ks kinds typed));
     }
-
--- what holds of whatever is there
-if_some : {A : Type 0} (P : A → Type 0) (o : Option A) → ((x : A) → o ≡ Some x → P x) → IfSome o P
-if_some P None each = tt
-if_some P (Some x) each = each x refl
 
 pub readable : (modules : List Module) → IsOfStore modules → (e : FlatEntry) → IsFineWords modules e → IsReadable modules e
 readable modules of e = subst (λ (ms : List Module). IsFineWords ms e → IsReadable ms e) of.2 (fine-readable of.0 of.1 e)
@@ -68,12 +65,12 @@ keyed-defined modules d keyed =
 
 module _ (modules : List Module) where
   -- what is stored of a struct, with one entry more
-  stored-more : (done : List FlatEntry) (e : FlatEntry) (d : Definition) → stored_in modules (done ++ e ∷ []) d ≡ stored_in modules done d ++ cond (same_definition (struct_of e.key) d)
+  stored-more : (done : List FlatEntry) (e : FlatEntry) (d : Definition) → stored_in modules (done ++ e ∷ []) d ≡ stored_in modules done d ++ cond (is_same_definition (struct_under e.key) d)
       (read modules e ∷ []) []
   stored-more done e d = ap (filter (is_under d)) (map-append (read modules) done (e ∷ [])) ∙ filter-append (is_under d) (storage_of modules done) (read modules e ∷ [])
 
-  section-more : (done : List FlatEntry) (e : FlatEntry) (d : Definition) (s t : Section) (kinds : List LeafKind) → same_definition (struct_of e.key) d ≡ true → kinds_under modules d ≡ Some kinds
-      → IsSection modules done d s → HasOneMore s kinds (addressed_text (read modules e)) t → IsSection modules (done ++ e ∷ []) d t
+  section-more : (done : List FlatEntry) (e : FlatEntry) (d : Definition) (s t : Section) (kinds : List LeafKind) → is_same_definition (struct_under e.key) d ≡ true
+      → kinds_under modules d ≡ Some kinds → IsSection modules done d s → HasOneMore s kinds (addressed_text (read modules e)) t → IsSection modules (done ++ e ∷ []) d t
   section-more done e d s t kinds same kinds_is is more =
       let all : stored_in modules (done ++ e ∷ []) d ≡ stored_in modules done d ++ read modules e ∷ [] = stored-more done e d
       ∙ ap (λ (b : Bool). stored_in modules done d ++ cond b (read modules e ∷ []) []) same in
@@ -84,39 +81,34 @@ module _ (modules : List Module) where
         known = λ _. kinds_is ∙ ap Some (sym more.kinds_are);
       }
 
-  section-same : (done : List FlatEntry) (e : FlatEntry) (d : Definition) (s : Section) → same_definition (struct_of e.key) d ≡ false → IsSection modules done d s
+  section-same : (done : List FlatEntry) (e : FlatEntry) (d : Definition) (s : Section) → is_same_definition (struct_under e.key) d ≡ false → IsSection modules done d s
       → IsSection modules (done ++ e ∷ []) d s
   section-same done e d s other is =
       let all : stored_in modules (done ++ e ∷ []) d ≡ stored_in modules done d = stored-more done e d ∙ ap (λ (b : Bool). stored_in modules done d ++ cond b (read modules e ∷ []) []) other
       ∙ append-nil (stored_in modules done d) in
       record { count = is.count ∙ sym (ap length all); text = is.text ∙ sym (ap (flat_map addressed_text) all); known = is.known }
 
-  same_definition-is : (a b : Definition) → same_definition a b ≡ true → a ≡ b
-  same_definition-is a b h =
-      ap₂ (λ p i. let d : Definition = record { place = p; index = i } in d) (eqb-true a.place b.place (first_so (a.place == b.place) (a.index == b.index) h))
-      (eqb-true a.index b.index (second_so (a.place == b.place) (a.index == b.index) h))
-
-  sections-more : (done : List FlatEntry) (e : FlatEntry) (kinds : List LeafKind) (rows after : List (List Section)) → AreSections modules done rows → IsSome (section_at rows (struct_of e.key))
-      → kinds_under modules (struct_of e.key) ≡ Some kinds → IsAdded rows (struct_of e.key) kinds (addressed_text (read modules e)) after → AreSections modules (done ++ e ∷ []) after
+  sections-more : (done : List FlatEntry) (e : FlatEntry) (kinds : List LeafKind) (rows after : List (List Section)) → AreSections modules done rows → IsSome (section_at rows (struct_under e.key))
+      → kinds_under modules (struct_under e.key) ≡ Some kinds → IsAdded rows (struct_under e.key) kinds (addressed_text (read modules e)) after → AreSections modules (done ++ e ∷ []) after
   sections-more done e kinds rows after are is kinds_is added =
-      let own = some-of (section_at rows (struct_of e.key)) is in
+      let own = some-of (section_at rows (struct_under e.key)) is in
       let new = added.here own.0 own.1 in
       record {
-        there = λ d defined. there d (same_definition (struct_of e.key) d) refl (are.there d defined) new.0 new.1;
-        each = λ d s at. each d s (same_definition (struct_of e.key) d) refl at own.0 own.1 new.0 new.1 new.2;
+        there = λ d defined. there d (is_same_definition (struct_under e.key) d) refl (are.there d defined) new.0 new.1;
+        each = λ d s at. each d s (is_same_definition (struct_under e.key) d) refl at own.0 own.1 new.0 new.1 new.2;
       }
     where
-      there : (d : Definition) (b : Bool) → same_definition (struct_of e.key) d ≡ b → IsSome (section_at rows d) → (t : Section) → section_at after (struct_of e.key) ≡ Some t
+      there : (d : Definition) (b : Bool) → is_same_definition (struct_under e.key) d ≡ b → IsSome (section_at rows d) → (t : Section) → section_at after (struct_under e.key) ≡ Some t
           → IsSome (section_at after d)
-      there d true same was t t_is = subst (λ (x : Definition). IsSome (section_at after x)) (same_definition-is (struct_of e.key) d same) (subst IsSome (sym t_is) refl)
+      there d true same was t t_is = subst (λ (x : Definition). IsSome (section_at after x)) (definition-to (struct_under e.key) d same) (subst IsSome (sym t_is) refl)
       there d false other was t t_is = subst IsSome (sym (added.others d other)) was
 
-      each : (d : Definition) (s : Section) (b : Bool) → same_definition (struct_of e.key) d ≡ b → section_at after d ≡ Some s → (o : Section) → section_at rows (struct_of e.key) ≡ Some o
-          → (t : Section) → section_at after (struct_of e.key) ≡ Some t → HasOneMore o kinds (addressed_text (read modules e)) t → IsSection modules (done ++ e ∷ []) d s
+      each : (d : Definition) (s : Section) (b : Bool) → is_same_definition (struct_under e.key) d ≡ b → section_at after d ≡ Some s → (o : Section) → section_at rows (struct_under e.key) ≡ Some o
+          → (t : Section) → section_at after (struct_under e.key) ≡ Some t → HasOneMore o kinds (addressed_text (read modules e)) t → IsSection modules (done ++ e ∷ []) d s
       each d s true same at o o_is t t_is more =
-          let one : struct_of e.key ≡ d = same_definition-is (struct_of e.key) d same in
+          let one : struct_under e.key ≡ d = definition-to (struct_under e.key) d same in
           let is : t ≡ s = same_Some t s (sym t_is ∙ ap (section_at after) one ∙ at) in
-          let old : IsSection modules done d o = subst (λ (x : Definition). IsSection modules done x o) one (are.each (struct_of e.key) o o_is) in
+          let old : IsSection modules done d o = subst (λ (x : Definition). IsSection modules done x o) one (are.each (struct_under e.key) o o_is) in
           let own : kinds_under modules d ≡ Some kinds = subst (λ (x : Definition). kinds_under modules x ≡ Some kinds) one kinds_is in
           subst (IsSection modules (done ++ e ∷ []) d) is (section-more done e d o t kinds same own old more)
       each d s false other at o o_is t t_is more = section-same done e d s other (are.each d s (sym (added.others d other) ∙ at))
@@ -148,25 +140,25 @@ module _ (modules : List Module) where
   -- no section has more values than there are
   pub fill-few : (storage entries : List FlatEntry) (rows : List (List Section)) (d : Definition) → length storage < 2 ^ 63 → IsFilled storage entries rows → IfSome (section_at rows d)
       (λ s. s.count < 2 ^ 63)
-  fill-few storage entries rows d few h = if_some (λ s. s.count < 2 ^ 63) (section_at rows d) (λ s e.
+  fill-few storage entries rows d few h = if_found (section_at rows d) (λ s. s.count < 2 ^ 63) (λ s e.
       let whole : length storage ≡ length h.0 + length entries = ap length h.1 ∙ length-append h.0 entries in
       omega (arith, whole, filter-shorter (is_under d) (storage_of modules h.0), (h.2.each d s e).count, few, length-map h.0 (read modules)))
 
   -- a section that a value is in knows its kinds
   pub fill-known : (storage entries : List FlatEntry) (rows : List (List Section)) (d : Definition) → IsFilled storage entries rows → IfSome (section_at rows d) (KnowsKinds modules d)
-  fill-known storage entries rows d h = if_some (KnowsKinds modules d) (section_at rows d) (λ s e. (h.2.each d s e).known)
+  fill-known storage entries rows d h = if_found (section_at rows d) (KnowsKinds modules d) (λ s e. (h.2.each d s e).known)
 
   -- the words of a readable value are leaves of its struct's kinds
-  pub fill-leaves : (e : FlatEntry) → IsReadable modules e → IfSome (kinds_under modules (struct_of e.key)) (λ kinds. AreLeaves kinds e.words)
-  fill-leaves e is = if_some (λ kinds. AreLeaves kinds e.words) (kinds_under modules (struct_of e.key)) (λ ks at. (is.leaves ks at).are)
+  pub fill-leaves : (e : FlatEntry) → IsReadable modules e → IfSome (kinds_under modules (struct_under e.key)) (λ kinds. AreLeaves kinds e.words)
+  fill-leaves e is = if_found (kinds_under modules (struct_under e.key)) (λ kinds. AreLeaves kinds e.words) (λ ks at. (is.leaves ks at).are)
 
   pub fill-more : (storage entries rest : List FlatEntry) (rows after : List (List Section)) (e : FlatEntry) → entries ≡ e ∷ rest → IsReadable modules e → IsFilled storage entries rows
       → AddsValue modules rows e.key e.words after → IsFilled storage rest after
   fill-more storage entries rest rows after e at is h adds =
       let text : address_text e.key.address ++ coded adds.kinds e.words ≡ addressed_text (read modules e) = ap (λ (l : List ℕ). address_text e.key.address ++ l)
       (sym (is.leaves adds.kinds adds.kinds_are).text) in
-      let more : IsAdded rows (struct_of e.key) adds.kinds (addressed_text (read modules e)) after = subst (λ (l : List ℕ). IsAdded rows (struct_of e.key) adds.kinds l after) text adds.added in (
+      let more : IsAdded rows (struct_under e.key) adds.kinds (addressed_text (read modules e)) after = subst (λ (l : List ℕ). IsAdded rows (struct_under e.key) adds.kinds l after) text adds.added in (
         h.0 ++ e ∷ [],
         h.1 ∙ ap (λ l. h.0 ++ l) at ∙ sym (append_assoc h.0 (e ∷ []) rest),
-        sections-more h.0 e adds.kinds rows after h.2 (fill-there storage entries rows (struct_of e.key) is.keyed h) adds.kinds_are more,
+        sections-more h.0 e adds.kinds rows after h.2 (fill-there storage entries rows (struct_under e.key) is.keyed h) adds.kinds_are more,
       )

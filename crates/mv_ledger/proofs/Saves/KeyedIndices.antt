@@ -1,7 +1,7 @@
 -- The structs of a module that have key, as they are found one after the other.
 use Rattle.mv_ledger.proofs.Common.{[], ◌++◌, ◌+◌, ◌<◌, ◌∙◌, ◌∷◌, ◌≡◌, ◌≤◌, Bool, List, Some, ap, append-nil, append_assoc, ap₂, cond, false, get_or, length, map, refl, subst, sym, take, true}
 use Rattle.mv_ledger.proofs.Common.{zero-add, ℕ, map-append, take_all, filter_more, get_or-enumerate_from, length-enumerate_from, get_or_from_slice_get, enumerate_from, filter, option_map_or}
-use Rattle.mv_ledger.proofs.Common.{slice_get, Module, StructDefinition, Definition, there_at, structs_in, keyed_at, has_key}
+use Rattle.mv_ledger.proofs.Common.{slice_get, Module, StructDefinition, Definition, element_at, structs_in, keyed_at, has_key}
 use Rattle.mv_linker.specs.Shapes.{is_keyed}
 
 module _ (m : Module) (place : ℕ) where
@@ -50,7 +50,7 @@ module _ (modules : List Module) (m : Module) (place : ℕ) (home : slice_get mo
     (is : b ≡ is_keyed modules (definition m place i)) where
   next : keyed_before m place (i + 1) ≡ keyed_before m place i ++ cond b (definition m place i ∷ []) []
   next =
-      let d = there_at m.structs i lt in
+      let d = element_at m.structs i lt in
       let key : b ≡ has_key m d.0 =
       is ∙ ap (λ o. option_map_or (λ (n : Module). option_map_or (has_key n) (slice_get n.structs i) false) o false) home ∙ ap (λ o. option_map_or (has_key m) o false) d.1 in
       keyed-next m place i d.0 d.1 lt ∙ ap (λ t. keyed_before m place i ++ cond t (definition m place i ∷ []) []) (sym key)

@@ -3,7 +3,7 @@ use Rattle.mv_ledger.proofs.Common.{[], ◌++◌, ◌+◌, ◌-◌, ◌<◌, ◌
 use Rattle.mv_ledger.proofs.Common.{length, refl, subst, suc, sym, take, true, zero, ℕ, drop-cons, drop_all, length-take-le, take_more, get_or_from_slice_get, none-some, slice_get_within, list_all}
 use Rattle.mv_ledger.proofs.Common.{option_map_or, is_some, nat_le, slice_get, leaves_within, Module, StructDefinition, name_at, name_of_struct, struct_abilities, struct_name, definition_of}
 use Rattle.mv_ledger.proofs.Common.{is_struct, StructName, same_struct, ◌>>=◌, find_index, PublishedModule, Definition, Field, Abilities, LeafKind, Token, Plain, OfLeaf, OfStruct, IsSound, on_bind}
-use Rattle.mv_ledger.proofs.Common.{map-is, abilities_at, each, then_found, name-found, own-definition, IsStore, tables_in, AreFieldsAt, AreParts, IsMadeOf, IsPart, keyed_in, is_of_value}
+use Rattle.mv_ledger.proofs.Common.{map-is, abilities_at, all_at, then_found, name-found, own-definition, IsStore, tables_in, AreFieldsAt, AreParts, IsMadeOf, IsPart, keyed_in, is_of_value}
 use Rattle.mv_ledger.proofs.Common.{struct_is_small, Part, Nothing, on_found, structs_in_fields, structs_in_part, structs_in_parts, structs_in_token, structs_within, is_keyed, kinds_of_fields}
 use Rattle.mv_ledger.proofs.Common.{kinds_of_token, kinds_within, leaf_kinds, IsOfStore, PutsKinds, keyed_at, kinds_at, kinds_of_part, kinds_of_parts, keyed_from}
 use Rattle.mv_linker.proofs.Joining.Assembling.{passed-among}
@@ -219,7 +219,7 @@ module _ (published : List PublishedModule) (is : IsStore published) where
       on_bind (slice_get modules d.place) _ a a_is (λ m m_is e1.
       on_bind (slice_get m.structs d.index) _ a e1 (λ x x_is e2.
       let own = defined d m x m_is x_is in
-      let small = each (struct_is_small modules m) m.structs d.index x (each (λ m. list_all (struct_is_small modules m) m.structs) modules d.place m is.links.small m_is) x_is in
+      let small = all_at (struct_is_small modules m) m.structs d.index x (all_at (λ m. list_all (struct_is_small modules m) m.structs) modules d.place m is.links.small m_is) x_is in
       on_found (λ n. nat_le n 256) (name_of_struct m x >>= leaves_within 8 modules) small (λ n n_is le.
       let leaves : leaves_within 8 modules own.0 ≡ Some n = sym (ap (λ o. o >>= leaves_within 8 modules) own.1) ∙ n_is in
       let ks = map-is length (kinds_within 8 modules own.0) n (kinds-count modules 8 own.0 ∙ leaves) in

@@ -8,6 +8,7 @@ use Rattle.mv_ledger.proofs.Counting.Stored.{above-below, before-clash}
 use Rattle.mv_ledger.proofs.SavedOnce.{IsOneOn, in_parts, whole-one, uleb-one, counted-one, of_struct-one}
 use Rattle.mv_ledger.proofs.Lists.{all-front, all-back}
 use Rattle.mv_linker.proofs.Found.{passing}
+use Rattle.mv_ledger.specs.Parts.Saving.{struct_under}
 
 -- ---- lists
 
@@ -69,28 +70,24 @@ keyed_each P place (m ∷ ms) all (suc k) i q is key =
 
 -- ---- stored values
 
--- the struct of a stored value
-abbrev struct_of : Entry → Definition
-struct_of e = record { place = e.key.place; index = e.key.index }
-
 module _ (modules : List Module) where
   -- a stored value with its struct's name
   entry_named : (e : Entry) → is_fine_entry modules e ≡ true → (name : StructName) × (name_at modules e.key.place e.key.index ≡ Some name) × (is_of_struct modules name e.value ≡ true)
   entry_named e h =
       let of_struct : Bool = option_map_or (λ name. is_of_struct modules name e.value) (name_at modules e.key.place e.key.index) false in
       passing (λ name. is_of_struct modules name e.value) (name_at modules e.key.place e.key.index)
-      (second_so (address_fits e.key.address) of_struct (first_so (address_fits e.key.address && of_struct) (is_keyed modules (struct_of e)) h))
+      (second_so (address_fits e.key.address) of_struct (first_so (address_fits e.key.address && of_struct) (is_keyed modules (struct_under e.key)) h))
 
   -- its address is in its range
   entry_addressed : (e : Entry) → is_fine_entry modules e ≡ true → IsTrue (address_fits e.key.address)
   entry_addressed e h =
       let of_struct : Bool = option_map_or (λ name. is_of_struct modules name e.value) (name_at modules e.key.place e.key.index) false in
-      first_so (address_fits e.key.address) of_struct (first_so (address_fits e.key.address && of_struct) (is_keyed modules (struct_of e)) h)
+      first_so (address_fits e.key.address) of_struct (first_so (address_fits e.key.address && of_struct) (is_keyed modules (struct_under e.key)) h)
 
   -- and its struct has key
   entry_keyed : (e : Entry) → is_fine_entry modules e ≡ true → IsKeyed modules (record { place = e.key.place; index = e.key.index })
   entry_keyed e h =
-      second_so (address_fits e.key.address && option_map_or (λ name. is_of_struct modules name e.value) (name_at modules e.key.place e.key.index) false) (is_keyed modules (struct_of e)) h
+      second_so (address_fits e.key.address && option_map_or (λ name. is_of_struct modules name e.value) (name_at modules e.key.place e.key.index) false) (is_keyed modules (struct_under e.key)) h
 
   -- two stored values of one key
   entry-one : (e f : Entry) (x y : List ℕ) → is_fine_entry modules e ≡ true → is_fine_entry modules f ≡ true → e.key.address ≡ f.key.address → e.key.place ≡ f.key.place → e.key.index ≡ f.key.index
@@ -152,7 +149,7 @@ module _ (modules : List Module) where
 
 -- ---- storages with the same values of each struct
 
-under_own : (e : Entry) → is_under (struct_of e) e ≡ true
+under_own : (e : Entry) → is_under (struct_under e.key) e ≡ true
 under_own e = and_from (e.key.place == e.key.place) (e.key.index == e.key.index) (eq-eqb e.key.place e.key.place refl) (eq-eqb e.key.index e.key.index refl)
 
 above_filter : (key : Key) (p : Entry → Bool) (es : Storage) → AreAbove key es → AreAbove key (filter p es)
@@ -169,12 +166,12 @@ module _ (K : Definition → Type 0) where
   Agree es fs = (d : Definition) → K d → filter (is_under d) es ≡ filter (is_under d) fs
 
   abbrev AreKeyed : Storage → Type 0
-  AreKeyed es = AllByRecursion (λ e. K (struct_of e)) es
+  AreKeyed es = AllByRecursion (λ e. K (struct_under e.key)) es
 
   -- a storage's first value is no lower than another's
-  not_before : (e : Entry) (es fs : Storage) → K (struct_of e) → AreAbove e.key fs → filter (is_under (struct_of e)) (e ∷ es) ≡ filter (is_under (struct_of e)) fs → ⊥
+  not_before : (e : Entry) (es fs : Storage) → K (struct_under e.key) → AreAbove e.key fs → filter (is_under (struct_under e.key)) (e ∷ es) ≡ filter (is_under (struct_under e.key)) fs → ⊥
   not_before e es fs keyed above same =
-      let p : Entry → Bool = is_under (struct_of e) in
+      let p : Entry → Bool = is_under (struct_under e.key) in
       let is : filter p fs ≡ e ∷ filter p es = sym same ∙ first_passes p e es (under_own e) in
       let low : AreAbove e.key (e ∷ filter p es) = subst (AreAbove e.key) is (above_filter e.key p fs above) in
       before-clash e.key e.key low.0 low.0
@@ -182,16 +179,16 @@ module _ (K : Definition → Type 0) where
   one_storage : (es fs : Storage) → IsAscending es → IsAscending fs → AreKeyed es → AreKeyed fs → Agree es fs → es ≡ fs
   one_storage [] [] up rise p q agree = refl
   one_storage [] (f ∷ fs) up rise p q agree =
-      let same : [] ≡ f ∷ filter (is_under (struct_of f)) fs = agree (struct_of f) q.0 ∙ first_passes (is_under (struct_of f)) f fs (under_own f) in
+      let same : [] ≡ f ∷ filter (is_under (struct_under f.key)) fs = agree (struct_under f.key) q.0 ∙ first_passes (is_under (struct_under f.key)) f fs (under_own f) in
       absurd cc
   one_storage (e ∷ es) [] up rise p q agree =
-      let same : [] ≡ e ∷ filter (is_under (struct_of e)) es = sym (agree (struct_of e) p.0) ∙ first_passes (is_under (struct_of e)) e es (under_own e) in
+      let same : [] ≡ e ∷ filter (is_under (struct_under e.key)) es = sym (agree (struct_under e.key) p.0) ∙ first_passes (is_under (struct_under e.key)) e es (under_own e) in
       absurd cc
   one_storage (e ∷ es) (f ∷ fs) up rise p q agree = by_order (keys_compare e.key f.key) (one_storage es fs up.1 rise.1 p.1 q.1)
     where
       by_key : e.key ≡ f.key → (Agree es fs → es ≡ fs) → e ∷ es ≡ f ∷ fs
       by_key same go =
-          let d : Definition = struct_of e in
+          let d : Definition = struct_under e.key in
           let here : is_under d f ≡ true = subst (λ (k : Key). ((k.place == d.place) && (k.index == d.index)) ≡ true) same (under_own e) in
           let both : e ∷ filter (is_under d) es ≡ f ∷ filter (is_under d) fs = sym (first_passes (is_under d) e es (under_own e)) ∙ agree d p.0 ∙ first_passes (is_under d) f fs here in
           let first : e ≡ f = cc in
@@ -203,13 +200,13 @@ module _ (K : Definition → Type 0) where
 
       by_order : (same_key e.key f.key ≡ true) ⊎ ((key_before e.key f.key ≡ true) ⊎ (key_before f.key e.key ≡ true)) → (Agree es fs → es ≡ fs) → e ∷ es ≡ f ∷ fs
       by_order (inl same) go = by_key (same_key-to e.key f.key same) go
-      by_order (inr (inl before)) go = absurd (not_before e es (f ∷ fs) p.0 (before, above-below e.key f.key fs before rise.0) (agree (struct_of e) p.0))
-      by_order (inr (inr after)) go = absurd (not_before f fs (e ∷ es) q.0 (after, above-below f.key e.key es after up.0) (sym (agree (struct_of f) q.0)))
+      by_order (inr (inl before)) go = absurd (not_before e es (f ∷ fs) p.0 (before, above-below e.key f.key fs before rise.0) (agree (struct_under e.key) p.0))
+      by_order (inr (inr after)) go = absurd (not_before f fs (e ∷ es) q.0 (after, above-below f.key e.key es after up.0) (sym (agree (struct_under f.key) q.0)))
 
 -- ---- storages
 
 module _ (modules : List Module) (es fs : Storage) (fine : is_fine_storage modules es ≡ true) (also : is_fine_storage modules fs ≡ true) where
-  all_keyed : (gs : Storage) → AllByRecursion (λ e. is_fine_entry modules e ≡ true) gs → AllByRecursion (λ e. IsKeyed modules (struct_of e)) gs
+  all_keyed : (gs : Storage) → AllByRecursion (λ e. is_fine_entry modules e ≡ true) gs → AllByRecursion (λ e. IsKeyed modules (struct_under e.key)) gs
   all_keyed [] all = tt
   all_keyed (g ∷ gs) all = (entry_keyed modules g all.0, all_keyed gs all.1)
 

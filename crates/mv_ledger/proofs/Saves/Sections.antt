@@ -2,29 +2,29 @@
 use Rattle.mv_ledger.proofs.Common.{[], ◌++◌, ◌+◌, ◌<◌, ◌∙◌, ◌∷◌, ◌≡◌, ◌≤◌, Err, List, Ok, Result, Some, ap, arith, eq-eqb, get_or, inl, inr, length, length-append, option_map, refl, subst}
 use Rattle.mv_ledger.proofs.Common.{sym, true, ℕ, and_from, cases_eq, length-map, map-set, get_or_from_slice_get, none-some, same_Some, slice_get-map, slice_get_read, slice_get_within}
 use Rattle.mv_ledger.proofs.Common.{option_map_or, All, IsSome, OnOk, slice_get, slice_set, Global, Vec, Module, ◌>>=◌, Definition, Key, LeafKind, on_bind, address_text, some-of, then_found}
-use Rattle.mv_ledger.proofs.Common.{there_at, coded, kinds_under, structs_at, AddsValue, AreSections, HasOneMore, IsAdded, IsEmpty, definition_at, same_definition, section_at, sections_of, Section}
-use Rattle.mv_ledger.specs.Parts.Saving.{struct_of}
-use Rattle.mv_linker.proofs.Found.{last_or_before}
+use Rattle.mv_ledger.proofs.Common.{element_at, coded, kinds_under, structs_in, AddsValue, AreSections, HasOneMore, IsAdded, IsEmpty, definition_at, is_same_definition, section_at, sections_of, Section}
+use Rattle.mv_ledger.specs.Parts.Saving.{struct_under}
 use Rattle.mv_storage.proofs.PlaceLemmas.{slice_get-set_same, slice_get-set_other}
+use Rattle.mv_bounds.proofs.Entries.{last_or_before}
 
 -- ---- empty sections
 
 -- so many rows, each with an empty section for each struct
 pub record AreEmptyRows (modules : List Module) (n : ℕ) (rows : List (List Section)) : Type 0 where
   pub len : length rows ≡ n
-  pub each : (k : ℕ) (row : List Section) → slice_get rows k ≡ Some row → (length row ≡ structs_at modules k) × All IsEmpty row
+  pub each : (k : ℕ) (row : List Section) → slice_get rows k ≡ Some row → (length row ≡ structs_in modules k) × All IsEmpty row
 
 module _ (modules : List Module) where
   pub empty-start : AreEmptyRows modules 0 []
   empty-start = record { len = refl; each = λ k row e. absurd (none-some row e) }
 
-  pub empty-more : (n : ℕ) (rows : List (List Section)) (row : List Section) → AreEmptyRows modules n rows → length row ≡ structs_at modules n → All IsEmpty row → AreEmptyRows modules (n + 1)
+  pub empty-more : (n : ℕ) (rows : List (List Section)) (row : List Section) → AreEmptyRows modules n rows → length row ≡ structs_in modules n → All IsEmpty row → AreEmptyRows modules (n + 1)
       (rows ++ row ∷ [])
   empty-more n rows row h long empty = record {
     len = omega (arith, length-append rows (row ∷ []), h.len);
     each = λ k r e. elim (last_or_before rows row k r e) [
       | inl at ↦ h.each k r at
-      | inr here ↦ (subst (λ (x : List Section). (length x ≡ structs_at modules k) × All IsEmpty x) here.1 (long ∙ ap (structs_at modules) (sym (here.0 ∙ h.len)), empty))
+      | inr here ↦ (subst (λ (x : List Section). (length x ≡ structs_in modules k) × All IsEmpty x) here.1 (long ∙ ap (structs_in modules) (sym (here.0 ∙ h.len)), empty))
     ];
   }
 
@@ -34,9 +34,9 @@ module _ (modules : List Module) where
         let found = some-of (definition_at modules d) is in
         on_bind (slice_get modules d.place) _ found.0 found.1 (λ m m_is e1.
         let low : d.place < length rows = omega (arith, slice_get_within modules d.place m m_is, h.len, le) in
-        let row = there_at rows d.place low in
+        let row = element_at rows d.place low in
         let long : length row.0 ≡ length m.structs = (h.each d.place row.0 row.1).0 ∙ ap (λ o. option_map_or (λ m. length m.structs) o 0) m_is in
-        let s = there_at row.0 d.index (omega (arith, slice_get_within m.structs d.index found.0 e1, long)) in
+        let s = element_at row.0 d.index (omega (arith, slice_get_within m.structs d.index found.0 e1, long)) in
         subst IsSome (sym (then_found (slice_get rows d.place) _ row.0 (Some s.0) row.1 s.1)) refl);
     each = λ d s e.
         on_bind (slice_get rows d.place) _ s e (λ row row_is e1.
@@ -71,7 +71,7 @@ module _ (rows : List (List Section)) (d : Definition) (row new : List Section) 
           subst (λ (x : Section). HasOneMore x kinds bytes t) same more,
         );
     others = λ e differ. elim (cases_eq d.place e.place) [
-      | inl same ↦ beside e same (λ index. let is : same_definition d e ≡ true = and_from _ _ (eq-eqb d.place e.place same) (eq-eqb d.index e.index index) in cc)
+      | inl same ↦ beside e same (λ index. let is : is_same_definition d e ≡ true = and_from _ _ (eq-eqb d.place e.place same) (eq-eqb d.index e.index index) in cc)
       | inr far ↦ elsewhere e far
     ];
   }
@@ -117,12 +117,12 @@ module _ (rows : List (Vec Section Global)) (d : Definition) (there : IsSome (se
 
 -- a value was added to the section of its struct, if memory did not run out
 pub adds-value : {T E : Type 0} (r : Result T E) (modules : List Module) (rows : List (Vec Section Global)) (key : Key) (p i : ℕ) (row new : Vec Section Global) (s ready t : Section) (words : List ℕ)
-    → p ≡ key.place → i ≡ key.index → IsSome (section_at (sections_of rows) (struct_of key)) → row ≡ get_or rows p row → s ≡ get_or row.items i s → new.items ≡ slice_set row.items i t
-    → kinds_under modules (struct_of key) ≡ Some ready.kinds.items → ready.count ≡ s.count → ready.text.items ≡ s.text.items → OnOk r (t.count ≡ ready.count + 1)
+    → p ≡ key.place → i ≡ key.index → IsSome (section_at (sections_of rows) (struct_under key)) → row ≡ get_or rows p row → s ≡ get_or row.items i s → new.items ≡ slice_set row.items i t
+    → kinds_under modules (struct_under key) ≡ Some ready.kinds.items → ready.count ≡ s.count → ready.text.items ≡ s.text.items → OnOk r (t.count ≡ ready.count + 1)
     → OnOk r (t.kinds.items ≡ ready.kinds.items) → OnOk r (t.text.items ≡ ready.text.items ++ (address_text key.address ++ coded ready.kinds.items words))
     → OnOk r (AddsValue modules (sections_of rows) key words (sections_of (slice_set rows p new)))
 adds-value (Ok x) modules rows key p i row new s ready t words p_is i_is there row_is s_is new_is kinds_are same_count same_text count kinds text =
-    let d : Definition = struct_of key in
+    let d : Definition = struct_under key in
     let bytes : List ℕ = address_text key.address ++ coded ready.kinds.items words in
     let row_read : row ≡ get_or rows d.place row = subst (λ (n : ℕ). row ≡ get_or rows n row) p_is row_is in
     let s_read : s ≡ get_or row.items d.index s = subst (λ (n : ℕ). s ≡ get_or row.items n s) i_is s_is in

@@ -1,19 +1,16 @@
 -- The parts of a saved ledger, as they are written one after the other.
 use Rattle.mv_ledger.proofs.Common.{[], ◌++◌, ◌+◌, ◌<◌, ◌∙◌, ◌∷◌, ◌≡◌, ◌≤◌, Err, List, None, Ok, Option, Result, Some, ap, append-nil, append_assoc, ap₂, arith, flat_map, get_or, length, map, refl}
 use Rattle.mv_ledger.proofs.Common.{subst, suc, sym, take, zero, ℕ, flat_map_more, length-map, map_more, take_all, take_more, flat_map-append, All-weaker, get_or_from_slice_get, none-some}
-use Rattle.mv_ledger.proofs.Common.{unwrap_or-slice_get, AllByRecursion, enumerate_from, filter, All, IfOk, IfSome, IsSome, slice_get, unwrap_or, Global, Vec, Module, StructDefinition}
-use Rattle.mv_ledger.proofs.Common.{PublishedModule, Definition, uleb, counted, FlatEntry, storage_of, some-of, then_found, there_at, tables_in, IsSoundLedger, AreSections, IsSection, IsWritable}
-use Rattle.mv_ledger.proofs.Common.{counts_text, definition_at, section_at, sections_of, written, offered, offer_text, sized, IsSavable, IsSavedText, Second, has_key, head_text, keyed_from}
+use Rattle.mv_ledger.proofs.Common.{unwrap_or-slice_get, AllByRecursion, All, IfOk, IfSome, IsSome, slice_get, unwrap_or, Global, Vec, Module, StructDefinition}
+use Rattle.mv_ledger.proofs.Common.{PublishedModule, Definition, uleb, counted, FlatEntry, storage_of, some-of, then_found, element_at, tables_in, IsSoundLedger, AreSections, IsSection, IsWritable}
+use Rattle.mv_ledger.proofs.Common.{counts_text, definition_at, section_at, sections_of, written, offered, offer_text, sized, IsSavable, IsSavedText, Second, head_text, keyed_from}
 use Rattle.mv_ledger.proofs.Common.{keyed_indices, saved_text, struct_text, tally_text, IsSmall, LedgerView, all_of, state_of, tallied, view_of, Section, Tally}
 use Rattle.mv_ledger.proofs.Lists.{all-weaker, all-append}
 use Rattle.mv_ledger.proofs.Saves.SavedLoads.{text-saves}
 use Rattle.mv_ledger.proofs.Runs.TalliesByModule.{all-at}
+use Rattle.mv_ledger.proofs.Loads.BodyKeyed.{keyed_after}
 
 -- ---- each struct with key is defined where it says
-
--- the indices of structs with key among those from an index on
-abbrev keyed_after : Module → ℕ → List StructDefinition → List ℕ
-keyed_after m k ds = map (λ (p : ℕ × StructDefinition). p.0) (filter (λ p. has_key m p.1) (enumerate_from k ds))
 
 each-at : {A : Type 0} (P : A → Type 0) (xs : List A) (i : ℕ) (x : A) → i < length xs → AllByRecursion P xs → P (get_or xs i x)
 each-at P [] i x lt h = absurd (omega (arith, lt))
@@ -54,7 +51,7 @@ keyed-defined-at ms i e lt =
     let h : IsDefinedFrom 0 ms d = each-at (IsDefinedFrom 0 ms) (keyed_from 0 ms) i e lt (keyed-from 0 ms) in
     let place : h.at ≡ d.place = omega (arith, h.place_is) in
     let m_is : slice_get ms d.place ≡ Some h.m = subst (λ (k : ℕ). slice_get ms k ≡ Some h.m) place h.m_is in
-    let x = there_at h.m.structs d.index h.low in
+    let x = element_at h.m.structs d.index h.low in
     subst IsSome (sym (then_found (slice_get ms d.place) (λ m. slice_get m.structs d.index) h.m (Some x.0) m_is x.1)) refl
 
 -- ---- modules
@@ -65,7 +62,7 @@ module _ (store : List PublishedModule) where
       → IfSome (slice_get store i) (λ p. bytes ≡ p.text) → IfSome (slice_get store i) (λ p. certificate ≡ p.certificate) → first ≡ text ++ sized bytes → after ≡ first ++ sized certificate
       → after ≡ old ++ flat_map offer_text (map offered (take (i + 1) store))
   modules-more i old text first after bytes certificate lt so_far bytes_are certificate_is one two =
-      let p = there_at store i lt in
+      let p = element_at store i lt in
       let own : bytes ≡ p.0.text = subst (λ (o : Option PublishedModule). IfSome o (λ p. bytes ≡ p.text)) p.1 bytes_are in
       let also : certificate ≡ p.0.certificate = subst (λ (o : Option PublishedModule). IfSome o (λ p. certificate ≡ p.certificate)) p.1 certificate_is in
       let at : get_or store i p.0 ≡ p.0 = get_or_from_slice_get store i p.0 p.0 p.1 in

@@ -4,6 +4,7 @@ use Rattle.mv_ledger.proofs.Common.{eqb-true, byte_at, bytes_high_first, to_be_b
 use Rattle.std.specs.Result.{is_ok}
 use Rattle.mv_machine.specs.Lines.{address_text}
 use Rattle.hex.specs.Hex.{encode_with}
+use Rattle.mv_module_text.proofs.Numbers.{byte_small}
 
 -- the test of one digit, which computes
 abbrev is_same : ℕ → Bool
@@ -28,16 +29,12 @@ same_at (suc n) k h lt =
 pub digit : (d : ℕ) → d < 16 → slice_index lower_digits d ≡ hex_digit d
 digit d lt = eqb-true (slice_index lower_digits d) (hex_digit d) (same_at 16 d refl lt)
 
-pub byte_at-lt : (k n : ℕ) → byte_at k n < 256
-byte_at-lt zero n = omega arith
-byte_at-lt (suc i) n = omega arith
-
 digits : (k n : ℕ) → encode_with lower_digits (bytes_high_first k n) ≡ flat_map (λ b. hex_digit (b / 16) ∷ hex_digit (b % 16) ∷ []) (bytes_high_first k n)
 unfolding encode_with
 digits zero n = refl
 digits (suc k) n =
     let b : ℕ = byte_at k n in
-    let lt : b < 256 = byte_at-lt k n in
+    let lt : b < 256 = byte_small k n in
     let high : slice_index lower_digits (b / 16) ≡ hex_digit (b / 16) = digit (b / 16) (omega (arith, lt)) in
     let low : slice_index lower_digits (b % 16) ≡ hex_digit (b % 16) = digit (b % 16) (omega arith) in
     ap (λ h. h ∷ slice_index lower_digits (b % 16) ∷ encode_with lower_digits (bytes_high_first k n)) high

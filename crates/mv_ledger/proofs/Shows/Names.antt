@@ -2,12 +2,13 @@
 use Rattle.mv_ledger.proofs.Common.{[], ◌%◌, ◌++◌, ◌/◌, ◌<◌, ◌∙◌, ◌∷◌, ◌≡◌, Bool, List, Some, arith, codes, decimal, false, flat_map, length, refl, subst, suc, true, zero, ℕ, agree_below_at}
 use Rattle.mv_ledger.proofs.Common.{and_from, cond_both, nat_tests, list_all-append, same_Some, first_so, second_so, byte_at, bytes_high_first, list_all, ◌&&◌, ◌==◌, ◌||◌, nat_le, nat_lt}
 use Rattle.mv_ledger.proofs.Common.{slice_get, Module, module_name, name_at, name_of_struct, struct_name, ModuleName, StructName, PublishedModule, LeafKind, Address, Boolean, Number, Signer}
-use Rattle.mv_ledger.proofs.Common.{HasText, on_bind, identifier_fits, is_letter, is_name_part, hex_digit, leaf_text, rest_text, value_text, Leaf, More, NoMore, Struct, Value, Values, each}
+use Rattle.mv_ledger.proofs.Common.{HasText, on_bind, identifier_fits, is_letter, is_name_part, hex_digit, leaf_text, rest_text, value_text, Leaf, More, NoMore, Struct, Value, Values, all_at}
 use Rattle.mv_ledger.proofs.Common.{IsPublishable, IsStore, tables_in, IsPlain, is_plain}
 use Rattle.std.specs.Fmt.{digits, digits_onto, digit_glyph}
 use Rattle.mv_machine.specs.Lines.{address_text, struct_text}
-use Rattle.mv_ledger.proofs.Shows.Digits.{byte_at-lt}
-use Rattle.mv_linker.proofs.LinkedCode.Linkable.{at-all, mapped-at}
+use Rattle.mv_linker.proofs.LinkedCode.Linkable.{at-all}
+use Rattle.mv_bounds.proofs.Entries.{mapped-at}
+use Rattle.mv_module_text.proofs.Numbers.{byte_small}
 
 -- ---- numbers and addresses
 
@@ -36,7 +37,7 @@ plain-bytes : (k n : ℕ) → IsPlain (flat_map (λ b. hex_digit (b / 16) ∷ he
 plain-bytes zero n = refl
 plain-bytes (suc k) n =
     let b : ℕ = byte_at k n in
-    let lt : b < 256 = byte_at-lt k n in
+    let lt : b < 256 = byte_small k n in
     and_from _ _ (hex_plain (b / 16) (omega arith)) (and_from _ _ (hex_plain (b % 16) (omega arith)) (plain-bytes k n))
 
 pub plain-address : (a : ℕ) → IsPlain (address_text a)
@@ -81,7 +82,7 @@ plain-struct name plain =
 
 module _ (m : Module) (text : HasText m) where
   identifier : (i : ℕ) (name : List ℕ) → slice_get m.identifiers i ≡ Some name → IsPlain name
-  identifier i name at = plain-identifier name (each identifier_fits m.identifiers i name text.identifiers at)
+  identifier i name at = plain-identifier name (all_at identifier_fits m.identifiers i name text.identifiers at)
 
   home : (h : ℕ) (name : ModuleName) → module_name m h ≡ Some name → IsPlain name.name
   home h name named =

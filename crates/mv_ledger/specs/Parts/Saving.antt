@@ -8,7 +8,7 @@
 --   AddsValue modules rows key words after  so has that of a key's struct, with these words
 --   counts_text tallies                     what was made and what was taken apart of each struct
 --   written runs published stored tallies   a ledger with these parts, as it is written
-use Rattle.std.specs.Prelude.{◌≡◌, ℕ, ◌+◌, ◌^◌, ◌<◌, Bool, false, ◌&&◌, ◌==◌, List, [], ◌++◌, map, length, Option, Some, slice_get}
+use Rattle.std.specs.Prelude.{◌≡◌, ℕ, ◌+◌, ◌^◌, ◌<◌, false, List, [], ◌++◌, map, length, Option, Some, slice_get}
 use Rattle.std.specs.List.{flat_map, filter}
 use Rattle.std.specs.Option.{IsSome}
 use Rattle.std.specs.declared.vec.Vec.{Vec}
@@ -29,6 +29,7 @@ use Rattle.mv_ledger.specs.declared.tallies.Tally.{Tally}
 use Rattle.mv_ledger.specs.Layouts.{coded, kinds_under}
 use Rattle.mv_ledger.specs.SavedText.{Second, addressed_text, head_text, is_under, keyed_from, struct_text}
 use Rattle.mv_ledger.specs.Publishing.{offered}
+use Rattle.mv_frames.specs.Counters.{is_same_definition}
 
 -- the sections of the structs of each module
 abbrev pub sections_of : List (Vec Section Global) → List (List Section)
@@ -47,8 +48,8 @@ abbrev pub stored_in : List Module → List FlatEntry → Definition → Storage
 stored_in modules entries d = filter (is_under d) (storage_of modules entries)
 
 -- the struct of a key
-abbrev pub struct_of : Key → Definition
-struct_of key = record { place = key.place; index = key.index }
+abbrev pub struct_under : Key → Definition
+struct_under key = record { place = key.place; index = key.index }
 
 -- a section that a value is in has the kinds of the leaves of its struct's values
 abbrev pub KnowsKinds : List Module → Definition → Section → Type 0
@@ -65,10 +66,6 @@ pub record AreSections (modules : List Module) (entries : List FlatEntry) (rows 
   pub there : (d : Definition) → IsSome (definition_at modules d) → IsSome (section_at rows d)
   pub each : (d : Definition) (s : Section) → section_at rows d ≡ Some s → IsSection modules entries d s
 
--- whether two structs are one
-abbrev pub same_definition : Definition → Definition → Bool
-same_definition a b = (a.place == b.place) && (a.index == b.index)
-
 -- one section is another with these bytes as one value more, of leaves of these kinds
 pub record HasOneMore (s : Section) (kinds : List LeafKind) (bytes : List ℕ) (t : Section) : Type 0 where
   pub count : t.count ≡ s.count + 1
@@ -78,13 +75,13 @@ pub record HasOneMore (s : Section) (kinds : List LeafKind) (bytes : List ℕ) (
 -- these bytes were added to the section of a struct, as one value more; each other section is as it was
 pub record IsAdded (rows : List (List Section)) (d : Definition) (kinds : List LeafKind) (bytes : List ℕ) (after : List (List Section)) : Type 0 where
   pub here : (s : Section) → section_at rows d ≡ Some s → (t : Section) × (section_at after d ≡ Some t) × HasOneMore s kinds bytes t
-  pub others : (e : Definition) → same_definition d e ≡ false → section_at after e ≡ section_at rows e
+  pub others : (e : Definition) → is_same_definition d e ≡ false → section_at after e ≡ section_at rows e
 
 -- a value with these words was added to the section of its key's struct
 pub record AddsValue (modules : List Module) (rows : List (List Section)) (key : Key) (words : List ℕ) (after : List (List Section)) : Type 0 where
   pub kinds : List LeafKind
-  pub kinds_are : kinds_under modules (struct_of key) ≡ Some kinds
-  pub added : IsAdded rows (struct_of key) kinds (address_text key.address ++ coded kinds words) after
+  pub kinds_are : kinds_under modules (struct_under key) ≡ Some kinds
+  pub added : IsAdded rows (struct_under key) kinds (address_text key.address ++ coded kinds words) after
 
 -- the tallies' counts, in order
 abbrev pub counts_text : List Tally → List ℕ

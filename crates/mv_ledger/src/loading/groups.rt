@@ -1,24 +1,13 @@
 // Which modules of a saved ledger are linked together: the first ones that name none that comes later.
-ghost use Rattle.std.specs.Prelude.{◌≡◌, ◌≤◌, length, option_map, IfSome};
+ghost use Rattle.std.specs.Prelude.{◌≡◌, ◌≤◌, length, IfSome};
 ghost use Rattle.std.specs.List.{position};
-ghost use Rattle.mv_move_types.specs.Module.{module_name as name_of_module};
 ghost use Rattle.mv_move_types.specs.Named.{is_module};
 ghost use Rattle.mv_linker.specs.declared.New.{New as NewModule};
 ghost use Rattle.mv_linker.specs.News.{published_of};
 ghost use Rattle.mv_ledger.specs.Groups.{IsNeeded, HandleHolds, HandlesHold, IsGroup};
 
 use mv_binary_format::Module;
-use mv_linker::{New, Store, name_of};
-
-/// The address and the identifier of the module that a handle names, if they are there.
-fn module_name<'a>(m: &Module<'a>, handle: usize) -> Option<(u128, &'a [u8])>
-    ensures { option_map (λ p. record { address = p.0; name = p.1.now }) result ≡ name_of_module m.now handle }
-{
-    let handle = m.module_handles().get(handle)?;
-    let address = m.addresses().get(handle.address as usize)?;
-    let name = m.identifier(handle.name as usize)?;
-    Some((*address, name))
-}
+use mv_linker::{New, Store, module_name, name_of};
 
 /// Whether a module has this address and identifier.
 fn is_named(m: &Module<'_>, address: u128, identifier: &[u8]) -> bool

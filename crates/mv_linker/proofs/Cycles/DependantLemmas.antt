@@ -10,7 +10,7 @@ use Rattle.mv_linker.proofs.Common.{ap, arith, both_ways, bundled_target, cases_
 use Rattle.mv_linker.proofs.Common.{is_module, is_some, length, length-map, list_any, map, map-append, module_name, module_place, modules_in, offered, on_bind, own_name, position, refl}
 use Rattle.mv_linker.proofs.Common.{same_Some, slice_get, slice_get_within, subst, sym, tables_in, true}
 use Rattle.mv_linker.proofs.Lemmas.{Contains-at, among-any, among-at, any-among, at-among, at-Contains, depends_on-from, depends_on-is, have_one_name-is, is_module-is, module_parts}
-use Rattle.mv_linker.proofs.Lemmas.{module_place-from, module_place-is, name_at_one, some-of, there_at}
+use Rattle.mv_linker.proofs.Lemmas.{module_place-from, module_place-is, name_at_one, some-of, element_at}
 use Rattle.mv_linker.proofs.Joining.Bundled.{place-at}
 use Rattle.mv_linker.proofs.Cycles.DependenciesStay.{dependencies-stay}
 use Rattle.mv_linker.proofs.Cycles.DependencyLemmas.{all-there}
@@ -35,7 +35,7 @@ target-parts s m h k e go =
 pub no-fewer : (s : Scope) → length s.store.now ≤ length (modules_in s)
 no-fewer s = elim (cases_lt (length (modules_in s)) (length s.store.now)) [
   | inl low ↦
-      let x = there_at (tables_in s.store.now) (length (modules_in s)) (omega (arith, low, length-map s.store.now (λ (p : PublishedModule). p.tables))) in
+      let x = element_at (tables_in s.store.now) (length (modules_in s)) (omega (arith, low, length-map s.store.now (λ (p : PublishedModule). p.tables))) in
       let new = names-stay (tables_in s.store.now) (offered s.new.now) (length (modules_in s)) x.0 x.1 in
       absurd (omega (arith, slice_get_within (modules_in s) (length (modules_in s)) new.0 new.1))
   | inr more ↦ more
@@ -58,7 +58,7 @@ module _ (s : Scope) (joins : Joins s) where
     λ some.
         let j = any-among (λ q. is_some (position (λ p. p == q) s.places.items)) places some in
         let listed : Contains places j.0 = (let k = at-among places j.0 j.1 in at-Contains places k.0 j.0 k.1) in
-        let n = there_at (modules_in s) j.0 (now.there j.0 listed) in
+        let n = element_at (modules_in s) j.0 (now.there j.0 listed) in
         let names = (depends_on-is m n.0 ((now.each j.0 n.0 n.1).0 listed)).1 in
         let found : module_place (modules_in s) names.name ≡ Some j.0 = module_place-from (modules_in s) names.name j.0 n.0 (one-name s joins) n.1 names.own in
         (names.handle, rw (names.named, found) j.2),
@@ -76,7 +76,7 @@ module _ (s : Scope) (joins : Joins s) where
   )
     where
       now : AreDependencies (modules_in s) m places
-      now = dependencies-stay (tables_in s.store.now) (offered s.new.now) joins.store.once joins.store.links q m at places was
+      now = dependencies-stay (tables_in s.store.now) (offered s.new.now) joins.fits.store.once joins.fits.store.links q m at places was
 
   -- ---- published modules that don't have to be linked again
 
@@ -86,7 +86,7 @@ module _ (s : Scope) (joins : Joins s) where
   replaced-named q m at free (h, some) =
       let target = some-of (bundled_target s m h) some in
       target-parts s m h target.0 target.1 (λ name p named found placed.
-      let there = modules_there_at (tables_in s.store.now) m (length m.module_handles) h (handle-below m h name named) (all-there (tables_in s.store.now) q m at joins.store.links) in
+      let there = modules_there_at (tables_in s.store.now) m (length m.module_handles) h (handle-below m h name named) (all-there (tables_in s.store.now) q m at joins.fits.store.links) in
       let x = any-among (is_module name) (tables_in s.store.now) (rw named at there) in
       let x_at = at-among (tables_in s.store.now) x.0 x.1 in
       let own_is : own_name x.0 ≡ Some name = is_module-is name x.0 x.2 in
@@ -95,7 +95,7 @@ module _ (s : Scope) (joins : Joins s) where
       let same : x_at.0 ≡ p = same_Some x_at.0 p (sym there_is ∙ found) in
       let own : have_one_name m x.0 ≡ false = false_from_ne_true (have_one_name m x.0) (λ one.
       let names = have_one_name-is m x.0 one in
-      let here : q ≡ x_at.0 = name_at_one (tables_in s.store.now) names.0 q x_at.0 m x.0 joins.store.once at x_at.1 names.1 names.2 in
+      let here : q ≡ x_at.0 = name_at_one (tables_in s.store.now) names.0 q x_at.0 m x.0 joins.fits.store.once at x_at.1 names.1 names.2 in
       both_ways true (sym (ap is_some (sym (rw (here ∙ same) at free)) ∙ position-there p target.0 s.places.items placed)) refl) in
       (p, x.0, at-Contains s.places.items target.0 p placed, rw (← same) x_at.1, depends_on-from m x.0 name h (handle-below m h name named) named own_is own))
 

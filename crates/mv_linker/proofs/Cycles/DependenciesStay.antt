@@ -6,13 +6,13 @@ use Rattle.mv_linker.proofs.Common.{[], ℕ, ◌&&◌, ◌<◌, ◌==◌, ◌∙
 use Rattle.mv_linker.proofs.Common.{DependenciesAt, Global, KeepsDependencies, Links, List, Module, None, Option, Some, Vec, all_differ, ap, ap₂, arith, count_after, depends_on}
 use Rattle.mv_linker.proofs.Common.{have_one_name, inl, inr, length, length-map, map, modules_are_there, names_module, none-some, not, own_name, places_in, position, refl, same_Some}
 use Rattle.mv_linker.proofs.Common.{slice_get, slice_get-map, slice_get_within, subst, suc, sym, true, with_tables, zero, zip}
-use Rattle.mv_linker.proofs.Lemmas.{Contains-at, at-Contains, depends_on-is, differ-result, each, name_at_one, one_test, there_at}
+use Rattle.mv_linker.proofs.Lemmas.{Contains-at, at-Contains, depends_on-is, differ-result, all_at, name_at_one, one_test, element_at}
 use Rattle.mv_linker.proofs.Joining.Bundled.{bundle-at, old-at, place-at}
 use Rattle.mv_linker.proofs.Cycles.DependencyLemmas.{count-places, length-places, places-within}
 use Rattle.mv_linker.proofs.Cycles.Graphs.{named_there}
 use Rattle.mv_linker.proofs.Cycles.JoinedOrder.{names-stay}
-use Rattle.mv_linker.proofs.LinkedCode.Linkable.{mapped-at}
 use Rattle.mv_linker.proofs.Kept.WithAt.{WasPut, WasThere, from-put_all, length-put_all}
+use Rattle.mv_bounds.proofs.Entries.{mapped-at}
 
 -- no modules depend on none
 pub no-dependencies : (kept : List Dependencies) → kept ≡ [] → AreDependenciesOf [] kept
@@ -34,18 +34,18 @@ pub dependencies-stay : (old ns : List Module) → all_differ have_one_name old 
     → AreDependencies (with_tables old ns) m places
 dependencies-stay old ns once links q m at places d = record {
   there = λ j has.
-      let x = there_at old j (d.there j has) in
+      let x = element_at old j (d.there j has) in
       let new = names-stay old ns j x.0 x.1 in
       slice_get_within (with_tables old ns) j new.0 new.1;
   each = λ j n e. (
     λ has.
-        let x = there_at old j (d.there j has) in
+        let x = element_at old j (d.there j has) in
         let new = names-stay old ns j x.0 x.1 in
         let same : new.0 ≡ n = same_Some new.0 n (sym new.1 ∙ e) in
         sym (depends_on-alike m x.0 n (sym new.2 ∙ ap own_name same)) ∙ (d.each j x.0 x.1).0 has,
     λ depends.
         let names = (depends_on-is m n depends).1 in
-        let there = named_there old m (length m.module_handles) names.handle names.name (each (λ m. modules_are_there old m (length m.module_handles)) old q m links.modules at) names.below names.named in
+        let there = named_there old m (length m.module_handles) names.handle names.name (all_at (λ m. modules_are_there old m (length m.module_handles)) old q m links.modules at) names.below names.named in
         let new = names-stay old ns there.0 there.1 there.2 in
         let same : j ≡ there.0 = name_at_one (with_tables old ns) names.name j there.0 n new.0 (differ-result old ns once) e new.1 names.own (new.2 ∙ there.3) in
         let so : depends_on m there.1 ≡ true = depends_on-alike m there.1 n (there.3 ∙ sym names.own) ∙ depends in
@@ -56,13 +56,13 @@ dependencies-stay old ns once links q m at places d = record {
 -- a place of the bundle is there, and each of its modules has one
 pub place-there : (old ns : List Module) → all_differ have_one_name ns ≡ true → (k p : ℕ) → slice_get (places_in old ns) k ≡ Some p → p < length (with_tables old ns)
 place-there old ns apart k p at =
-    let n = there_at ns k (omega (arith, slice_get_within (places_in old ns) k p at, length-places old ns)) in
+    let n = element_at ns k (omega (arith, slice_get_within (places_in old ns) k p at, length-places old ns)) in
     slice_get_within (with_tables old ns) p n.0 (bundle-at old ns k p n.0 apart n.1 at)
 
 pub placed-there : (old ns : List Module) → all_differ have_one_name ns ≡ true → (n : Module) → Contains ns n → (p : ℕ) × Contains (places_in old ns) p × (slice_get (with_tables old ns) p ≡ Some n)
 placed-there old ns apart n has =
     let k = Contains-at ns n has in
-    let p = there_at (places_in old ns) k.0 (let low = slice_get_within ns k.0 n k.1 in omega (arith, low, length-places old ns)) in
+    let p = element_at (places_in old ns) k.0 (let low = slice_get_within ns k.0 n k.1 in omega (arith, low, length-places old ns)) in
     (p.0, at-Contains (places_in old ns) k.0 p.0 p.1, bundle-at old ns k.0 p.0 n apart k.1 p.1)
 
 module _ (old ns : List Module) (once : all_differ have_one_name old ≡ true) (apart : all_differ have_one_name ns ≡ true) (links : Links old) where
@@ -70,7 +70,7 @@ module _ (old ns : List Module) (once : all_differ have_one_name old ≡ true) (
   pub bundled-dependencies : (graph : List (List ℕ)) → AreDependenciesIn (with_tables old ns) ns graph → (k q : ℕ) (places : List ℕ) → slice_get (places_in old ns) k ≡ Some q
       → slice_get graph k ≡ Some places → AreDependenciesAt (with_tables old ns) q places
   bundled-dependencies graph are k q places placed at m m_at =
-      let n = there_at ns k (let low = slice_get_within graph k places at in omega (arith, low, are.len)) in
+      let n = element_at ns k (let low = slice_get_within graph k places at in omega (arith, low, are.len)) in
       let same : n.0 ≡ m = same_Some n.0 m (sym (bundle-at old ns k q n.0 apart n.1 placed) ∙ m_at) in
       subst (λ (x : Module). AreDependencies (with_tables old ns) x places) same (are.each k n.0 places n.1 at)
 

@@ -4,7 +4,7 @@ use Rattle.mv_linker.proofs.Common.{ModuleName, None, Reaches, Some, all_differ,
 use Rattle.mv_linker.proofs.Common.{further, have_one_name, inl, inr, leb, leb-true, length, length-map, map, module_name, module_place, nat_le, nat_tests, ne_eqb, not, not-true, on_bind}
 use Rattle.mv_linker.proofs.Common.{option_map, others, own_name, same_Some, shifted, slice_get, slice_get-map, slice_get_within, subst, sym, take, true}
 use Rattle.mv_linker.proofs.Lemmas.{Contains-at, at-Contains, depends_on-from, depends_on-is, have_one_name-from, have_one_name-is, kept_at, module_place-from, module_place-is}
-use Rattle.mv_linker.proofs.Lemmas.{name_at_one, there_at}
+use Rattle.mv_linker.proofs.Lemmas.{name_at_one, element_at}
 use Rattle.mv_linker.proofs.Found.{kept_from, made_at, made_from, slice_get-take}
 use Rattle.mv_bounds.specs.Cycles as C
 
@@ -49,7 +49,7 @@ module _ (modules : List Module) (m : Module) (own : ℕ) (places : List ℕ) (h
               let d = depends_on-is m n depends in
               let h = d.1.handle in
               let low = d.1.below in
-              let at = there_at places h (omega (arith, low, p.len)) in
+              let at = element_at places h (omega (arith, low, p.len)) in
               let place : at.0 ≡ j = same_Some at.0 j (sym (rw d.1.named at (p.each h at.0 at.1)) ∙ module_place-from modules d.1.name j n once e d.1.own) in
               let apart : j ≡ own → ⊥ = λ same.
               let one : n ≡ m = same_Some n m (sym e ∙ ap (slice_get modules) same ∙ here) in
@@ -94,7 +94,7 @@ module _ (modules : List Module) (base : ℕ) (graph : List (List ℕ)) (g : IsD
 
   -- the entry of a module
   entry : (a : ℕ) (m : Module) → slice_get modules (base + a) ≡ Some m → (places : List ℕ) × (slice_get graph a ≡ Some places)
-  entry a m e = (let low = slice_get_within modules (base + a) m e in there_at graph a (omega (arith, low, g.len)))
+  entry a m e = (let low = slice_get_within modules (base + a) m e in element_at graph a (omega (arith, low, g.len)))
 
   edge_from : (a b : ℕ) (m n : Module) → slice_get modules (base + a) ≡ Some m → slice_get modules (base + b) ≡ Some n → depends_on m n ≡ true → LeadsTo edges a b
   edge_from a b m n e f d =
@@ -157,13 +157,13 @@ module _ (modules : List Module) (base : ℕ) (graph : List (List ℕ)) (g : IsD
       directly m n (at-Contains modules (base + a) m e) (at-Contains modules (base + b) n f) (((g.each a m p.0 e p.1).each (base + b) n f).0 there)
   leads a c m o e f (C.further i b k first second) =
       let low = begins b c second in
-      let at = there_at modules (base + b) (omega (arith, low, g.len)) in
+      let at = element_at modules (base + b) (omega (arith, low, g.len)) in
       further m at.0 o (leads a b m at.0 e at.1 first) (leads b c at.0 o at.1 f second)
 
   acyclic_from : IsOrdered modules → IsAcyclic edges
   acyclic_from never a r =
       let low = begins a a r in
-      let at = there_at modules (base + a) (omega (arith, low, g.len)) in
+      let at = element_at modules (base + a) (omega (arith, low, g.len)) in
       never at.0 (leads a a at.0 at.0 at.1 at.1 r)
 
   pub ordered-acyclic : (b : Bool) → (b ≡ true) ↔ IsAcyclic edges → (b ≡ true) ↔ IsOrdered modules

@@ -3,14 +3,14 @@ use Rattle.mv_linker.proofs.Common.{[], ℕ, ◌++◌, ◌+◌, ◌<◌, ◌∙�
 use Rattle.mv_linker.proofs.Common.{further, have_one_name, is_module, length, length-append, module_name, modules_are_there, own_name, slice_get, slice_get-first, slice_get_within, subst}
 use Rattle.mv_linker.proofs.Common.{sym, true}
 use Rattle.std.proofs.Math.Seq.{take-append_seam}
-use Rattle.mv_linker.proofs.Lemmas.{any-among, at-among, depends_on-is, each, is_module-is, name_at_one}
+use Rattle.mv_linker.proofs.Lemmas.{any-among, at-among, depends_on-is, all_at, is_module-is, name_at_one}
 use Rattle.mv_linker.proofs.Joining.Resolving.{modules_there_at}
 
 abbrev EachDepends : List Module → ℕ → List (List ℕ) → Type 0
 EachDepends modules base graph = (i : ℕ) (m : Module) (places : List ℕ) → slice_get modules (base + i) ≡ Some m → slice_get graph i ≡ Some places → AreDependencies modules m places
 
 -- no chain stands in an empty store
-no_chain : (m n : Module) → Reaches [] m n → ⊥
+pub no_chain : (m n : Module) → Reaches [] m n → ⊥
 no_chain m n (directly a b (k, low, is) hasn d) = omega (arith, low)
 no_chain m n (further a b c first second) = no_chain m b first
 
@@ -42,7 +42,7 @@ appended-graph old new graph links once len deps =
       closed = λ i j m n low e f d.
           let names = (depends_on-is m n d).1 in
           let m_at : slice_get old i ≡ Some m = sym (slice_get-first old new i low) ∙ e in
-          let there = named_there old m (length m.module_handles) names.handle names.name (each (λ m. modules_are_there old m (length m.module_handles)) old i m links.modules m_at) names.below names.named in
+          let there = named_there old m (length m.module_handles) names.handle names.name (all_at (λ m. modules_are_there old m (length m.module_handles)) old i m links.modules m_at) names.below names.named in
           let inside = slice_get_within old there.0 there.1 there.2 in
           let same = name_at_one (old ++ new) names.name j there.0 n there.1 once f (slice_get-first old new there.0 inside ∙ there.2) names.own there.3 in
           omega (arith, same, inside);

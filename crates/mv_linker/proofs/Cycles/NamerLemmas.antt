@@ -15,7 +15,7 @@ use Rattle.std.specs.Ordering.{is_le, is_lt, nat_cmp, ordering_then}
 use Rattle.std.proofs.lemmas.Cmp.{nat_cmp_total, on_total, then_total}
 use Rattle.std.proofs.lemmas.Map.Lookups.{CmpEqualImpliesEq, exact_pairs, exact_unsigned}
 use Rattle.std.proofs.lemmas.Map.Views.{btree_set_contains_iff, exact_unsigned_eq, hash_set_contains_iff, tells_apart}
-use Rattle.mv_linker.proofs.Lemmas.{Contains-at, at-Contains, kept_at, there_at}
+use Rattle.mv_linker.proofs.Lemmas.{Contains-at, at-Contains, kept_at, element_at}
 use Rattle.mv_linker.proofs.Cycles.DependenciesStay.{dependencies_of, place}
 use Rattle.mv_linker.proofs.Kept.WithAt.{first_or_later, from-put_all}
 use Rattle.std.specs.HashSet as hash
@@ -191,7 +191,7 @@ pub namers-of : (modules : List Module) (kept : List Dependencies) (pairs : List
 namers-of modules kept pairs named found are namers few there p m n m_at n_at depends =
     let low = slice_get_within modules p m m_at in
     let small = slice_get_within modules named n n_at in
-    let d = there_at kept p (omega (arith, low, are.len)) in
+    let d = element_at kept p (omega (arith, low, are.len)) in
     let listed : Contains d.0.places.items named = ((are.each p m d.0 m_at d.1).each named n n_at).1 depends in
     there p (omega (arith, low, few)) (namers p d.0 d.1 named listed (omega (arith, small, few)) (omega (arith, low, few)))
 

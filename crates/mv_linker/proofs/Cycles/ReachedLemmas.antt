@@ -10,10 +10,10 @@ use Rattle.mv_linker.proofs.Common.{directly, eq-eqb, eqb, eqb-true, false, furt
 use Rattle.mv_linker.proofs.Common.{map-append, none-some, or_cases, refl, same_Some, slice_get, slice_get-first, slice_get_within, subst, suc, sym, true, with_tables, zero}
 use Rattle.std.proofs.lemmas.Map.Keys.{apart_from_distinct}
 use Rattle.std.proofs.lemmas.Map.Steps.{length-le_from_distinct_below}
-use Rattle.mv_linker.proofs.Lemmas.{Contains-at, among-at, among-result, at-among, at-Contains, there_at}
-use Rattle.mv_linker.proofs.Found.{last_or_before}
+use Rattle.mv_linker.proofs.Lemmas.{Contains-at, among-at, among-result, at-among, at-Contains, element_at}
 use Rattle.mv_linker.proofs.Cycles.Graphs.{whole-graph}
 use Rattle.mv_linker.proofs.Joining.Resolving.{each_push}
+use Rattle.mv_bounds.proofs.Entries.{last_or_before}
 
 -- ---- one more place
 
@@ -107,13 +107,13 @@ needed-from : (modules : List Module) (reached : List ℕ) (m : Module) (places 
 needed-from modules reached m places numbers d are = record {
   each = λ j has.
       let k = Contains-at numbers j has in
-      let q = there_at places k.0 (let low = slice_get_within numbers k.0 j k.1 in omega (arith, low, are.len)) in
+      let q = element_at places k.0 (let low = slice_get_within numbers k.0 j k.1 in omega (arith, low, are.len)) in
       let listed : Contains places q.0 = at-Contains places k.0 q.0 q.1 in
-      let n = there_at modules q.0 (d.there q.0 listed) in
+      let n = element_at modules q.0 (d.there q.0 listed) in
       (q.0, n.0, are.each k.0 q.0 j q.1 k.1, n.1, (d.each q.0 n.0 n.1).0 listed);
   all = λ q n at depends.
       let k = Contains-at places q ((d.each q n at).1 depends) in
-      let j = there_at numbers k.0 (let low = slice_get_within places k.0 q k.1 in omega (arith, low, are.len)) in
+      let j = element_at numbers k.0 (let low = slice_get_within places k.0 q k.1 in omega (arith, low, are.len)) in
       (j.0, at-Contains numbers k.0 j.0 j.1, are.each k.0 q j.0 k.1 j.1);
 }
 
@@ -125,7 +125,7 @@ search-begins modules first old reached numbers graph none empty low extended ar
     rw empty (record {
       begun = λ p has.
           let k = Contains-at first p has in
-          let j = there_at numbers k.0 (let low = slice_get_within first k.0 p k.1 in omega (arith, low, are.len)) in
+          let j = element_at numbers k.0 (let low = slice_get_within first k.0 p k.1 in omega (arith, low, are.len)) in
           at-Contains reached j.0 p (are.each k.0 p j.0 k.1 j.1);
       low = λ p has. elim (extended.each p has) [
         | inl there ↦ absurd (omega (arith, (rw none at there).1))
@@ -149,7 +149,7 @@ search-goes-on modules first reached next places graph more place v search at ar
     let all : items more ≡ items graph ++ v.items ∷ [] = ap items pushed ∙ map-append (λ (v : Vec ℕ Global). v.items) graph (v ∷ []) in
     let long : length (items graph) ≡ length graph = length-map graph (λ (v : Vec ℕ Global). v.items) in
     let listed : Contains reached place = at-Contains reached (length graph) place at in
-    let here = there_at modules place (search.low place listed) in
+    let here = element_at modules place (search.low place listed) in
     let needed = are here.0 here.1 in
     let P : ℕ → List ℕ → Type 0 = λ i numbers. (p : ℕ) (m : Module) → slice_get next i ≡ Some p → slice_get modules p ≡ Some m → AreNeeded modules next m numbers in
     record {
@@ -169,7 +169,7 @@ search-goes-on modules first reached next places graph more place v search at ar
         → AreNeeded modules next m numbers
     before i numbers g p m p_at m_at =
         let low : i < length reached = (let a = slice_get_within (map (λ (v : Vec ℕ Global). v.items) graph) i numbers g in let b = search.within in omega (arith, a, b)) in
-        let old = there_at reached i low in
+        let old = element_at reached i low in
         let same : old.0 ≡ p = same_Some old.0 p (sym (extended.stays i old.0 old.1) ∙ p_at) in
         needed-stays modules reached next m numbers extended.stays (search.each i numbers g old.0 m old.1 (ap (slice_get modules) same ∙ m_at))
 
@@ -184,7 +184,7 @@ pub record Selected (modules : List Module) (places : List ℕ) : Type 0 where
 selected : (modules : List Module) (places : List ℕ) → ((p : ℕ) → Contains places p → p < length modules) → Selected modules places
 selected modules [] low = record { some = []; len = refl; each = λ i p e. absurd (none-some p e) }
 selected modules (q ∷ places) low =
-    let m = there_at modules q (low q (at-Contains (q ∷ places) 0 q refl)) in
+    let m = element_at modules q (low q (at-Contains (q ∷ places) 0 q refl)) in
     let rest = selected modules places (λ p has. let k = Contains-at places p has in low p (at-Contains (q ∷ places) (suc k.0) p k.1)) in
     record { some = m.0 ∷ rest.some; len = ap suc rest.len; each = both q m.0 m.1 rest }
   where
@@ -212,7 +212,7 @@ module _ (modules : List Module) (first reached : List ℕ) (graph : List (List 
 
   is-there : (i : ℕ) (m : Module) → slice_get chosen.some i ≡ Some m → IsThere i m
   is-there i m e =
-      let p = there_at reached i (let low = slice_get_within chosen.some i m e in omega (arith, low, chosen.len)) in
+      let p = element_at reached i (let low = slice_get_within chosen.some i m e in omega (arith, low, chosen.len)) in
       record { place = p.0; number = p.1; at = sym (chosen.each i p.0 p.1) ∙ e }
 
   needed-there : (i : ℕ) (m : Module) (numbers : List ℕ) → slice_get chosen.some i ≡ Some m → slice_get graph i ≡ Some numbers → AreDependencies chosen.some m numbers
@@ -246,7 +246,7 @@ module _ (modules : List Module) (first reached : List ℕ) (graph : List (List 
           let k = Contains-at chosen.some m has in
           let t = is-there k.0 m k.1 in
           let q = Contains-at modules n hasn in
-          let row = there_at graph k.0 (let low = slice_get_within reached k.0 t.place t.number in omega (arith, low, done)) in
+          let row = element_at graph k.0 (let low = slice_get_within reached k.0 t.place t.number in omega (arith, low, done)) in
           let x = (search.each k.0 row.0 row.1 t.place m t.number t.at).all q.0 n q.1 depends in
           at-Contains chosen.some x.0 n (chosen.each x.0 q.0 x.2 ∙ q.1);
     };

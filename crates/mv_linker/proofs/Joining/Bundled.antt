@@ -4,9 +4,10 @@ use Rattle.mv_linker.proofs.Common.{find_index, get_or, have_one_name, inl, inr,
 use Rattle.mv_linker.proofs.Common.{slice_get-get_or, slice_get_within, suc, sym, true, unwrap_or, with_table, with_tables, zero}
 use Rattle.std.proofs.lemmas.List.Quantifiers.{position-Some}
 use Rattle.mv_linker.proofs.Lemmas.{Among, found_at}
-use Rattle.mv_linker.proofs.Found.{any_found, position-find_index, some_passes}
+use Rattle.mv_linker.proofs.Found.{any_found, position-find_index}
 use Rattle.mv_linker.proofs.Members.{first_differs, rest_differ, turned}
 use Rattle.mv_linker.proofs.Joining.Scopes.{get-with_table, kept-there}
+use Rattle.std.proofs.lemmas.Map.Keys.{any_passes_from_place}
 
 -- a module of another name takes another place
 other-place : (ms : List Module) (n x : Module) (p : ℕ) → slice_get ms p ≡ Some x → have_one_name n x ≡ false → (place_for ms n == p) ≡ false
@@ -41,7 +42,7 @@ bundle-at old (m ∷ ns) (suc k) p n apart at placed = bundle-at (with_table old
 -- where no place passes, none is the one asked for
 none-placed : (q : ℕ) (places : List ℕ) → position (λ p. p == q) places ≡ None → (k p : ℕ) → slice_get places k ≡ Some p → (p == q) ≡ false
 none-placed q places none k p at = false_from_ne_true (p == q) (λ is.
-    let some = any_found (λ p. p == q) places (some_passes (λ p. p == q) places k p at is) in
+    let some = any_found (λ p. p == q) places (any_passes_from_place (λ p. p == q) places k p at is) in
     none-some some.0 (sym none ∙ position-find_index (λ p. p == q) places ∙ some.1))
 
 none-newest : (q : ℕ) (ns : List Module) (places : List ℕ) → ((k p : ℕ) → slice_get places k ≡ Some p → (p == q) ≡ false) → newest_at q ns places None ≡ None

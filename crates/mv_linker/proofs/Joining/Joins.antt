@@ -3,13 +3,15 @@ use Rattle.mv_linker.proofs.Common.{ℕ, ◌==◌, ◌∙◌, ◌≡◌, InBound
 use Rattle.mv_linker.proofs.Common.{find_index, function_is_there, have_one_name, inl, inr, is_some, length, length-map, list_all, modules_are_there, modules_in, names_hold, not, offered}
 use Rattle.mv_linker.proofs.Common.{position, refl, slice_get, slice_get_within, structs_are_there, sym, tables_in, true}
 use Rattle.std.proofs.lemmas.Bool.{not-false}
-use Rattle.mv_linker.proofs.Lemmas.{among-at, among-result, differ-result, each, there_at}
+use Rattle.mv_linker.proofs.Lemmas.{among-at, among-result, differ-result, all_at, element_at}
 use Rattle.mv_linker.proofs.Joining.Assembling.{joining-offered}
 use Rattle.mv_linker.proofs.Joining.Bundled.{bundle-at, old-at, place-at}
 use Rattle.mv_linker.proofs.Cycles.DependencyLemmas.{length-places}
-use Rattle.mv_linker.proofs.Found.{position-find_index, some_passes}
+use Rattle.mv_linker.proofs.Found.{position-find_index}
 use Rattle.mv_linker.proofs.ListTests.{find_index-none}
 use Rattle.mv_linker.proofs.Joining.StillThere.{Joining}
+use Rattle.std.proofs.lemmas.Map.Keys.{any_passes_from_place}
+use Rattle.mv_linker.specs.Relinked.{IsFitting}
 
 -- no value
 pub none-of : {A : Type 0} (o : Option A) → is_some o ≡ false → o ≡ None
@@ -19,7 +21,7 @@ none-of o e = grind (arith, e)
 pub position-there : (q k : ℕ) (places : List ℕ) → slice_get places k ≡ Some q → IsSome (position (λ p. p == q) places)
 position-there q k places at =
     ap is_some (position-find_index (λ p. p == q) places)
-    ∙ not-false (is_some (find_index (λ p. p == q) places)) (find_index-none (λ p. p == q) places ∙ ap not (some_passes (λ p. p == q) places k q at (eq-eqb q q refl)))
+    ∙ not-false (is_some (find_index (λ p. p == q) places)) (find_index-none (λ p. p == q) places ∙ ap not (any_passes_from_place (λ p. p == q) places k q at (eq-eqb q q refl)))
 
 -- a bundle takes as many places as it has modules
 pub placed-length : (s : Scope) → length s.places.items ≡ length s.new.now
@@ -29,20 +31,24 @@ placed-length s = ap length s.placed ∙ length-places (tables_in s.store.now) (
 pub names-hold : (modules : List Module) (place : ℕ) (m : Module) → Links modules → slice_get modules place ≡ Some m → names_hold modules m ≡ true
 names-hold modules place m links at =
     and_from _ _
-    (and_from _ _ (each (λ m. modules_are_there modules m (length m.module_handles)) modules place m links.modules at)
-    (each (λ m. structs_are_there modules m 0 m.struct_handles) modules place m links.structs at))
-    (each (λ m. list_all (function_is_there modules m) m.function_handles) modules place m links.functions at)
+    (and_from _ _ (all_at (λ m. modules_are_there modules m (length m.module_handles)) modules place m links.modules at)
+    (all_at (λ m. structs_are_there modules m 0 m.struct_handles) modules place m links.structs at))
+    (all_at (λ m. list_all (function_is_there modules m) m.function_handles) modules place m links.functions at)
+
+-- a bundle that fits
+pub fitting : (s : Scope) → IsFitting s → Joining (tables_in s.store.now) (offered s.new.now)
+fitting s fits = joining-offered s.store.now s.new.now fits.store fits.passed fits.once fits.compatible
 
 module _ (s : Scope) (joins : Joins s) where
   pub joining : Joining (tables_in s.store.now) (offered s.new.now)
-  joining = joining-offered s.store.now s.new.now joins.store joins.passed joins.once joins.compatible
+  joining = fitting s joins.fits
 
   pub one-name : all_differ have_one_name (modules_in s) ≡ true
-  one-name = differ-result (tables_in s.store.now) (offered s.new.now) joins.store.once
+  one-name = differ-result (tables_in s.store.now) (offered s.new.now) joins.fits.store.once
 
   -- a module of the bundle stands at its place
   pub bundled-at : (k p : ℕ) (n : Module) → slice_get (offered s.new.now) k ≡ Some n → slice_get s.places.items k ≡ Some p → slice_get (modules_in s) p ≡ Some n
-  bundled-at k p n at placed = bundle-at (tables_in s.store.now) (offered s.new.now) k p n joins.once at (sym (ap (λ l. slice_get l k) s.placed) ∙ placed)
+  bundled-at k p n at placed = bundle-at (tables_in s.store.now) (offered s.new.now) k p n joins.fits.once at (sym (ap (λ l. slice_get l k) s.placed) ∙ placed)
 
   -- and the old one, where none of the bundle does
   pub kept-at : (q : ℕ) → position (λ p. p == q) s.places.items ≡ None → slice_get (modules_in s) q ≡ slice_get (tables_in s.store.now) q
@@ -51,19 +57,19 @@ module _ (s : Scope) (joins : Joins s) where
   -- each module of the bundle has its place
   pub placed-at : (k : ℕ) (n : Module) → slice_get (offered s.new.now) k ≡ Some n → (p : ℕ) × (slice_get s.places.items k ≡ Some p)
   placed-at k n at =
-      there_at s.places.items k (omega (arith, slice_get_within (offered s.new.now) k n at, ap length s.placed ∙ length-places (tables_in s.store.now) (offered s.new.now)))
+      element_at s.places.items k (omega (arith, slice_get_within (offered s.new.now) k n at, ap length s.placed ∙ length-places (tables_in s.store.now) (offered s.new.now)))
 
   -- what stands at the place of one of the bundle
   pub same-bundled : (k q : ℕ) → position (λ p. p == q) s.places.items ≡ Some k → slice_get (offered s.new.now) k ≡ slice_get (modules_in s) q
   same-bundled k q found =
       let at = place-at q k s.places.items found in
       let long = ap length s.placed ∙ length-places (tables_in s.store.now) (offered s.new.now) in
-      let n = there_at (offered s.new.now) k (omega (arith, slice_get_within s.places.items k q at, long)) in
+      let n = element_at (offered s.new.now) k (omega (arith, slice_get_within s.places.items k q at, long)) in
       n.1 ∙ sym (bundled-at k q n.0 n.1 at)
 
   -- the indices of each module are in bounds
   pub bounds-at : (q : ℕ) (m : Module) → slice_get (modules_in s) q ≡ Some m → InBounds m
-  bounds-at q m at = elim (among-result (tables_in s.store.now) (offered s.new.now) m joins.store.once (among-at (modules_in s) q m at)) [
+  bounds-at q m at = elim (among-result (tables_in s.store.now) (offered s.new.now) m joins.fits.store.once (among-at (modules_in s) q m at)) [
     | inl new ↦ joining.new_bounds m new
     | inr old ↦ joining.bounds m old.0
   ]

@@ -3,7 +3,7 @@ use Rattle.mv_linker.proofs.Common.{[], ℕ, ◌<◌, ◌>>=◌, ◌∙◌, ◌�
 use Rattle.mv_linker.proofs.Common.{find_index, first_so, have_one_name, inl, inr, is_module, is_some, length, module_place, none-some, option_map_or, own_name, place_for, places_in, refl, same_Some, second_so}
 use Rattle.mv_linker.proofs.Common.{replaced_in, slice_get, slice_get_within, suc, sym, true, unwrap_or, with_table, zero}
 use Rattle.std.proofs.Common.{true≢false}
-use Rattle.mv_linker.proofs.Lemmas.{all-among, among-at, found_at, have_one_name-from, is_module-is, one_test}
+use Rattle.mv_linker.proofs.Lemmas.{all-among, among-at, found_at, have_one_name-from, is_module-is}
 use Rattle.mv_linker.proofs.Members.{first_differs, rest_differ}
 use Rattle.mv_linker.proofs.Joining.Scopes.{find-with_table, length-with_table, there}
 

@@ -3,7 +3,7 @@ use Rattle.mv_linker.proofs.Common.{[], ℕ, ◌++◌, ◌+◌, ◌<◌, ◌==�
 use Rattle.mv_linker.proofs.Common.{ap, arith, cases_Bool, cases_cond, cond, false, find_index, first_so, found_among, have_one_name, inl, inr, is_module, is_some, length, map-append}
 use Rattle.mv_linker.proofs.Common.{map-map, module_place, nat_tests, newest_at, offered, option_map, option_map_or, own_name, place_for, places_in, published_of, published_one, refl}
 use Rattle.mv_linker.proofs.Common.{second_so, slice_get, suc, sym, tables_in, take, true, unwrap_or, with_module, with_modules, with_table, with_tables, zero}
-use Rattle.mv_linker.proofs.Lemmas.{have_one_name-from, have_one_name-is, is_module-is, one_test, there_at}
+use Rattle.mv_linker.proofs.Lemmas.{have_one_name-from, have_one_name-is, is_module-is, one_test, element_at}
 
 -- ---- the tables of a store with a bundle
 
@@ -142,7 +142,7 @@ within_tables (p ∷ ps) (suc k) m e = omega (arith, within_tables ps k m e)
 
 -- where none of the bundle stands, the store has a module
 pub kept-below : (ps : List PublishedModule) (ns : List Module) (k : ℕ) → newest_at k ns (places_in (tables_in ps) ns) None ≡ None → k < length (with_tables (tables_in ps) ns) → k < length ps
-kept-below ps ns k none h = let x = there_at (with_tables (tables_in ps) ns) k h in within_tables ps k x.0 (sym (kept-there (tables_in ps) ns k none) ∙ x.1)
+kept-below ps ns k none h = let x = element_at (with_tables (tables_in ps) ns) k h in within_tables ps k x.0 (sym (kept-there (tables_in ps) ns k none) ∙ x.1)
 
 -- ---- the places of the modules of a bundle that were looked at
 

@@ -1,11 +1,11 @@
 -- What the old modules name stays there once a bundle joins that replaces what it may.
-use Rattle.mv_linker.proofs.Common.{[], ℕ, ◌&&◌, ◌<◌, ◌∙◌, ◌∷◌, ◌≡◌, Abilities, Bool, List, Module, ModuleName, None, Option, OwnsStructs, Some, StructDefinition, StructName, and_parts}
+use Rattle.mv_linker.proofs.Common.{[], ℕ, ◌&&◌, ◌<◌, ◌∙◌, ◌∷◌, ◌≡◌, Abilities, Bool, List, Module, None, Option, OwnsStructs, Some, StructDefinition, StructName, and_parts}
 use Rattle.mv_linker.proofs.Common.{ap, ap₂, arith, beq, booleans_Decides, both_there, bytes_eq, bytes_eq-Decides, declared_in, false, find_index, first_so, is_struct, name_of_struct}
 use Rattle.mv_linker.proofs.Common.{option_map_or, own_name, refl, same_abilities, same_fields, same_Some, same_struct, same_struct_definition, second_so, slice_get, struct_abilities}
 use Rattle.mv_linker.proofs.Common.{structs_stay, subst, suc, sym, true, zero}
 use Rattle.std.proofs.lemmas.Option.{option_and_then_some}
 use Rattle.mv_linker.proofs.Lemmas.{found_at, map_as_bind, struct_named_so}
-use Rattle.mv_linker.proofs.NameLemmas.{same_struct-same}
+use Rattle.mv_linker.proofs.NameLemmas.{same_struct-same, named_in}
 use Rattle.mv_linker.proofs.Found.{find_first, found_first}
 
 -- ---- tests of two parts that are there
@@ -50,10 +50,6 @@ stayed-at m n (x ∷ ds) (y ∷ es) j zero d e h p l q = absurd (omega (arith, l
 stayed-at m n (x ∷ ds) (y ∷ es) zero (suc k) d e h p l q = (x, refl, subst (λ z. same_struct_definition m x n z ≡ true) (same_Some y e q) (first_so (same_struct_definition m x n y) (structs_stay m ds n es) h))
 stayed-at m n (x ∷ ds) (y ∷ es) (suc j) (suc k) d e h p l q = stayed-at m n ds es j k d e (second_so (same_struct_definition m x n y) (structs_stay m ds n es) h) p (omega (arith, l)) q
 
--- a struct's name by its parts
-abbrev name_with : ModuleName → List ℕ → StructName
-name_with home name = record { home = home; name = name }
-
 so-struct : (m : Module) (name : StructName) (d : StructDefinition) → name_of_struct m d ≡ Some name → is_struct m name d ≡ true
 so-struct m name d e = subst (λ (x : Option StructName). option_map_or (λ own. same_struct own name) x false ≡ true) (sym e) (same_struct-same name)
 
@@ -81,7 +77,7 @@ module _ (m n : Module) (r : Replaces m n) where
       let b = both-there (λ (a b : StructName). bytes_eq a.name b.name) (name_of_struct m d) (name_of_struct n e) (parts-stay d e h).0 in
       let homes : b.0.home ≡ b.1.home = same_Some b.0.home b.1.home (sym (r.owns j d b.0 p b.2) ∙ r.named ∙ r.new_owns j e b.1 q b.3) in
       let names : b.0.name ≡ b.1.name = (bytes_eq-Decides b.0.name b.1.name).0 b.4 in
-      (b.0, b.2, b.3 ∙ ap Some (sym (ap₂ name_with homes names)))
+      (b.0, b.2, b.3 ∙ ap Some (sym (ap₂ named_in homes names)))
 
   -- an old struct is found at its place
   pub struct-stays : (name : StructName) (k : ℕ) → find_index (is_struct m name) m.structs ≡ Some k → find_index (is_struct n name) n.structs ≡ Some k

@@ -1,21 +1,17 @@
 -- Where the structs of a bundle's handles are defined, once it joins.
 use Rattle.mv_linker.proofs.Common.{[], ℕ, ◌++◌, ◌+◌, ◌==◌, ◌>>=◌, ◌∙◌, ◌∷◌, ◌≡◌, AllZip, AreDefined, AreFoundFor, AreNamesOf, Bundled, Defined, Definition, IsDefined, IsFoundAt, IsSized}
 use Rattle.mv_linker.proofs.Common.{IsSome, IsStructAt, List, Module, Names, None, Published, Some, StructDefinition, StructName, ap, arith, definition_of, find_index}
-use Rattle.mv_linker.proofs.Common.{get_or_from_slice_get, is_some, is_struct, length, list_all, module_named, name_at, name_of_struct, none-some, own_name, places_in, position, refl}
+use Rattle.mv_linker.proofs.Common.{get_or_from_slice_get, is_some, is_struct, list_all, module_named, name_at, name_of_struct, none-some, own_name, places_in, position, refl}
 use Rattle.mv_linker.proofs.Common.{same_Some, slice_get, slice_get_within, structs_are_there, subst, suc, sym, take, take_more, true, with_tables, zero}
-use Rattle.mv_linker.proofs.Lemmas.{among-at, at-among, bundle-there, differ-result, found_at, module_place-is, own-definition, so-named, struct_named_so, there_at}
+use Rattle.mv_linker.proofs.Lemmas.{among-at, at-among, bundle-there, differ-result, found_at, module_place-is, own-definition, so-named, struct_named_so, element_at}
 use Rattle.mv_linker.proofs.Joining.Bundled.{bundle-at, old-at, place-at}
 use Rattle.mv_linker.proofs.Cycles.DependencyLemmas.{length-places}
 use Rattle.mv_linker.proofs.StructSizes.JoinedSizes.{keeps-joined}
 use Rattle.mv_linker.proofs.StructSizes.SizesStay.{definition_made, size-stays}
 use Rattle.mv_linker.proofs.Joining.StillThere.{Joining}
+use Rattle.std.proofs.lemmas.Slice.Zip.{AllZip-long}
 
 -- ---- two lists, element by element
-
-pub zip-length : {A B : Type 0} (R : A → B → Type 0) (xs : List A) (ys : List B) → AllZip R xs ys → length ys ≡ length xs
-zip-length R [] [] h = refl
-zip-length R (x ∷ xs) (y ∷ ys) h = ap suc (zip-length R xs ys h.1)
-zip-length R _ _ h = absurd h
 
 -- what an element of the second list has in the first
 zip-back : {A B : Type 0} (R : A → B → Type 0) (xs : List A) (ys : List B) (k : ℕ) (y : B) → AllZip R xs ys → slice_get ys k ≡ Some y → (x : A) × (slice_get xs k ≡ Some x) × R x y
@@ -55,7 +51,7 @@ module _ (old ns : List Module) (j : Joining old ns) (linked : list_all (λ m. s
   defined-one : (m : Module) (h : ℕ) (d : Definition) (f : Defined) → IsStructAt (with_tables old ns) m h d → IsFoundAt old (places_in old ns) d f → IsDefined (with_tables old ns) ns m h f
   defined-one m h d (Bundled k index) s (found, same) =
       let place : slice_get (places_in old ns) k ≡ Some d.place = place-at d.place k (places_in old ns) found in
-      let n = there_at ns k (omega (arith, slice_get_within (places_in old ns) k d.place place, length-places old ns)) in
+      let n = element_at ns k (omega (arith, slice_get_within (places_in old ns) k d.place place, length-places old ns)) in
       let home : s.home ≡ n.0 = same_Some s.home n.0 (sym s.there ∙ bundle-at old ns k d.place n.0 j.apart n.1 place) in
       (s.name, s.named, ap (name_at ns k) same ∙ name-found ns k d.index s.home s.name (n.1 ∙ ap (λ x. Some x) (sym home)) s.index)
   defined-one m h d (Published size) s (none, at) =
@@ -81,11 +77,11 @@ module _ (old ns : List Module) (j : Joining old ns) (linked : list_all (λ m. s
   pub all-defined : (names : List Names) (found : List (List Defined)) → AreNamesOf (with_tables old ns) ns names → AllZip (AreFoundFor old (places_in old ns)) names found
       → AreDefined (with_tables old ns) ns found
   all-defined names found n f = record {
-    len = zip-length (AreFoundFor old (places_in old ns)) names found f ∙ n.len;
+    len = AllZip-long (AreFoundFor old (places_in old ns)) names found f ∙ n.len;
     own = own-defined;
     count = λ i m fs at of.
         let x = zip-back (AreFoundFor old (places_in old ns)) names found i fs f of in
-        zip-length (IsFoundAt old (places_in old ns)) x.0.structs.items fs x.2 ∙ (n.each i m x.0 at x.1).structs.len;
+        AllZip-long (IsFoundAt old (places_in old ns)) x.0.structs.items fs x.2 ∙ (n.each i m x.0 at x.1).structs.len;
     each = λ i h m fs d at of d_at.
         let x = zip-back (AreFoundFor old (places_in old ns)) names found i fs f of in
         let e = zip-back (IsFoundAt old (places_in old ns)) x.0.structs.items fs h d x.2 d_at in

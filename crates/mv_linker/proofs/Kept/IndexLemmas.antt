@@ -1,8 +1,7 @@
 -- The modules of a bundle are found in maps as the lists say.
-use Rattle.mv_linker.proofs.Common.{[], ℕ, ◌&&◌, ◌++◌, ◌||◌, ◌∙◌, ◌∷◌, ◌≡◌, ◌≤◌, AreNamesIn, ArePlacesOf, Bool, Kept, List, Module, ModuleName, Name, None, Option, PutsName, PutsPlace}
+use Rattle.mv_linker.proofs.Common.{[], ℕ, ◌&&◌, ◌++◌, ◌||◌, ◌∙◌, ◌∷◌, ◌≡◌, AreNamesIn, ArePlacesOf, Bool, Kept, List, Module, ModuleName, Name, None, Option, PutsName, PutsPlace}
 use Rattle.mv_linker.proofs.Common.{Some, all_differ, ap, arith, cases_Bool, cond, false, found_among, have_one_name, inl, inr, is_module, is_some, length, list_any, lookup, name_in, not}
-use Rattle.mv_linker.proofs.Common.{option_map_or, option_or, own_name, refl, same_module, sym, take, true}
-use Rattle.std.proofs.lemmas.List.{length-take-le}
+use Rattle.mv_linker.proofs.Common.{option_map_or, option_or, own_name, refl, same_module, sym, true}
 use Rattle.std.proofs.lemmas.List.Folds.{list_any-append}
 use Rattle.mv_linker.proofs.Kept.Keyed.{same_module-turns}
 
@@ -86,7 +85,3 @@ seen-more old new kept k own so is_new next seen puts is named e = record {
   where
     either : (a b : Bool) → cond a true b ≡ (b || (a || false))
     either a b = grind arith
-
--- the first so many are so many
-pub length-taken : {A : Type 0} (xs : List A) (k : ℕ) → k ≤ length xs → length (take k xs) ≡ k
-length-taken xs k h = length-take-le k xs h

@@ -7,7 +7,7 @@ use Rattle.mv_linker.proofs.Common.{[], ℕ, ◌&&◌, ◌∙◌, ◌∷◌, ◌
 use Rattle.mv_linker.proofs.Common.{Token, ap, ap₂, arith, below, bytes_eq, cond, false, find_index, first_so, function_handle_in, function_place, length, ltb-true, name_of_function}
 use Rattle.mv_linker.proofs.Common.{option_map, option_map_or, parameter_tokens, position, refl, second_so, slice_get, slice_get_within, subst, suc, sym, true, unwrap_or}
 use Rattle.mv_bounds.proofs.FunctionLemmas.{handle_below, signatures_below}
-use Rattle.mv_linker.proofs.Lemmas.{each, there_at}
+use Rattle.mv_linker.proofs.Lemmas.{all_at, element_at}
 use Rattle.mv_linker.proofs.Found.{position-find_index}
 
 -- the identifier and the parameters of a function definition
@@ -20,13 +20,13 @@ record Parts (m : Module) (d : FunctionDefinition) : Type 0 where
 -- they are there, where indices are in bounds
 defined-parts : (m : Module) → InBounds m → (f : ℕ) (d : FunctionDefinition) → slice_get m.functions f ≡ Some d → Parts m d
 defined-parts m bounds f d at =
-    let handle = there_at m.function_handles d.handle (handle_below m bounds f d at).0 in
+    let handle = element_at m.function_handles d.handle (handle_below m bounds f d at).0 in
     let h = handle.0 in
-    let whole : function_handle_in m h ≡ true = each (function_handle_in m) m.function_handles d.handle h bounds.function_handles handle.1 in
+    let whole : function_handle_in m h ≡ true = all_at (function_handle_in m) m.function_handles d.handle h bounds.function_handles handle.1 in
     let first = first_so (below h.module m.module_handles && below h.name m.identifiers && below h.parameters m.signatures) (below h.results m.signatures) whole in
     let names = first_so (below h.module m.module_handles && below h.name m.identifiers) (below h.parameters m.signatures) first in
-    let name = there_at m.identifiers h.name (ltb-true h.name (length m.identifiers) (second_so (below h.module m.module_handles) (below h.name m.identifiers) names)) in
-    let tokens = there_at m.signatures h.parameters (signatures_below m bounds d.handle h handle.1).0 in
+    let name = element_at m.identifiers h.name (ltb-true h.name (length m.identifiers) (second_so (below h.module m.module_handles) (below h.name m.identifiers) names)) in
+    let tokens = element_at m.signatures h.parameters (signatures_below m bounds d.handle h handle.1).0 in
     record {
       identifier = name.0;
       tokens = tokens.0;
@@ -74,5 +74,5 @@ pub interface-at : (modules : List Module) (place index : ℕ) (m : Module) (int
     → slice_get interfaces index ≡ Some i → IsInterfaceAt modules place index i
 interface-at modules place index m interfaces i at are i_at =
     let low = slice_get_within interfaces index i i_at in
-    let d = there_at m.functions index (omega (arith, low, are.len)) in
+    let d = element_at m.functions index (omega (arith, low, are.len)) in
     record { home = m; definition = d.0; home_is = at; definition_is = d.1; interface = are.each index d.0 i d.1 i_at }

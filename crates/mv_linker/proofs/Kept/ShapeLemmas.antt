@@ -7,12 +7,12 @@ use Rattle.mv_linker.proofs.Common.{[], ℕ, ◌++◌, ◌+◌, ◌<◌, ◌∙�
 use Rattle.mv_linker.proofs.Common.{OfLeaf, OfStruct, Option, Part, Plain, Reference, Some, Struct, StructDefinition, StructName, Token, and_parts, ap, append-nil, append_assoc, false}
 use Rattle.mv_linker.proofs.Common.{get_or, is_some, leb-true, length, length-map, list_all, map, map-append, module_name, option_map, option_map_or, part_by, parts_by, refl, same_Some}
 use Rattle.mv_linker.proofs.Common.{shapes_by, slice_get, slice_get-map, slice_get_past, struct_definition_fits, struct_name, subst, sym, take, take_all, take_more, true}
-use Rattle.mv_linker.proofs.Lemmas.{each, past_from, struct_parts}
+use Rattle.mv_linker.proofs.Lemmas.{all_at, past_from, struct_parts}
 
 -- a struct has at most 32 fields
 pub few-fields : (m : Module) (i : ℕ) (d : StructDefinition) → list_all (struct_definition_fits m.version) m.structs ≡ true → slice_get m.structs i ≡ Some d → length d.fields ≤ 32
 few-fields m i d h at =
-    let fits : struct_definition_fits m.version d ≡ true = each (struct_definition_fits m.version) m.structs i d h at in
+    let fits : struct_definition_fits m.version d ≡ true = all_at (struct_definition_fits m.version) m.structs i d h at in
     leb-true (length d.fields) 32 (and_parts _ _ (and_parts _ _ fits).0).1
 
 -- the module of a struct's name is one that a handle names

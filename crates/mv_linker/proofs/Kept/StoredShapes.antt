@@ -2,7 +2,7 @@
 use Rattle.mv_linker.proofs.Common.{ℕ, ◌<◌, ◌>>=◌, ◌∙◌, ◌≡◌, ◌≤◌, AreCodesOf, AreFieldsAt, Code, Definition, HasText, IsStore, List, Module, None, Option, Part, PublishedModule, Some, ap}
 use Rattle.mv_linker.proofs.Common.{arith, false, few_structs, has_key, is_keyed, length, length-map, option_map_or, refl, slice_get, slice_get-map, slice_get_past, slice_get_within}
 use Rattle.mv_linker.proofs.Common.{structs_in, subst, sym, tables_in, unwrap_or}
-use Rattle.mv_linker.proofs.Lemmas.{among-at, map_or-is, past_from, there_at}
+use Rattle.mv_linker.proofs.Lemmas.{among-at, map_or-is, past_from, element_at}
 use Rattle.mv_linker.proofs.Joining.Assembling.{passed-among}
 use Rattle.mv_linker.proofs.LinkedCode.StoredCodes.{module-there}
 
@@ -34,7 +34,7 @@ module _ (modules : List Module) (codes : List Code) (are : AreCodesOf modules c
       by_parts m m_at len None e = rw m_at (slice_get_past m.structs d.index (past_from code.shapes m.structs d.index (sym len) e))
       by_parts m m_at len (Some parts) e =
           let low : d.index < length code.shapes = slice_get_within code.shapes d.index parts e in
-          let x = there_at m.structs d.index (omega (arith, low, len)) in
+          let x = element_at m.structs d.index (omega (arith, low, len)) in
           record { home = m; definition = x.0; there = m_at; defined = x.1; fields = (are.each d.place m code m_at at).shapes.each d.index x.0 parts x.1 e }
 
   pub key-known : (d : Definition) (code : Code) → slice_get codes d.place ≡ Some code → unwrap_or (slice_get code.keys.items d.index) false ≡ is_keyed modules d

@@ -6,9 +6,10 @@ use Rattle.mv_linker.proofs.Common.{arith, identifier_or_none, name_at, name_in,
 use Rattle.mv_linker.proofs.Common.{slice_get-map, subst, sym, tables_in}
 use Rattle.mv_linker.proofs.Lemmas.{among-at, own-definition, owns-structs, struct_parts}
 use Rattle.mv_linker.proofs.Joining.Assembling.{passed-among}
-use Rattle.mv_linker.proofs.LinkedCode.Linkable.{at-all, mapped-at}
-use Rattle.mv_linker.proofs.OwnDefinitions.{named_in}
+use Rattle.mv_linker.proofs.LinkedCode.Linkable.{at-all}
 use Rattle.mv_linker.proofs.LinkedCode.StoredCodes.{module-there}
+use Rattle.mv_bounds.proofs.Entries.{mapped-at}
+use Rattle.mv_linker.proofs.NameLemmas.{named_in}
 
 -- an identifier of a module's structs
 identifiers-at : (modules : List Module) (codes : List Code) (place index : ℕ) (m : Module) (code : Code) → AreCodesOf modules codes → slice_get modules place ≡ Some m

@@ -1,10 +1,11 @@
 -- What a module's handles stand for stays where sizes and places do, and no function handle leads to a replaced module.
-use Rattle.mv_linker.proofs.Common.{ℕ, ◌>>=◌, ◌∙◌, ◌≡◌, Bool, Callee, Entered, FunctionHandle, List, Module, ModuleName, None, Option, Some, Token, callee_of, false, function_fits}
+use Rattle.mv_linker.proofs.Common.{ℕ, ◌>>=◌, ◌∙◌, ◌≡◌, Bool, Entered, FunctionHandle, List, Module, ModuleName, None, Option, Some, Token, callee_of, false, function_fits}
 use Rattle.mv_linker.proofs.Common.{function_is_there, function_named, function_place, linked_module, list_all, module_name, module_named, module_place, on_bind, option_map_or, refl}
-use Rattle.mv_linker.proofs.Common.{slice_get, true, width_of_tokens}
+use Rattle.mv_linker.proofs.Common.{slice_get, true}
 use Rattle.std.proofs.lemmas.Option.{option_and_then_some}
-use Rattle.mv_linker.proofs.Lemmas.{bind_bind, each, passing}
+use Rattle.mv_linker.proofs.Lemmas.{bind_bind, all_at, passing}
 use Rattle.mv_linker.proofs.LinkedCode.CodeStays.{HandlesStay, WidthsStay, module-stays, tokens-stay}
+use Rattle.mv_linker.proofs.LinkedCode.Calls.{callee_with}
 
 -- names keep their places, and the structs that old modules name keep their words
 pub record Stays (old result : List Module) : Type 0 where
@@ -47,9 +48,6 @@ from_name p home name = do
   others ← slice_get home.signatures d.locals
   Some (entered p home index others)
 
-abbrev callee_with : List Module → Module → List Token → Entered → Callee
-callee_with modules m parameters e = record { function = e.function; arguments = width_of_tokens modules m parameters; others = width_of_tokens modules e.home e.others }
-
 module _ (old result : List Module) (m home : Module) (p : ℕ) (own : WidthsStay old result m) (other : WidthsStay old result home) where
   by_parameters : (identifier : Option (List ℕ)) (o : Option (List Token)) → (o >>= λ parameters. (identifier >>= λ name. from_name p home name) >>= λ e. Some (callee_with result m parameters e))
       ≡ (o >>= λ parameters. (identifier >>= λ name. from_name p home name) >>= λ e. Some (callee_with old m parameters e))
@@ -62,7 +60,7 @@ handles-stay old result q m stays at there calls = record { widths = stays.width
     by_handle : (i : ℕ) (o : Option FunctionHandle) → slice_get m.function_handles i ≡ o → callee_of result m i ≡ callee_of old m i
     by_handle i None e = rw e refl
     by_handle i (Some handle) e =
-        let h = home-of old m handle (each (function_is_there old m) m.function_handles i handle there e) in
+        let h = home-of old m handle (all_at (function_is_there old m) m.function_handles i handle there e) in
         let found : module_place result h.name ≡ Some h.place = stays.places h.name h.place h.found in
         let stays_at : slice_get result h.place ≡ Some h.home = calls i handle h.name h.place e h.named h.found ∙ h.at in
         rw (e, h.named, found, stays_at, h.found, h.at) (by_parameters old result m h.home h.place (stays.widths q m at) (stays.widths h.place h.home h.at) (slice_get m.identifiers handle.name) (slice_get m.signatures handle.parameters))

@@ -11,9 +11,10 @@ use Rattle.mv_linker.proofs.Cycles.DependantLemmas.{names-none}
 use Rattle.mv_linker.proofs.Joining.Joins.{joining, kept-at}
 use Rattle.mv_linker.proofs.Cycles.DependencyLemmas.{count-places, places-within}
 use Rattle.mv_linker.proofs.Joining.Bundled.{place-at}
-use Rattle.mv_linker.proofs.LinkedCode.Linkable.{are-to-link, at-all, mapped-at}
+use Rattle.mv_linker.proofs.LinkedCode.Linkable.{are-to-link, at-all}
 use Rattle.mv_linker.proofs.LinkedCode.RelinkingLemmas.{IsRelinking}
 use Rattle.mv_linker.proofs.LinkedCode.JoinedCodes.{code-kept}
+use Rattle.mv_bounds.proofs.Entries.{mapped-at}
 
 -- ---- places
 
@@ -139,5 +140,5 @@ module _ (s : Scope) (joins : Joins s) (dependants : List Dependant) (are : AreD
           let there : slice_get (tables_in s.store.now) q ≡ Some m = sym (kept-at s joins q e) ∙ at in
           elim (are.others q) [
             | inl linked ↦ absurd (was_linked q none (Contains-append_right s.places.items more q linked))
-            | inr apart ↦ (there, λ code is. code-kept (tables_in s.store.now) (offered s.new.now) (joining s joins) joins.store.links q m there (names-none s joins m (apart m there e)) code is)
+            | inr apart ↦ (there, λ code is. code-kept (tables_in s.store.now) (offered s.new.now) (joining s joins) joins.fits.store.links q m there (names-none s joins m (apart m there e)) code is)
           ]

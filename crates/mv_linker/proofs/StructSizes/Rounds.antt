@@ -5,7 +5,7 @@ use Rattle.mv_linker.proofs.Common.{arith, both_ways, cond, cond_some, definitio
 use Rattle.mv_linker.proofs.Common.{length-map, list_all, lt-leb, lt-ltb, ltb, ltb-true, map, name_at, name_of_struct, nat_tests, next_rows, none-some, on_bind, option_map, refl, row_of}
 use Rattle.mv_linker.proofs.Common.{rows_after, same_Some, size_at, size_of_struct, size_of_token, slice_get, slice_get-map, slice_get_past, slice_get_within, small_size, struct_is_small}
 use Rattle.mv_linker.proofs.Common.{struct_name, subst, suc, sum_of_fields, sym, take, total_of, true, unwrap_or, zero}
-use Rattle.mv_linker.proofs.Lemmas.{all_from, each, name_parts, passing, past_from, there_at}
+use Rattle.mv_linker.proofs.Lemmas.{all_from, all_at, name_parts, passing, past_from, element_at}
 use Rattle.mv_linker.proofs.Found.{some_fails}
 
 -- the rows of the first modules, and of one more
@@ -155,7 +155,7 @@ module _ (modules bundle : List Module) (handles : List (List Defined)) (a : Are
 
   is_at : (i j : ℕ) (name : StructName) → name_at bundle i j ≡ Some name → IsAt i j name
   is_at i j name e = name_parts bundle i j name e (λ m d is is2 e2.
-      let there = there_at handles i (omega (arith, slice_get_within bundle i m is, a.len)) in
+      let there = element_at handles i (omega (arith, slice_get_within bundle i m is, a.len)) in
       record { home = m; definition = d; handles_there = there.0; at_home = is; at_index = is2; at_handles = there.1; named = e2 })
 
   -- the entry of a row
@@ -186,7 +186,7 @@ module _ (modules bundle : List Module) (handles : List (List Defined)) (a : Are
   row_after : (j i : ℕ) (m : Module) → slice_get bundle i ≡ Some m → (row : List (Option Size)) × (slice_get (after (suc j)) i ≡ Some row) × (length row ≡ length m.structs)
   row_after j i m e =
       let low = slice_get_within bundle i m e in
-      let there = there_at handles i (omega (arith, low, a.len)) in
+      let there = element_at handles i (omega (arith, low, a.len)) in
       let rows = after j in
       (row_of rows m there.0, row_at rows bundle handles i m there.0 e there.1, length-map m.structs (λ (d : StructDefinition). size_of_struct rows there.0 d.fields))
 
@@ -207,17 +207,17 @@ module _ (modules bundle : List Module) (handles : List (List Defined)) (a : Are
       let j = entry.0 in
       let at : slice_get (after 8) i ≡ Some r.1 = sym (ap (λ l. slice_get l i) is) ∙ r.2 in
       let low = slice_get_within (after 8) i r.1 at in
-      let m = there_at bundle i (omega (arith, low, length_after 7)) in
+      let m = element_at bundle i (omega (arith, low, length_after 7)) in
       let row = row_after 7 i m.0 m.1 in
       let same : row.0 ≡ r.1 = same_Some row.0 r.1 (sym row.1 ∙ at) in
       let inside = slice_get_within r.1 j entry.1 entry.2 in
       let long : length r.1 ≡ length m.0.structs = sym (ap length same) ∙ row.2 in
-      let d = there_at m.0.structs j (omega (arith, inside, long)) in
+      let d = element_at m.0.structs j (omega (arith, inside, long)) in
       let own = a.own i j m.0 d.0 m.1 d.1 in
       let named : name_at bundle i j ≡ Some own.0 = rw (m.1, d.1) own.1 in
       let unknown : at_place (after 8) i j ≡ None = rw (at, entry.2) (none_is entry.1 entry.3) in
       not_small m.0 d.0 own.0 own.1 (subst (λ (o : Option Size). KnownWithin modules 8 own.0 o) unknown (rows_know 8 (omega arith) i j own.0 named))
-      (each (struct_is_small modules m.0) m.0.structs j d.0 (each (λ m. list_all (struct_is_small modules m) m.structs) bundle i m.0 small m.1) d.1)
+      (all_at (struct_is_small modules m.0) m.0.structs j d.0 (all_at (λ m. list_all (struct_is_small modules m) m.structs) bundle i m.0 small m.1) d.1)
     where
       none_is : (o : Option Size) → is_some o ≡ false → o ≡ None
       none_is o h = grind (arith, h)
@@ -249,13 +249,13 @@ module _ (modules bundle : List Module) (handles : List (List Defined)) (a : Are
         let own = a.own i j m d e f in
         let named : name_at bundle i j ≡ Some own.0 = rw (e, f) own.1 in
         let low = slice_get_within bundle i m e in
-        let row = there_at sizes i (omega (arith, low, long)) in
+        let row = element_at sizes i (omega (arith, low, long)) in
         let r = row_after q i m e in
         let same : r.0 ≡ map (λ (s : Size). Some s) row.0 =
         same_Some r.0 (map (λ (s : Size). Some s) row.0) (sym r.1 ∙ ap (λ l. slice_get l i) is ∙ slice_get-map (map (λ (s : Size). Some s)) sizes i ∙ ap (option_map (map (λ (s : Size). Some s))) row.1) in
         let inside = slice_get_within m.structs j d f in
         let wide : length row.0 ≡ length m.structs = sym (length-map row.0 (λ (s : Size). Some s)) ∙ sym (ap length same) ∙ r.2 in
-        let s = there_at row.0 j (omega (arith, inside, wide)) in
+        let s = element_at row.0 j (omega (arith, inside, wide)) in
         small_from m d own.0 s.0 own.1 (subst (λ (o : Option Size). KnownWithin modules (suc q) own.0 o) (size_at_after (suc q) sizes is i j row.0 s.0 row.1 s.1) (rows_know (suc q) few i j own.0 named)))),
   )
     where

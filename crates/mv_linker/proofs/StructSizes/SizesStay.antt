@@ -5,7 +5,7 @@ use Rattle.mv_linker.proofs.Common.{declared_in, definition_of, false, find_inde
 use Rattle.mv_linker.proofs.Common.{name_of_struct, on_bind, option_map_or, own_name, refl, same_abilities, same_fields, same_Some, same_tag, second_so, slice_get, struct_is_small}
 use Rattle.mv_linker.proofs.Common.{struct_name, structs_are_there, suc, sum_of_fields, sym, token_named, true, value_type_named, zero}
 use Rattle.std.proofs.lemmas.Option.{option_and_then_some, some_pair_parts}
-use Rattle.mv_linker.proofs.Lemmas.{all_from, each, module_place-is, passing, same_bind, struct_parts}
+use Rattle.mv_linker.proofs.Lemmas.{all_from, all_at, module_place-is, passing, same_bind, struct_parts}
 use Rattle.mv_linker.proofs.Joining.Upgraded.{Replaces, both-there, parts-stay, stays-at, struct-stays}
 use Rattle.mv_linker.proofs.TagTests.{same_tag-is}
 use Rattle.mv_linker.proofs.Joining.Resolving.{struct-of-all}
@@ -98,7 +98,7 @@ module _ (old result : List Module) (keeps : Keeps old result) (linked : list_al
   token_stays k same p m at (Reference t) = refl
   token_stays k same p m at (MutableReference t) = refl
   token_stays k same p m at (Plain (OfStruct h)) = same_bind (struct_name m h) (leaves_within k result) (leaves_within k old) (λ name e.
-      same name (handle_defined old m h name (each (λ m. structs_are_there old m 0 m.struct_handles) old p m linked at) e))
+      same name (handle_defined old m h name (all_at (λ m. structs_are_there old m 0 m.struct_handles) old p m linked at) e))
 
   sums_stay : (before after : StructName → Option ℕ) (m : Module) → ((t : Token) → leaves_of after m t ≡ leaves_of before m t) → (fs : List Field)
       → sum_of_fields (leaves_of after m) fs ≡ sum_of_fields (leaves_of before m) fs
@@ -138,8 +138,8 @@ module _ (old result : List Module) (keeps : Keeps old result) (linked : list_al
   -- the structs of an old module stay small
   pub small-stays : (p : ℕ) (m : Module) → slice_get old p ≡ Some m → list_all (struct_is_small old m) m.structs ≡ true → list_all (struct_is_small result m) m.structs ≡ true
   small-stays p m at small = all_from (struct_is_small result m) m.structs (λ j d e.
-      let was = each (struct_is_small old m) m.structs j d small e in
+      let was = all_at (struct_is_small old m) m.structs j d small e in
       let n = passing (λ n. leb n 256) (name_of_struct m d >>= leaves_within 8 old) was in
       on_bind (name_of_struct m d) (leaves_within 8 old) n.0 n.1 (λ name named leaves.
-      let there = handle_defined old m d.handle name (each (λ m. structs_are_there old m 0 m.struct_handles) old p m linked at) named in
+      let there = handle_defined old m d.handle name (all_at (λ m. structs_are_there old m 0 m.struct_handles) old p m linked at) named in
       rw (named, leaves-stay 8 name there.0 there.1 there.2, leaves) n.2))

@@ -2,14 +2,15 @@ use Rattle.std.proofs.Common.{◌≡◌, ap, ◌∙◌, map, false, true, List, 
 use Rattle.clap.specs.Words.{takes, App, HasKind, IsAmong, Text, app_of, fault_of, kind_of}
 use Rattle.clap.specs.declared.error.Error.{Error}
 use Rattle.moveledger.specs.Line.{moveledger}
-use Rattle.moveledger.proofs.Tasks.{among, is_defined, not_true}
+use Rattle.moveledger.proofs.Tasks.{among, is_defined}
 use Rattle.moveledger.proofs.command.command.Goals as goal
+use Rattle.std.proofs.lemmas.Bool.{false_from_ne_true}
 
 apart : false ≡ true → ⊥
 apart e = cc
 
 pub returns-in-Err-2-clause-words : goal.returns-in-Err-2-clause-words
-returns-in-Err-2-clause-words c w = not_true _ (λ t.
+returns-in-Err-2-clause-words c w = false_from_ne_true _ (λ t.
     let words : List Text = map (λ (s : Bor Text). s.now) c.args.words.now in
     let taken : takes (app_of c.in-Ok.command) words ≡ true = ap (λ (a : App). takes a words) c.in-Ok.ensures ∙ t in
     let kind_is = c.kind.ensures ∙ ap (λ e. e.kind) c.in-Err-2.e-is ∙ c.in-Err-2.ensures.passes taken in

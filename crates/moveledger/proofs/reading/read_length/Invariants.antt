@@ -1,7 +1,7 @@
 use Rattle.std.proofs.Common.{◌≡◌, take, length}
 use Rattle.std.specs.Io.KnownBytes.{Consumes}
-use Rattle.moveledger.specs.Reading.{AreHigh}
 use Rattle.moveledger.proofs.reading.read_length.Given as goal
+use Rattle.mv_uleb.specs.Uleb.{AreHigh}
 
 abbrev pub invariant-loop-i : goal.invariant-loop-i
 invariant-loop-i g l = record {

@@ -1,7 +1,8 @@
 use Rattle.mv_certificate.proofs.Common.{below_more, ◌∙◌, IsTrue, arith, rules, subst, sym, same_Some, slice_get_within, IsRefusedIn, all_edges_hold, EdgesHoldAt}
 use Rattle.mv_certificate.proofs.States.{fit-length}
-use Rattle.mv_certificate.proofs.Holds.{each-passes, passes-each, refused_one}
+use Rattle.mv_certificate.proofs.Holds.{each-passes, passes-each}
 use Rattle.mv_certificate.proofs.checking.try_edges.Goals as goal
+use Rattle.mv_type_states.proofs.Functions.{refused-wider}
 
 pub loop-f-preserved : goal.loop-f-preserved
 loop-f-preserved c =
@@ -16,6 +17,6 @@ returns-clause-holds c =
 pub returns-in_err-check_edges_of-clause-refused : goal.returns-in_err-check_edges_of-clause-refused
 returns-in_err-check_edges_of-clause-refused c =
     let refused : IsRefusedIn 11 (IsTrue (all_edges_hold c.args.m.now c.args.c.now)) c.in_err-check_edges_of.field-0.0 =
-    refused_one 11 (EdgesHoldAt c.args.m.now c.loop-f.f c.stated_at-stated.result.now) (IsTrue (all_edges_hold c.args.m.now c.args.c.now)) c.in_err-check_edges_of.field-0.0
+    refused-wider 11 (EdgesHoldAt c.args.m.now c.loop-f.f c.stated_at-stated.result.now) (IsTrue (all_edges_hold c.args.m.now c.args.c.now)) c.in_err-check_edges_of.field-0.0
     (λ all d here. passes-each _ c.args.m.now.functions c.args.c.now all c.loop-f.f d c.stated_at-stated.result.now here c.stated_at-stated.ensures.at) c.in_err-check_edges_of.ensures.refused in
     search (rules, refused)

@@ -1,10 +1,10 @@
 use Rattle.mv_ledger.proofs.Common.{◌∙◌, Err, Some, ap, inl, inr, subst, sym, ToldRejected, Replies, told, request_of, IsShapeless, IsAdmitted, LedgerView, all_of, view_of, Barred}
 use Rattle.mv_ledger.specs.Changes.{IsKept}
-use Rattle.mv_ledger.proofs.Phases.{phase-no-memory}
 use Rattle.mv_ledger.proofs.Ledgers.{ledger-run, ledger-kept}
 use Rattle.mv_ledger.proofs.Replying.{bad_run_replies, rejected_replies, had_sound, had_replies, unchanged, untold_replies}
 use Rattle.mv_ledger.proofs.Ledger.execute.Goals as goal
 use Rattle.mv_ledger.proofs.Ledger.execute.Goals.{then-is_told, else-is_told}
+use Rattle.mv_linker.proofs.Outcomes.{phase-no-memory}
 
 pub invariant_of-self : goal.invariant_of-self
 invariant_of-self c =

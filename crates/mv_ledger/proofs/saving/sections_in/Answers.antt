@@ -1,5 +1,5 @@
 use Rattle.mv_ledger.proofs.Common.{sections_of}
-use Rattle.mv_ledger.specs.Parts.Saving.{struct_of}
+use Rattle.mv_ledger.specs.Parts.Saving.{struct_under}
 use Rattle.mv_ledger.proofs.Saves.Filling.{readable, fill-start, fill-fine, fill-there, fill-few, fill-known, fill-leaves, fill-more}
 use Rattle.mv_ledger.proofs.saving.sections_in.Goals as goal
 
@@ -17,13 +17,13 @@ add_to-requires-clause-there c =
     let modules = c.args.layouts.now in
     let rows = sections_of c.each.rows.items in
     let is = readable modules c.len-modules.ensures.store _ (fill-fine modules c.args.storage.now c.each.entries c.next.new.self rows _ c.in-Some.ensures c.requires c.each.invariant) in
-    fill-there modules c.args.storage.now c.each.entries rows (struct_of c.in-Some.key) is.keyed c.each.invariant
+    fill-there modules c.args.storage.now c.each.entries rows (struct_under c.in-Some.key) is.keyed c.each.invariant
 
 pub add_to-requires-clause-known : goal.add_to-requires-clause-known
-add_to-requires-clause-known c = fill-known c.args.layouts.now c.args.storage.now c.each.entries (sections_of c.each.rows.items) (struct_of c.in-Some.key) c.each.invariant
+add_to-requires-clause-known c = fill-known c.args.layouts.now c.args.storage.now c.each.entries (sections_of c.each.rows.items) (struct_under c.in-Some.key) c.each.invariant
 
 pub add_to-requires-clause-few : goal.add_to-requires-clause-few
-add_to-requires-clause-few c = fill-few c.args.layouts.now c.args.storage.now c.each.entries (sections_of c.each.rows.items) (struct_of c.in-Some.key) c.iter-entries.ensures.few c.each.invariant
+add_to-requires-clause-few c = fill-few c.args.layouts.now c.args.storage.now c.each.entries (sections_of c.each.rows.items) (struct_under c.in-Some.key) c.iter-entries.ensures.few c.each.invariant
 
 pub add_to-requires-clause-leaves : goal.add_to-requires-clause-leaves
 add_to-requires-clause-leaves c =

@@ -1,6 +1,6 @@
 use Rattle.mv_linker.proofs.Common.{ℕ, ◌<◌, ◌∙◌, ◌≡◌, ◌≤◌, AreCodesOf, AreInterfacesOf, Bor, Code, IfSome, Interface, IsStore, IsTrue, List, Module, None, Option, PublishedModule, Some}
 use Rattle.mv_linker.proofs.Common.{ap, arith, bytes_eq, function_place, leb-true, length, length-map, nat_le, option_map, position, refl, slice_get, slice_get_read, subst, sym, tables_in}
-use Rattle.mv_linker.proofs.Lemmas.{among-at, place_below, there_at}
+use Rattle.mv_linker.proofs.Lemmas.{among-at, place_below, element_at}
 use Rattle.mv_linker.proofs.Joining.Assembling.{passed-among}
 use Rattle.mv_linker.proofs.Kept.InterfaceLemmas.{function-found, interface-at}
 use Rattle.mv_linker.proofs.Found.{position-find_index}
@@ -21,7 +21,7 @@ here c =
     let are : AreCodesOf modules codes = subst (λ (s : List PublishedModule). AreCodesOf (tables_in s) codes) c.self.view_is c.self.invariant.2 in
     let low : c.args.place < length codes = omega (arith, are.len, length-map c.args.self.now (λ (p : PublishedModule). p.tables), c.requires) in
     let at : slice_get codes c.args.place ≡ Some c.index.result.now = slice_get_read codes (length codes) c.args.place c.index.result.now refl low c.index.ensures in
-    let m = there_at modules c.args.place (omega (arith, are.len, low)) in
+    let m = element_at modules c.args.place (omega (arith, are.len, low)) in
     record { home = m.0; at = m.1; interfaces = interfaces-known modules codes c.args.place m.0 c.index.result.now are m.1 at }
 
 -- a module of a store defines few functions

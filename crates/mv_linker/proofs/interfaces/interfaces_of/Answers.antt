@@ -1,8 +1,8 @@
 use Rattle.mv_linker.proofs.Common.{[], ◌++◌, ◌+◌, ◌∙◌, ◌∷◌, ◌≡◌, FunctionDefinition, Interface, IsInterfaceOf, Some, ap, arith, inl, inr, length, length-append, refl, same_Some}
 use Rattle.mv_linker.proofs.Common.{slice_get, slice_get_read, subst, sym}
-use Rattle.mv_linker.proofs.LinkedCode.Calls.{last_or_before}
 use Rattle.mv_linker.proofs.Kept.InterfaceLemmas.{interface-made}
 use Rattle.mv_linker.proofs.interfaces.interfaces_of.Goals as goal
+use Rattle.mv_bounds.proofs.Entries.{last_or_before}
 
 pub loop-d-preserved : goal.loop-d-preserved
 loop-d-preserved c =

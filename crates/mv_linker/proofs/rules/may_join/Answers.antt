@@ -2,8 +2,9 @@ use Rattle.mv_linker.proofs.Common.{◌∙◌, ◌≡◌, AreSentBy, Links, List
 use Rattle.mv_linker.proofs.Common.{length, length-map, offered, published_of, refl, subst, sym, tables_in, true, with_modules, with_tables}
 use Rattle.mv_linker.proofs.Joining.Compatible.{compatible-follow, follow-compatible}
 use Rattle.mv_linker.proofs.Joining.Scopes.{offered-tables, scope-tables, with_tables-short}
-use Rattle.mv_linker.proofs.Outcomes.{if_err, on_ok}
+use Rattle.mv_linker.proofs.Outcomes.{if_err}
 use Rattle.mv_linker.proofs.rules.may_join.Goals as goal
+use Rattle.std.proofs.lemmas.Result.{on_ok_weaker}
 
 pub returns-then-not-are_sent_by-clause-refused : goal.returns-then-not-are_sent_by-clause-refused
 returns-then-not-are_sent_by-clause-refused c = (
@@ -70,7 +71,7 @@ links-requires-clause-fits c =
 
 pub returns-clause-ok : goal.returns-clause-ok
 returns-clause-ok c =
-    on_ok _ _ _ (λ (links : Links (with_tables (tables_in c.in_ok-scope.scope.store.now) (offered c.in_ok-scope.scope.new.now))).
+    on_ok_weaker _ (λ (links : Links (with_tables (tables_in c.in_ok-scope.scope.store.now) (offered c.in_ok-scope.scope.new.now))).
     let follow : all_follow (tables_in c.args.s.now) (offered c.args.new.now) ≡ true =
     sym (rw (c.in_ok-scope.ensures.store, c.in_ok-scope.ensures.new) at c.in_ok-all_follow.ensures) ∙ c.if-not-branch.false in
     record {

@@ -1,7 +1,8 @@
 use Rattle.mv_ledger.proofs.Common.{◌∙◌, ◌≡◌, List, ap, get_or, refl, subst, sym, take, All, StructTally, AreInOrder, HasRoomLeft, IsRoomFor, ArePlaced, all_of, Tally}
-use Rattle.mv_ledger.proofs.Runs.TalliesByModule.{lists, all-first, placed-after, step-after, step-at, placed-at, ordered-at, room-at, written}
+use Rattle.mv_ledger.proofs.Runs.TalliesByModule.{all-first, placed-after, step-after, step-at, placed-at, ordered-at, room-at, written}
 use Rattle.mv_ledger.proofs.tallies.Tallies.add_run.Goals as goal
 use Rattle.mv_ledger.proofs.tallies.Tallies.add_run.Goals.{in-Some, in_default}
+use Rattle.mv_ledger.proofs.Loads.BodyTallies.{lists}
 
 -- no entry
 abbrev none : StructTally

@@ -1,7 +1,7 @@
 use Rattle.mv_ledger.proofs.Common.{◌∙◌, ◌≡◌, List, ap, arith, length, subst, sym, AreWithin, with_placed, ArePlaced, Placed, Tally}
-use Rattle.mv_ledger.proofs.Runs.TalliesByModule.{lists}
 use Rattle.mv_ledger.proofs.Bundles.Placing.{joining-room, joining-next, joining-done}
 use Rattle.mv_ledger.proofs.tallies.Tallies.join.Goals as goal
+use Rattle.mv_ledger.proofs.Loads.BodyTallies.{lists}
 
 pub loop-one-init : goal.loop-one-init
 loop-one-init c =

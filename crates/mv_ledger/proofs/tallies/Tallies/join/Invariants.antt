@@ -1,7 +1,7 @@
 use Rattle.mv_ledger.proofs.Common.{vec_capacity, vec_len, with_placed}
-use Rattle.mv_ledger.proofs.Runs.TalliesByModule.{lists}
 use Rattle.mv_ledger.proofs.Bundles.Placing.{IsJoining}
 use Rattle.mv_ledger.proofs.tallies.Tallies.join.Given as goal
+use Rattle.mv_ledger.proofs.Loads.BodyTallies.{lists}
 
 abbrev pub invariant-loop-one : goal.invariant-loop-one
 invariant-loop-one l =

@@ -2,7 +2,7 @@ use Rattle.mv_linker.proofs.Common.{[], ◌++◌, ◌+◌, ◌<◌, ◌∙◌, �
 use Rattle.mv_linker.proofs.Common.{tables_in, offered, AreFoundFor, modules_in, Defined}
 use Rattle.mv_linker.proofs.Kept.HandleDefinitions.{struct-there, zip-more}
 use Rattle.mv_linker.proofs.scope.Scope.all_defined.Goals as goal
-use Rattle.mv_linker.proofs.Found.{there_at}
+use Rattle.mv_bounds.proofs.Entries.{element_at}
 
 pub defined_for-requires : goal.defined_for-requires
 defined_for-requires c = λ k x e.
@@ -10,7 +10,7 @@ defined_for-requires c = λ k x e.
     let i = c.loop-n.n-index in
     let n = c.n-item.result in
     let low : i < length (offered c.args.self.now.new.now) = omega (arith, c.loop-n-test.true, c.requires.len) in
-    let m = there_at (offered c.args.self.now.new.now) i low in
+    let m = element_at (offered c.args.self.now.new.now) i low in
     let at : slice_get names i ≡ Some n = slice_get_read names (length names) i n refl c.loop-n-test.true c.n-item.is in
     struct-there (modules_in c.args.self.now) m.0 k x ((c.requires.each i m.0 n m.1 at).structs.each k x e)
 

@@ -1,8 +1,8 @@
-use Rattle.mv_linker.proofs.Common.{◌+◌, ◌++◌, ◌∙◌, ◌∷◌, ◌≡◌, [], Module, New, Some, ap, arith, follows, length, list_all, offered, refl, slice_get, slice_get_read, sym, tables_in, take, take_all, take_more}
+use Rattle.mv_linker.proofs.Common.{◌+◌, ◌++◌, ◌∙◌, ◌∷◌, ◌≡◌, [], Module, New, Some, ap, follows, length, list_all, offered, refl, slice_get, slice_get_read, sym, tables_in, take, take_all, take_more}
 use Rattle.mv_linker.proofs.Joining.Assembling.{named-more, offered-at}
-use Rattle.mv_linker.proofs.Members.{one-fails}
 use Rattle.mv_linker.proofs.scope.Scope.all_follow.Goals as goal
 use Rattle.mv_linker.proofs.scope.Scope.all_follow.Goals.{After-module-n}
+use Rattle.mv_bounds.proofs.Entries.{all_pass_not}
 
 -- the module of this turn
 module-here : (c : After-module-n) → slice_get (offered c.args.self.now.new.now) c.each.k ≡ Some c.module-n.result.now
@@ -17,7 +17,7 @@ may_follow-requires c = c.replaced.ensures c.module-n.result.now (module-here (g
 pub returns-then-not-branch : goal.returns-then-not-branch
 returns-then-not-branch c =
     let old = tables_in c.args.self.now.store.now in
-    sym (one-fails (follows old) (offered c.args.self.now.new.now) c.each.k c.module-n.result.now (module-here (goal.at.returns-then-not-branch c).After-module-n)
+    sym (all_pass_not (follows old) (offered c.args.self.now.new.now) c.each.k c.module-n.result.now (sym (module-here (goal.at.returns-then-not-branch c).After-module-n))
     (sym c.in_ok-may_follow.ensures ∙ c.if-not-branch.true))
 
 pub each-preserved : goal.each-preserved

@@ -3,7 +3,7 @@ use Rattle.mv_linker.proofs.Common.{IsFunctionAt, IsFunctionIn, function_matches
 use Rattle.mv_linker.proofs.Joining.Resolving.{function_nowhere, function_there_is, function_at, target_below}
 use Rattle.mv_linker.proofs.Orders.{below-most, below-few}
 use Rattle.mv_linker.proofs.scope.Scope.function.Goals as goal
-use Rattle.mv_linker.proofs.Found.{place_below}
+use Rattle.mv_bounds.proofs.Entries.{place_below}
 
 pub returns-in_default-clause-refused : goal.returns-in_default-clause-refused
 returns-in_default-clause-refused c = (refl, function_nowhere (modules_in c.args.self.now) c.args.m.now c.args.targets.now c.requires.named c.args.handle c.in_default.ensures.none)

@@ -2,9 +2,9 @@ use Rattle.mv_linker.proofs.Common.{ℕ, ◌+◌, ◌<◌, ◌∙◌, ◌≡◌,
 use Rattle.mv_linker.proofs.Common.{modules_in}
 use Rattle.mv_linker.specs.Reached.{AreNumbers, IsExtended}
 use Rattle.mv_linker.proofs.Cycles.DependenciesStay.{place-there, placed-there}
-use Rattle.mv_linker.proofs.Found.{Contains-at, at-Contains}
 use Rattle.mv_linker.proofs.Cycles.ReachedLemmas.{search-begins, search-below, search-goes-on, reached-graph}
 use Rattle.mv_linker.proofs.scope.Scope.graph_of.Goals as goal
+use Rattle.mv_bounds.proofs.Entries.{Contains-at, at-Contains}
 
 pub search-init : goal.search-init
 search-init c =

@@ -1,15 +1,15 @@
 use Rattle.mv_linker.proofs.Common.{ℕ, ◌+◌, ◌↔◌, ◌∙◌, ◌≡◌, Global, List, Vec, arith, length, map, subst, sym, true, length-map, IfOk-weaker, PublishedModule, tables_in, IsDependencyGraph, IsOrdered}
 use Rattle.mv_linker.proofs.Common.{offered, modules_in, New}
-use Rattle.mv_linker.proofs.Joining.Assembling.{joining-offered}
 use Rattle.mv_linker.proofs.Cycles.DependencyLemmas.{graph-appended}
 use Rattle.mv_linker.proofs.Cycles.ReachedLemmas.{ordered-reached}
 use Rattle.mv_linker.proofs.scope.Scope.is_ordered.Goals as goal
+use Rattle.mv_linker.proofs.Joining.Joins.{fitting}
 
 pub returns-then-is_appended : goal.returns-then-is_appended
 returns-then-is_appended c =
     let s = c.args.self.now in
     let graph : List (List ℕ) = map (λ (v : Vec ℕ Global). v.items) c.args.dependencies.now in
-    let j = joining-offered s.store.now s.new.now c.requires.fits.store c.requires.fits.passed c.requires.fits.once c.requires.fits.compatible in
+    let j = fitting s c.requires.fits in
     let all : length (modules_in s) ≡ length s.store.now + length s.new.now = c.is_appended.ensures.0 c.if-is_appended.true in
     let long : length (modules_in s) ≡ length (tables_in s.store.now) + length (offered s.new.now) =
     omega (arith, all, length-map s.store.now (λ (p : PublishedModule). p.tables), length-map s.new.now (λ (n : New). n.module)) in

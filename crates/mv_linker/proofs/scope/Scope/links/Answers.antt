@@ -1,10 +1,11 @@
 use Rattle.mv_linker.proofs.Common.{ℕ, ◌∙◌, ◌≡◌, List, ap, false, refl, subst, sym, true, err_from_is_err_and, tables_in, Links, offered, KeepsDependencies, modules_in}
 use Rattle.mv_linker.specs.declared.dependencies.DependenciesAt.{DependenciesAt}
-use Rattle.mv_linker.proofs.Joining.Assembling.{bundle-links, links-all, joining-offered}
+use Rattle.mv_linker.proofs.Joining.Assembling.{bundle-links, links-all}
 use Rattle.mv_linker.proofs.Cycles.DependenciesStay.{placed, keeps-dependencies}
 use Rattle.mv_linker.proofs.Joining.Resolving.{refused_by}
 use Rattle.mv_linker.proofs.scope.Scope.links.Goals as goal
 use Rattle.mv_linker.proofs.scope.Scope.links.Goals.{In_ok-sizes}
+use Rattle.mv_linker.proofs.Joining.Joins.{fitting}
 
 pub returns-then-not-branch-clause-refused : goal.returns-then-not-branch-clause-refused
 returns-then-not-branch-clause-refused c = (
@@ -19,15 +20,12 @@ returns-then-not-branch-clause-refused c = (
 all-linked : (c : In_ok-sizes) → Links (modules_in c.args.self.now)
 all-linked c =
     let s = c.args.self.now in
-    let j = joining-offered s.store.now s.new.now c.requires.fits.store c.requires.fits.passed c.requires.fits.once c.requires.fits.compatible in
+    let j = fitting s c.requires.fits in
     links-all (tables_in s.store.now) (offered s.new.now) j c.requires.fits.store.links (record { named = c.in_ok-names.ensures.ok; ordered = c.in_ok-is_ordered.ensures.0 c.if-not-branch.false; small = c.in_ok-sizes.ensures.small })
 
 pub codes-requires-clause-joins : goal.codes-requires-clause-joins
 codes-requires-clause-joins c = record {
-  store = c.requires.fits.store;
-  passed = c.requires.fits.passed;
-  once = c.requires.fits.once;
-  compatible = c.requires.fits.compatible;
+  fits = c.requires.fits;
   links = all-linked (goal.at.codes-requires-clause-joins c).In_ok-sizes;
 }
 

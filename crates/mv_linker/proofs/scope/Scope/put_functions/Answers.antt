@@ -1,8 +1,8 @@
 use Rattle.mv_linker.proofs.Common.{◌∙◌, ap, arith, length, sym, none-some, err_from_is_err_and, modules_in}
-use Rattle.mv_linker.proofs.Found.{there_at}
 use Rattle.mv_linker.proofs.Joining.Resolving.{refused_by, no-functions, more-functions, all-functions, function-of-all}
 use Rattle.mv_linker.proofs.Orders.{within-same, past-same, within-as}
 use Rattle.mv_linker.proofs.scope.Scope.put_functions.Goals as goal
+use Rattle.mv_bounds.proofs.Entries.{element_at}
 
 pub loop-h-init : goal.loop-h-init
 loop-h-init c = no-functions _ _ _ c.requires.none
@@ -30,7 +30,7 @@ pub unreachable-unreachable : goal.unreachable-unreachable
 unreachable-unreachable c =
     let handles = c.args.m.now.function_handles in
     let below = within-same c.loop-h.h c.function_handles-h-end.result.now handles c.loop-h-test.true c.function_handles-h-end.ensures in
-    let there = there_at handles c.loop-h.h below in
+    let there = element_at handles c.loop-h.h below in
     none-some there.0 (sym c.in_default.is ∙ c.function_handle.ensures ∙ there.1)
 
 pub bounds-likely-h : goal.bounds-likely-h

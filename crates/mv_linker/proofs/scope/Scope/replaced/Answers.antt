@@ -1,4 +1,4 @@
-use Rattle.mv_linker.proofs.Common.{ℕ, ◌≡◌, PublishedModule, Some, arith, length, length-map, offered, places_in, refl, slice_get, slice_get_read, subst, tables_in}
+use Rattle.mv_linker.proofs.Common.{◌≡◌, PublishedModule, Some, arith, length, length-map, offered, places_in, refl, slice_get, slice_get_read, subst, tables_in}
 use Rattle.mv_linker.proofs.Joining.Joins.{placed-length}
 use Rattle.mv_linker.proofs.Joining.Replaced.{replaced-low, replaced-none}
 use Rattle.mv_linker.proofs.scope.Scope.replaced.Goals as goal

@@ -1,10 +1,11 @@
 use Rattle.mv_linker.proofs.Common.{ℕ, ◌∙◌, ◌≡◌, Global, List, Vec, ap, arith, length, map, subst, sym, length-map, IfErr-weaker, IfOk-weaker, AllZip, tables_in, offered, AreDefined, AreFoundFor}
 use Rattle.mv_linker.proofs.Common.{modules_in, New, Defined}
-use Rattle.mv_linker.proofs.Joining.Assembling.{joining-offered}
 use Rattle.mv_linker.specs.Sizes.{AreSizes}
 use Rattle.mv_linker.proofs.StructSizes.NoStructs.{no-sizes}
-use Rattle.mv_linker.proofs.Kept.HandleDefinitions.{all-defined, zip-length}
+use Rattle.mv_linker.proofs.Kept.HandleDefinitions.{all-defined}
 use Rattle.mv_linker.proofs.scope.Scope.sizes.Goals as goal
+use Rattle.std.proofs.lemmas.Slice.Zip.{AllZip-long}
+use Rattle.mv_linker.proofs.Joining.Joins.{fitting}
 
 pub sizes_of-requires : goal.sizes_of-requires
 sizes_of-requires c =
@@ -15,7 +16,7 @@ sizes_of-requires c =
       ap length c.deref.ensures.value,
       length-map s.new.now (λ (n : New). n.module),
       length-map c.in_ok-found.found.items (λ (v : Vec Defined Global). v.items),
-      zip-length (AreFoundFor (tables_in s.store.now) s.places.items) c.args.names.now found c.in_ok-found.ensures,
+      AllZip-long (AreFoundFor (tables_in s.store.now) s.places.items) c.args.names.now found c.in_ok-found.ensures,
       c.requires.names.len,
     )
 
@@ -28,7 +29,7 @@ returns c =
     let found = map (λ (v : Vec Defined Global). v.items) c.in_ok-found.found.items in
     let lists = map (λ (v : Vec Defined Global). v.items) c.deref.result.now in
     let is-found : lists ≡ found = ap (map (λ (v : Vec Defined Global). v.items)) c.deref.ensures.value in
-    let j = joining-offered s.store.now s.new.now c.requires.fits.store c.requires.fits.passed c.requires.fits.once c.requires.fits.compatible in
+    let j = fitting s c.requires.fits in
     let placed = subst (λ (places : List ℕ). AllZip (AreFoundFor old places) c.args.names.now found) s.placed c.in_ok-found.ensures in
     let all : AreDefined modules ns found = all-defined old ns j c.requires.fits.store.links.structs c.args.names.now found c.requires.names placed in
     let defined : AreDefined modules ns lists = subst (AreDefined modules ns) (sym is-found) all in

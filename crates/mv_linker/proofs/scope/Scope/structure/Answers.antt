@@ -2,7 +2,7 @@ use Rattle.mv_linker.proofs.Common.{◌<◌, ◌∙◌, ◌≡◌, ap, false, le
 use Rattle.mv_linker.proofs.Joining.Resolving.{struct_nowhere, struct_there_is, struct_at, target_below}
 use Rattle.mv_linker.proofs.Orders.{below-most}
 use Rattle.mv_linker.proofs.scope.Scope.structure.Goals as goal
-use Rattle.mv_linker.proofs.Found.{place_below}
+use Rattle.mv_bounds.proofs.Entries.{place_below}
 
 pub returns-in_default-clause-refused : goal.returns-in_default-clause-refused
 returns-in_default-clause-refused c = (refl, struct_nowhere (modules_in c.args.self.now) c.args.m.now c.args.targets.now c.requires.named c.args.h c.args.handle c.requires.handle c.in_default.ensures.none)

@@ -1,7 +1,7 @@
 use Rattle.mv_linker.proofs.Common.{refl, sym, is_module, ModuleName, modules_in}
 use Rattle.mv_linker.proofs.Joining.Resolving.{nowhere}
 use Rattle.mv_linker.proofs.scope.Scope.target.Goals as goal
-use Rattle.mv_linker.proofs.Found.{place_below}
+use Rattle.mv_bounds.proofs.Entries.{place_below}
 
 pub returns-in_default-find-clause-refused : goal.returns-in_default-find-clause-refused
 returns-in_default-find-clause-refused c =
