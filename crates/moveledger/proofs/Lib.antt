@@ -1,3 +1,4 @@
+pub mod Progress
 pub mod Taken
 pub mod Lengths
 pub mod Whole

@@ -10,7 +10,7 @@ use Rattle.moveledger.specs.Records.{Record, Whole, Cut, IsText, Begins, AreReco
 use Rattle.moveledger.specs.Headline.{Step, Reports, Tells, Headline}
 use Rattle.moveledger.specs.Reading.{IsCutAt, IsTaken, IsUnfinished}
 use Rattle.moveledger.specs.Outcome.{left_of, ReadsAll, Stops, StopsReading, StopsWriting}
-use Rattle.moveledger.specs.Progress.{Progress}
+use Rattle.moveledger.proofs.Progress.{Progress}
 use Rattle.moveledger.specs.Answered.{IsBegun, MayBeAnswered}
 use Rattle.moveledger.proofs.Taken.{Tells-taken}
 use Rattle.moveledger.proofs.Unfinished.{NoWhole-cut, some-cut}

@@ -4,7 +4,6 @@ pub mod OneReport
 pub mod Outcome
 pub mod Reading
 pub mod Next
-pub mod Progress
 pub mod Answered
 pub mod Line
 pub mod Status

@@ -1,3 +1,4 @@
+pub mod Terms
 pub mod Places
 pub mod Covers
 pub mod Rows

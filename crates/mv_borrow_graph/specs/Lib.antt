@@ -3,4 +3,3 @@ pub mod Domain
 pub mod Laws
 pub mod Nodes
 pub mod There
-pub mod Abstract

@@ -27,4 +27,4 @@ pub use Rattle.mv_bounds.specs.Cycles.{IsAcyclic, LeadsTo, directly, further}
 pub use Rattle.mv_bounds.specs.Definitions.{Holds, all_differ, defined_once}
 pub use Rattle.mv_bounds.specs.Functions.{IsDefined}
 pub use Rattle.mv_bounds.specs.Places.{ArePlaces}
-pub use Rattle.mv_bounds.specs.Removal.{Released, Removal, are_nodes, as_number, edges_to, is_zero, times}
+pub use Rattle.mv_bounds.specs.Removal.{Released, are_nodes, as_number, edges_to, is_zero, times}

@@ -1,6 +1,6 @@
 -- Lists whose entries differ.
-use Rattle.mv_bounds.proofs.Common.{[], ℕ, ◌&&◌, ◌∙◌, ◌∷◌, ◌≡◌, ◌≤◌, Bool, List, Result, ap, ap₂, arith, cond, eq-eqb, eqb, false, inl, inr, length, map, ne_eqb, not, refl, suc, sym, true}
-use Rattle.mv_bounds.proofs.Common.{cases_eq, IfOk-weaker, IfOk, all_differ}
+use Rattle.mv_bounds.proofs.Common.{[], ℕ, ◌&&◌, ◌∙◌, ◌∷◌, ◌≡◌, ◌≤◌, Bool, List, Result, ap, ap₂, arith, cond, eqb, false, length, map, ne_eqb, not, refl, suc, sym, true}
+use Rattle.mv_bounds.proofs.Common.{IfOk-weaker, IfOk, all_differ}
 use Rattle.std.proofs.Common.{◌||◌}
 use Rattle.std.specs.List.{list_any}
 use Rattle.std.specs.Set.{distinct_count, unique_keys}

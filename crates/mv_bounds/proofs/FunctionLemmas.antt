@@ -1,6 +1,6 @@
 -- What a function's index leads to.
-use Rattle.mv_bounds.proofs.Common.{[], ℕ, ◌++◌, ◌+◌, ◌<◌, ◌∷◌, ◌≡◌, Bool, IfSome, List, None, Option, Some, arith, length, length-append, refl, subst, suc, sym, true, zero, and_parts}
-use Rattle.mv_bounds.proofs.Common.{ltb-true, none-some, list_all, slice_get, option_map, FunctionDefinition, Module, FunctionHandle, Token, InBounds, function_in, IsDefined}
+use Rattle.mv_bounds.proofs.Common.{[], ℕ, ◌++◌, ◌+◌, ◌<◌, ◌∷◌, ◌≡◌, IfSome, List, None, Option, Some, arith, length, length-append, refl, suc, sym, zero, and_parts}
+use Rattle.mv_bounds.proofs.Common.{ltb-true, none-some, slice_get, option_map, FunctionDefinition, Module, FunctionHandle, Token, InBounds, function_in, IsDefined}
 use Rattle.std.proofs.Common.{IsSome}
 use Rattle.mv_move_types.specs.Options.{◌>>=◌}
 use Rattle.mv_move_types.specs.Module.{parameter_tokens, result_tokens, local_tokens, local_type}

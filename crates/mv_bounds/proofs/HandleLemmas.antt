@@ -1,7 +1,7 @@
 -- The first definition of each handle.
 use Rattle.mv_bounds.proofs.Common.{[], ℕ, ◌+◌, ◌<◌, ◌==◌, ◌∙◌, ◌∷◌, ◌≡◌, ◌≤◌, Bool, IfSome, List, None, Option, Some, ap, arith, cond, eq-eqb, false, get_or, get_or-set_other}
-use Rattle.mv_bounds.proofs.Common.{get_or-set_same, inl, inr, length, length-set, map, ne_eqb, refl, set, suc, sym, take, true, and_parts, cases_eq, cases_lt, ltb-true, none-some}
-use Rattle.mv_bounds.proofs.Common.{same_Some, list_all, option_map, FunctionDefinition, Module, find_index, InBounds, function_in, ArePlaces}
+use Rattle.mv_bounds.proofs.Common.{get_or-set_same, inl, inr, length, length-set, map, ne_eqb, refl, set, suc, sym, take, true, and_parts, cases_eq, cases_lt, ltb-true}
+use Rattle.mv_bounds.proofs.Common.{list_all, option_map, FunctionDefinition, Module, find_index, InBounds, function_in, ArePlaces}
 use Rattle.std.proofs.lemmas.List.{get_or_past}
 use Rattle.mv_bounds.specs.Places.{AreFunctionPlaces}
 use Rattle.mv_bounds.proofs.PlaceLemmas.{find-none, find-here, find-kept}

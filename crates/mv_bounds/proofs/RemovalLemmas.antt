@@ -1,11 +1,22 @@
 -- Nodes are removed from a graph one by one, and all of them where no node leads to itself.
 use Rattle.mv_bounds.proofs.Common.{[], ℕ, ◌++◌, ◌+◌, ◌<◌, ◌==◌, ◌↔◌, ◌∙◌, ◌∷◌, ◌≡◌, ◌≤◌, Bool, List, Some, ap, arith, cond, false, get_or, get_or-set_other, get_or-set_same, inl, inr}
 use Rattle.mv_bounds.proofs.Common.{length, length-set, nat_lt, refl, replicate, set, subst, suc, sym, true, zero, and_from, and_parts, cases_eq, false≢true, ltb-true, list_all-append}
-use Rattle.mv_bounds.proofs.Common.{slice_get_within, list_all, slice_get, IsAcyclic, LeadsTo, directly, further, Released, Removal, are_nodes, as_number, edges_to, is_zero, times}
+use Rattle.mv_bounds.proofs.Common.{slice_get_within, list_all, slice_get, IsAcyclic, LeadsTo, directly, further, Released, are_nodes, as_number, edges_to, is_zero, times}
 use Rattle.std.proofs.lemmas.Bool.{true_from_ne_false}
 use Rattle.std.proofs.lemmas.List.{length-replicate, get_or-replicate}
 use Rattle.mv_bounds.proofs.TimesLemmas.{times_push, is_one, is_none, zero_is_one, other_is_none, is_zero_at_most}
 use Rattle.mv_bounds.proofs.EdgeLemmas.{edges_removed, removed_before, one_before, unmarked_edges, last_edge, begins_within, none_remains, HasBefore, EndsBy}
+use Rattle.std.specs.Prelude.{slice_index, slice_index_or, IsTrue}
+
+-- the counts are of the edges from nodes that remain, those that none leads to are removed or ready, and no node that is
+-- removed leads to itself
+pub record Removal (graph : List (List ℕ)) (counts : List ℕ) (removed : List Bool) (ready : List ℕ) : Type 0 where
+  pub counts_len : length counts ≡ length graph
+  pub marks_len : length removed ≡ length graph
+  pub edges : (j : ℕ) → j < length graph → slice_index counts j ≡ edges_to graph removed j
+  pub sources : (j : ℕ) → j < length graph → times j ready + as_number (slice_index_or removed j false) ≡ is_zero (slice_index counts j)
+  pub nodes : IsTrue (are_nodes (length graph) ready)
+  pub free : (i : ℕ) → i < length graph → slice_index_or removed i false ≡ true → LeadsTo graph i i → ⊥
 
 -- nothing is removed yet
 pub removal_begins : (graph : List (List ℕ)) (counts ready : List ℕ) (n : ℕ) → length counts ≡ length graph → n ≡ length graph

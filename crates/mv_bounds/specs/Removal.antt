@@ -2,10 +2,8 @@
 --   times j nodes            how often node j stands in a list
 --   edges_to graph removed j how many edges lead to node j from nodes that are not removed
 --   Released ..              edges to some targets are gone
---   Removal ..               how far the removal has come
-use Rattle.std.specs.Prelude.{◌≡◌, ◌+◌, ◌<◌, ◌==◌, ℕ, Bool, true, false, cond, List, [], ◌∷◌, length, slice_index, slice_index_or, nat_lt, IsTrue}
+use Rattle.std.specs.Prelude.{◌≡◌, ◌+◌, ◌<◌, ◌==◌, ℕ, Bool, true, false, cond, List, [], ◌∷◌, length, slice_index, nat_lt, IsTrue}
 use Rattle.std.specs.List.{list_all}
-use Rattle.mv_bounds.specs.Cycles.{LeadsTo}
 
 -- one for a test that holds, and zero for one that doesn't
 abbrev pub as_number : Bool → ℕ
@@ -37,13 +35,3 @@ pub record Released (n : ℕ) (before after ready ready' targets : List ℕ) : T
   pub edges : (j : ℕ) → j < n → slice_index after j + times j targets ≡ slice_index before j
   pub sources : (j : ℕ) → j < n → times j ready' + is_zero (slice_index before j) ≡ times j ready + is_zero (slice_index after j)
   pub nodes : IsTrue (are_nodes n ready) → IsTrue (are_nodes n ready')
-
--- the counts are of the edges from nodes that remain, those that none leads to are removed or ready, and no node that is
--- removed leads to itself
-pub record Removal (graph : List (List ℕ)) (counts : List ℕ) (removed : List Bool) (ready : List ℕ) : Type 0 where
-  pub counts_len : length counts ≡ length graph
-  pub marks_len : length removed ≡ length graph
-  pub edges : (j : ℕ) → j < length graph → slice_index counts j ≡ edges_to graph removed j
-  pub sources : (j : ℕ) → j < length graph → times j ready + as_number (slice_index_or removed j false) ≡ is_zero (slice_index counts j)
-  pub nodes : IsTrue (are_nodes (length graph) ready)
-  pub free : (i : ℕ) → i < length graph → slice_index_or removed i false ≡ true → LeadsTo graph i i → ⊥

@@ -1,19 +1,14 @@
 -- What a certificate says of an instruction of a function.
-use Rattle.std.specs.Prelude.{ℕ, Bool, ◌&&◌, nat_le, List, [], Option, Some, find, zip, slice_range}
+use Rattle.std.specs.Prelude.{ℕ, ◌&&◌, nat_le, List, [], Option, Some, find, zip, slice_range}
 use Rattle.mv_move_types.specs.declared.instruction.Instruction.{Instruction}
 use Rattle.mv_move_types.specs.Options.{◌>>=◌}
 use Rattle.mv_move_types.specs.Module.{Module, FunctionDefinition}
-use Rattle.mv_edges.specs.Edges.{edges_leq}
 use Rattle.mv_cfg.specs.Blocks.{BasicBlock, blocks}
 use Rattle.mv_type_states.specs.TypeRules.{Types}
 use Rattle.mv_type_states.specs.TypesHold.{Point}
-use Rattle.mv_locals_safety.specs.LocalsRules.{locals_leq, locals_after}
+use Rattle.mv_locals_safety.specs.LocalsRules.{locals_after}
 use Rattle.mv_borrow_graph.specs.BorrowRules.{edges_after}
 use Rattle.mv_certificate.specs.Certificate.{Known, Stated, through}
-
--- what is known is below what else could be known, in both parts
-abbrev pub known_leq : Known → Known → Bool
-known_leq a b = locals_leq a.locals b.locals && edges_leq a.edges b.edges
 
 -- what is known after an instruction
 abbrev pub known_after : Point → Instruction → Known → Option Known

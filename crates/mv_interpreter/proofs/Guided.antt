@@ -1,7 +1,8 @@
 -- Every state of a run is as the certificates say, so no run over published modules meets a fault: nothing lost is read,
 -- nothing frozen is written. The statements are `RunsAreFaultless` and `StatesHold` (specs/Guided/Published.antt).
 --
--- Read first specs/Guided/Guided.antt (the invariant) and Facts.antt (what it rests on), then Working, Rows and Keeps.
+-- Read first Guided (the invariant) and Facts (what it rests on), then Working, Rows and Keeps.
+--   Store                    a store of accepted modules with their certificates
 --   Working, Chains          `working`: the invariant taken apart at the frame at work; `sound-from`, `guided-from`
 --   Tiles, Before            `goes-on`: what a certificate says before an instruction leads to what it says after it
 --   Accepted, Results        `flows-at`, `entered-known`, `returns-as`: where a callee begins, and what it returns
@@ -15,6 +16,9 @@
 --   Covering                 `holds`: the invariant in the words of the definition
 --   Published                `runs_faultless`, `states_hold`: the laws, over published modules
 pub mod Common
+pub mod Guided
+pub mod Facts
+pub mod Store
 pub mod Tiles
 pub mod Before
 pub mod Ends

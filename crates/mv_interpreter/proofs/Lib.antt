@@ -1,3 +1,4 @@
+pub mod Owned
 pub mod Edits
 pub mod Counting
 pub mod Turning

@@ -1,7 +1,8 @@
 -- A typed state stays typed: over accepted modules no step meets a fault of types, of links or of a dangling reference,
 -- where no live reference leads into what the step removes. The statement is `EveryStepIsTyped` (specs/Typing/Laws.antt).
 --
--- Read first specs/Typing/HasType.antt and StateTyped.antt (what is typed), then Parts, Stays, one file of rows, and Rule.
+-- Read first specs/Typing/HasType.antt and StateTyped.antt (what is typed), then Facts, Parts, Stays, one file of rows, and Rule.
+--   HaveTypes, Facts, Watched    values of types; what accepted modules give to each step, and what is asked besides of the rules for locals and borrows
 --   Parts, Tests, Operands   a rule's parts one after the other; `takes_gives-is`, `one_operand`, `leaf`: operands by their types
 --   Within, Roots, Keep      `read_within`, `write_within`: places within values; what stays typed when a root changes
 --   Frames, Storage          the same of a local of some frame, and of the storage
@@ -14,6 +15,9 @@
 --   First, Admitted, TypedCalls    `first_typed`, `admitted_typed`, `call-typed`: a run's first state is typed
 --   Fine                     `fine_storage`, `typed_is_fine`: the storage that the ledger calls fine, and the typed one
 pub mod Common
+pub mod HaveTypes
+pub mod Facts
+pub mod Watched
 pub mod Within
 pub mod Tests
 pub mod Parts

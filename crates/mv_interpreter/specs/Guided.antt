@@ -1,5 +1,2 @@
-pub mod Guided
-pub mod Facts
-pub mod Store
 pub mod Outcome
 pub mod Published

@@ -1,10 +1,8 @@
 -- Which values and states are typed, and what a step does from a typed state.
 pub mod HasType
 pub mod StateTyped
-pub mod Facts
 pub mod Unreached
 pub mod Outcome
 pub mod Accepted
-pub mod Watched
 pub mod CallTyped
 pub mod Laws

@@ -97,10 +97,11 @@ pub use Rattle.mv_machine.proofs.Effects.{Appears, Called, Effect, Ends, Left, M
 pub use Rattle.mv_machine.proofs.Effects.{a_leaf, a_reference, arrived, at_place, in_local}
 pub use Rattle.mv_machine.proofs.Laws.{on_need, on_ok, own_struct-own, steps_taken, turns-bound}
 pub use Rattle.mv_machine.proofs.Runs.{begun, run-keeps, step-stepped}
+pub use Rattle.mv_machine.proofs.Empty.{empty_ledger}
 pub use Rattle.mv_machine.specs.Count.{count, count_in, count_in_fields}
 pub use Rattle.mv_machine.specs.Flat.{FlatEntry, fields_from, flat, flat_fields, flat_storage, storage_of, struct_from, value_from, value_under}
 pub use Rattle.mv_machine.specs.Ledger.{Answers, AreRead, AsJson, AsText, Audit, Bad, BadRun, Format, LedgerState, Offer, Publish, Request, Run, RunRequest, Show, admitted, are_arguments}
-pub use Rattle.mv_machine.specs.Ledger.{attempted, audited, empty_ledger, is_argument, modules_of, scarce_name, scarce_structs, settled, shown, tally_of, tally_with, untouched_tally, with_bundle}
+pub use Rattle.mv_machine.specs.Ledger.{attempted, audited, is_argument, modules_of, scarce_name, scarce_structs, settled, shown, tally_of, tally_with, untouched_tally, with_bundle}
 pub use Rattle.mv_machine.specs.Ledger.{with_returned, with_run, with_signer, with_signer as with_sender}
 pub use Rattle.mv_machine.specs.Lines.{Aborted as RanToAbort, Aborted as ToldAborted, Exhausted as RanOut, Exhausted as ToldExhausted, Published, Published as ToldPublished, Refused, count_line}
 pub use Rattle.mv_machine.specs.Lines.{Refused as ToldRefused, Rejected as ToldRejected, Reply, Reply as Told, Returned as RanToEnd, Returned as ToldReturned, Tallied, Told as ToldLines, count_object}
@@ -143,7 +144,7 @@ pub use Rattle.mv_interpreter.proofs.Typing.Callees.{on_found}
 pub use Rattle.mv_interpreter.proofs.Typing.Fine.{fine_storage, leaf_ranges, typed_is_fine}
 pub use Rattle.mv_interpreter.proofs.Typing.Tests.{same_kind-same}
 pub use Rattle.mv_interpreter.specs.Flat.Agreement.{nameless}
-pub use Rattle.mv_interpreter.specs.Owned.{IsOwn}
+pub use Rattle.mv_interpreter.proofs.Owned.{IsOwn}
 pub use Rattle.mv_interpreter.specs.Runs.{Agrees, AtMost, IsFineWords, Tallies, arg_value, call_of, number_fits}
 pub use Rattle.mv_interpreter.specs.Typing.Accepted.{StoreAccepted}
 pub use Rattle.mv_interpreter.specs.Typing.StateTyped.{Numbered, StorageTyped}
@@ -155,10 +156,11 @@ pub use Rattle.mv_ledger.specs.Asking.{offer_of, offers_of, request_of}
 pub use Rattle.mv_ledger.specs.Auditing.{audit_from, counted_in, counts_from, counts_json, stored_of}
 pub use Rattle.mv_ledger.specs.Changes.{Leaves, RunsTo}
 pub use Rattle.mv_ledger.specs.Counting.Conservation.{Conserves, IsEntryCall, IsFineStorage, IsLeaf}
-pub use Rattle.mv_ledger.specs.Counting.Fine.{Balances, IsAbleStore, IsFine}
+pub use Rattle.mv_ledger.specs.Counting.Fine.{IsAbleStore}
 pub use Rattle.mv_ledger.specs.Counting.Headline.{CallEndsWell, EndsWell, EveryCountIsTallied, IsOwnWork, RunsWell}
-pub use Rattle.mv_ledger.specs.Counting.Held.{held, held_in_frame, held_in_frames, held_in_local, held_in_locals, held_in_stack, made, unmade}
-pub use Rattle.mv_ledger.specs.Counting.Kept.{Allows, AreAbove, AreKept, FrameIsKept, FramesAreKept, IsAscending, IsKept, IsScarce, LocalIsKept, LocalsAreKept, StackIsKept, StorageIsKept}
+pub use Rattle.mv_ledger.proofs.Counting.Fine.{Balances, FrameIsKept, FramesAreKept, IsFine, LocalIsKept, LocalsAreKept, StackIsKept}
+pub use Rattle.mv_ledger.proofs.Counting.Held.{held, held_in_frame, held_in_frames, held_in_local, held_in_locals, held_in_stack, made, unmade}
+pub use Rattle.mv_ledger.specs.Counting.Kept.{Allows, AreAbove, AreKept, IsAscending, IsKept, IsScarce, StorageIsKept}
 pub use Rattle.mv_ledger.specs.Exact.{IsAccepted, IsRefused, failing, no_bundle}
 pub use Rattle.mv_ledger.specs.Groups.{HandleHolds, HandlesHold, IsGroup, IsNeeded, NameThemselves, with_next}
 pub use Rattle.mv_ledger.specs.Inside.{structs_in_fields, structs_in_part, structs_in_parts, structs_in_token, structs_under, structs_within}
@@ -169,7 +171,8 @@ pub use Rattle.mv_ledger.specs.Parts.BodyParts.{count_from, counts_of, entry_fro
 pub use Rattle.mv_ledger.specs.Parts.BodyParts.{with_entry}
 pub use Rattle.mv_ledger.specs.Parts.CountRows.{Adds, AreAll, AreStored, HasRows, IsTallied, capped, count_at, no_counts, row_at, with_count}
 pub use Rattle.mv_ledger.specs.Parts.LayoutParts.{IsOfStore, PutsKinds, keyed_at, kinds_at, kinds_of_part, kinds_of_parts}
-pub use Rattle.mv_ledger.specs.Parts.LoadedParts.{AreCounted, AreJoined, AreNotJoined, BeginsWith, EachBodyIsRead, EachReadIsBody, IsBody, IsNoBody, SavedHead, body_from, counted_by, form_by}
+pub use Rattle.mv_ledger.specs.Parts.LoadedParts.{AreCounted, AreJoined, AreNotJoined, BeginsWith, IsNoBody, SavedHead, body_from, form_by}
+pub use Rattle.mv_ledger.proofs.Loads.Bodies.{EachBodyIsRead, EachReadIsBody, IsBody, counted_by}
 pub use Rattle.mv_ledger.specs.Parts.LoadedParts.{form_from, head_from, head_of, marks_from, reason_of}
 pub use Rattle.mv_ledger.specs.Parts.Saving.{AddsValue, AreSections, HasOneMore, IsAdded, IsEmpty, IsSection, IsWritable, KnowsKinds, counts_text, definition_at, section_at}
 pub use Rattle.mv_ledger.specs.Parts.Saving.{sections_of, stored_in, written}

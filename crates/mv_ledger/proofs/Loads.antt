@@ -1,4 +1,5 @@
 -- The proofs of loading: the head, the modules group by group, what follows them, and the tallies against what is stored.
+--   Bodies          What follows the modules, as a definition of the text, and that it is read exactly where it stands.
 --   LoadedHead      A head is read exactly where the text of one stands.
 --   Grouping        Which of the next modules name none that comes later.
 --   LoadedModules   Modules of a saved ledger join one group after the other exactly where all of them are linked together.
@@ -19,6 +20,7 @@
 --   CountedStorage  How many values of a struct are stored, at any depth, from how many values are stored of each struct with key.
 --   TalliesCounted  Tallies against the counts of what is stored.
 --   Loaded          From its parts, which ledger bytes are loaded as, and why they are not.
+pub mod Bodies
 pub mod LoadedHead
 pub mod Grouping
 pub mod LoadedModules

@@ -1,5 +1,4 @@
 -- How the values of structs are counted over a run, and what of them the ledger promises.
-pub mod Held
 pub mod Kept
 pub mod Fine
 pub mod Headline

@@ -66,13 +66,13 @@ pub use Rattle.mv_linker.specs.Code.{operation, operations}
 pub use Rattle.mv_linker.specs.DependencyGraph.{AreDependencies, AreHandlePlaces, IsDependencyGraph, IsOrdered, others, shifted}
 pub use Rattle.mv_linker.specs.FoundStructs.{AreFoundFor, IsFoundAt}
 pub use Rattle.mv_linker.specs.Identifiers.{identifier_or_none, identifiers_of}
-pub use Rattle.mv_linker.specs.Indexed.{AreNamesIn, ArePlacesOf, PutsName, PutsPlace, has_name_of}
+pub use Rattle.mv_linker.specs.Indexed.{ArePlacesOf, PutsName, PutsPlace, has_name_of}
 pub use Rattle.mv_linker.specs.Interfaces.{AreInterfacesOf, IsInterfaceAt, IsInterfaceOf}
 pub use Rattle.mv_linker.specs.Kept.{AreKeyed, Kept, name_in, published_as, published_in, published_under}
 pub use Rattle.mv_linker.specs.Link.{AreSentBy, IsPublishable, IsStore, MayJoin, all_follow, are_compatible, follows, have_one_name, is_sent_by, replaced_in, tables_in}
 pub use Rattle.mv_linker.specs.Linked.{Entered, Site, constant_number, linked_module, operations_along, operations_of, others_in, program_of, programs_from, to_call, to_field, to_return}
 pub use Rattle.mv_linker.specs.Linked.{width_of_others, with_slot, with_target, with_top}
-pub use Rattle.mv_linker.specs.LinkedBy.{AreAlong, AreFunctions, AreOperations, Gives, GoesOn, IsLinker, Pushes, Stands, constant_numbers, literal_of, site_of}
+pub use Rattle.mv_linker.specs.LinkedBy.{AreAlong, AreOperations, Gives, GoesOn, IsLinker, Pushes, Stands, constant_numbers, literal_of, site_of}
 pub use Rattle.mv_linker.specs.LinkedTogether.{AreCodes, AreOthers, AreOthersOf, AreOwnSizes, AreSized, AreToLink, IsCalled, IsCode, IsToLink, callees_by, others_row, widths_in, words_for}
 pub use Rattle.mv_linker.specs.LinkedTogether.{words_of_size}
 pub use Rattle.mv_linker.specs.NamerSteps.{AreNamed, HasAll, HasOthers}
@@ -85,12 +85,12 @@ pub use Rattle.mv_linker.specs.Reached.{AreNumbers, AreReached, IsExtended, IsRe
 pub use Rattle.mv_linker.specs.Relinked.{AreCalls, AreDependants, AreLinkable, AreSizesAt, BeginAt, IsApart, IsCallAt, IsDependant, IsFunction, IsLinkable, IsSmallAt, IsStruct, Joins}
 pub use Rattle.mv_linker.specs.Relinked.{NamesBundle, bundled_target}
 pub use Rattle.mv_linker.specs.Resolved.{AreResolved, callee_of, width_of_handle}
-pub use Rattle.mv_linker.specs.Scope.{all_named, found_among, newest_at, offered, place_for, places_in, with_table, with_tables}
+pub use Rattle.mv_linker.specs.Scope.{all_named, found_among, offered, place_for, places_in, with_table, with_tables}
 pub use Rattle.mv_linker.specs.ScopeDependencies.{AreDependenciesAt, AreDependenciesIn, ArePlaces, count_after}
 pub use Rattle.mv_linker.specs.Shapes.{AreFieldsAt, AreParts, AreShapes, IsPart, has_key, is_keyed, part_by, parts_by, shapes_by, structs_in}
-pub use Rattle.mv_linker.specs.Sizes.{AreDefined, AreSizes, AreSmall, IsDefined, IsSized, Keeps, OwnsStructs, Total, greater, next_rows, row_of, rows_after, size_at, size_of_struct}
+pub use Rattle.mv_linker.specs.Sizes.{AreDefined, AreSizes, AreSmall, IsDefined, IsSized, Total, greater, next_rows, row_of, rows_after, size_at, size_of_struct}
 pub use Rattle.mv_linker.specs.Sizes.{size_of_token, small_size, total_of}
-pub use Rattle.mv_linker.specs.StoreRules.{IsLinkedBundle, Links, Reaches, depends_on, directly, function_fits, function_is_there, function_named, further, module_is_there}
+pub use Rattle.mv_linker.specs.StoreRules.{Links, Reaches, depends_on, directly, function_fits, function_is_there, function_named, further, module_is_there}
 pub use Rattle.mv_linker.specs.StoreRules.{modules_are_there, names_hold, names_module, struct_is_small, struct_is_there, structs_are_there}
 pub use Rattle.mv_linker.specs.Stored.{AreCodesOf, AreDependenciesOf, AreNames, AreNamesOf, IsLinkedTo, IsSizeAt, KeepsDependencies, LinkedBundle, Relinks, with_at, with_codes}
 pub use Rattle.mv_linker.specs.Stored.{with_dependencies}

@@ -6,7 +6,7 @@
 --   definition_place, own-definition   a definition is the one that its name stands for
 --   struct-at, function-at          the definition that has a name is the first one with it
 use Rattle.mv_linker.proofs.Common.{[], ℕ, ◌&&◌, ◌+◌, ◌<◌, ◌==◌, ◌∙◌, ◌∷◌, ◌≡◌, ◌≤◌, Bool, FunctionDefinition, FunctionHandle, InBounds, List, Module, ModuleHandle, ModuleName, None}
-use Rattle.mv_linker.proofs.Common.{Option, OwnsStructs, Some, StructDefinition, StructHandle, StructName, WellDefined, all_differ, and_from, and_parts, ap, arith, below, bytes_eq}
+use Rattle.mv_linker.proofs.Common.{Option, Some, StructDefinition, StructHandle, StructName, WellDefined, all_differ, and_from, and_parts, ap, arith, below, bytes_eq}
 use Rattle.mv_linker.proofs.Common.{bytes_eq-Decides, cases_Bool, cases_cond, cases_eq, cases_order, cond, count_by, defined_once, definition_of, eq-eqb, eqb-true, false, field_in}
 use Rattle.mv_linker.proofs.Common.{find_index, first_so, function_home, function_place, have_one_name, inl, inr, is_struct, length, list_all, map, module_handle_in, module_name}
 use Rattle.mv_linker.proofs.Common.{module_named, name_of_function, name_of_struct, nat_tests, none-some, on_bind, option_and_then, option_map, option_map_or, own_name, refl, same_struct}
@@ -116,6 +116,10 @@ own_handle m defined i d handle at e =
     let of_own : struct_home m d.handle ≡ m.own =
     defined_own (struct_home m) m.own (length m.struct_handles) d.handle i (map handle_of m.structs) defined.structs (slice_get_within m.struct_handles d.handle handle e) listed in
     sym (ap (λ (x : Option StructHandle). option_map_or (λ (s : StructHandle). s.module) x 0) e) ∙ of_own
+
+-- the structs that a module defines are its own
+abbrev pub OwnsStructs : Module → Type 0
+OwnsStructs m = (i : ℕ) (d : StructDefinition) (name : StructName) → slice_get m.structs i ≡ Some d → name_of_struct m d ≡ Some name → own_name m ≡ Some name.home
 
 -- a module owns the structs that it defines
 pub owns-structs : (m : Module) → WellDefined m → OwnsStructs m

@@ -1,12 +1,10 @@
 -- What maps say of the modules of a bundle: the place of each name, and which names there are.
 use Rattle.std.specs.Prelude.{◌≡◌, ℕ, Bool, true, cond, List, ◌∷◌, Option, Some, None, is_some}
-use Rattle.std.specs.List.{list_any}
 use Rattle.std.specs.Map.{lookup}
 use Rattle.mv_move_types.specs.Names.{same_module}
 use Rattle.mv_move_types.specs.Module.{Module}
-use Rattle.mv_move_types.specs.Named.{is_module}
 use Rattle.mv_linker.specs.declared.entry.Name.{Name}
-use Rattle.mv_linker.specs.Kept.{Kept, name_in}
+use Rattle.mv_linker.specs.Kept.{name_in}
 use Rattle.mv_linker.specs.Scope.{found_among}
 
 -- whether a key stands for the name that another one does
@@ -21,10 +19,6 @@ ArePlacesOf entries ns places = (q : Name) → lookup (has_name_of q) entries �
 abbrev pub with_last : Option (Name × ℕ) → List (Name × ℕ) → List (Name × ℕ)
 with_last None others = others
 with_last (Some last) others = last ∷ others
-
--- the names are those of modules
-abbrev pub AreNamesIn : {V : Type 0} → List (Name × V) → List Kept → Type 0
-AreNamesIn entries kept = (q : Name) → is_some (lookup (has_name_of q) entries) ≡ list_any (λ k. is_module (name_in q) k.published.tables) kept
 
 -- a place is put under a name
 abbrev pub PutsPlace : List (Name × ℕ) → List (Name × ℕ) → Name → ℕ → Type 0

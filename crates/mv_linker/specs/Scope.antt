@@ -1,5 +1,5 @@
 -- The modules that a store has once a bundle joins it, and where each of the bundle stands among them.
-use Rattle.std.specs.Prelude.{ℕ, Bool, cond, ◌==◌, is_some, List, [], ◌∷◌, length, map, Option, Some, unwrap_or}
+use Rattle.std.specs.Prelude.{ℕ, Bool, cond, is_some, List, [], ◌∷◌, length, map, Option, Some, unwrap_or}
 use Rattle.std.specs.List.{list_all}
 use Rattle.mv_move_types.specs.Names.{ModuleName}
 use Rattle.mv_move_types.specs.Module.{Module, own_name}
@@ -39,9 +39,3 @@ abbrev pub found_among : ModuleName → List Module → List ℕ → Option ℕ 
 found_among name [] places before = before
 found_among name (n ∷ ns) [] before = before
 found_among name (n ∷ ns) (p ∷ places) before = found_among name ns places (cond (is_module name n) (Some p) before)
-
--- the last of a bundle at this place, or else what was found before
-abbrev pub newest_at : ℕ → List Module → List ℕ → Option Module → Option Module
-newest_at place [] places before = before
-newest_at place (n ∷ ns) [] before = before
-newest_at place (n ∷ ns) (p ∷ places) before = newest_at place ns places (cond (p == place) (Some n) before)

@@ -7,12 +7,11 @@ use Rattle.mv_move_types.specs.declared.token.Token.TheVariants.{Plain}
 use Rattle.mv_move_types.specs.declared.token.ValueType.TheVariants.{OfLeaf, OfStruct}
 use Rattle.mv_move_types.specs.declared.tables.Field.{Field}
 use Rattle.mv_move_types.specs.Options.{◌>>=◌}
-use Rattle.mv_move_types.specs.Names.{ModuleName, StructName}
-use Rattle.mv_move_types.specs.Module.{Module, StructDefinition, struct_name, name_of_struct, name_at, own_name}
-use Rattle.mv_move_types.specs.Named.{module_named, definition_of}
+use Rattle.mv_move_types.specs.Names.{StructName}
+use Rattle.mv_move_types.specs.Module.{Module, StructDefinition, struct_name, name_of_struct, name_at}
+use Rattle.mv_move_types.specs.Named.{definition_of}
 use Rattle.mv_move_types.specs.Leaves.{leaves_within}
 use Rattle.mv_linker.specs.StoreRules.{struct_is_small}
-use Rattle.mv_linker.specs.Upgrades.{structs_stay}
 use Rattle.mv_linker.specs.declared.sizes.Size.{Size}
 use Rattle.mv_linker.specs.declared.sizes.Defined.{Defined}
 use Rattle.mv_linker.specs.declared.sizes.Defined.TheVariants.{Published, Bundled}
@@ -44,15 +43,6 @@ pub record AreSizes (modules bundle : List Module) (sizes : List (List Size)) : 
 -- each struct of a bundle is small
 abbrev pub AreSmall : List Module → List Module → Type 0
 AreSmall modules bundle = IsTrue (list_all (λ m. list_all (struct_is_small modules m) m.structs) bundle)
-
--- the structs that a module defines are its own
-abbrev pub OwnsStructs : Module → Type 0
-OwnsStructs m = (i : ℕ) (d : StructDefinition) (name : StructName) → slice_get m.structs i ≡ Some d → name_of_struct m d ≡ Some name → own_name m ≡ Some name.home
-
--- an old module stands among the new ones, or one of its name that keeps its structs
-abbrev pub Keeps : List Module → List Module → Type 0
-Keeps old new = (name : ModuleName) (m : Module) → module_named old name ≡ Some m
-    → (n : Module) × (module_named new name ≡ Some n) × ((n ≡ m) ⊎ (IsTrue (structs_stay m m.structs n n.structs) × (own_name n ≡ Some name) × OwnsStructs m × OwnsStructs n))
 
 -- Below: what a round of the search knows from the one before. A row has the structs of a module whose size is known.
 

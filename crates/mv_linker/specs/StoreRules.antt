@@ -79,9 +79,3 @@ pub record Links (store : List Module) : Type 0 where
 abbrev pub names_hold : List Module → Module → Bool
 names_hold store m =
     modules_are_there store m (length m.module_handles) && structs_are_there store m 0 m.struct_handles && list_all (function_is_there store m) m.function_handles
-
--- c, d, e and g of a bundle among the modules, and f of them all
-pub record IsLinkedBundle (modules bundle : List Module) : Type 0 where
-  pub named : IsTrue (list_all (names_hold modules) bundle)
-  pub ordered : (m : Module) → Reaches modules m m → ⊥
-  pub small : IsTrue (list_all (λ m. list_all (struct_is_small modules m) m.structs) bundle)

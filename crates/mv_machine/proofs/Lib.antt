@@ -1,6 +1,7 @@
 pub mod Common
 pub mod Computed
 pub mod Coin
+pub mod Empty
 pub mod Rows
 pub mod Reported
 pub mod Laws

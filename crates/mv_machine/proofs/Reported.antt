@@ -1,15 +1,21 @@
 -- Worked answers and lines of the coin module, by computation.
 use Rattle.mv_machine.proofs.Common.{[], ℕ, ◌∷◌, ◌≡◌, Err, List, None, Option, Some, refl, codes, Number, U64, U8, admitted, Leaf, Value}
-use Rattle.mv_machine.specs.Lines.{Reply, Told, reply_text}
-use Rattle.mv_machine.specs.Ledger.{LedgerState, empty_ledger, RunRequest, AsText, AsJson, with_bundle, attempted, shown, audited}
+use Rattle.mv_machine.specs.Lines.{Reply, Told, numbered, reply_lines}
+use Rattle.mv_machine.specs.Ledger.{LedgerState, RunRequest, AsText, AsJson, with_bundle, attempted, shown, audited}
 use Rattle.mv_machine.proofs.Coin.{coin_module}
 use Rattle.mv_machine.proofs.Computed.{computed}
+use Rattle.std.specs.Prelude.{flat_map}
+use Rattle.mv_machine.proofs.Empty.{empty_ledger}
 
 abbrev pub with_coin : LedgerState
 with_coin = with_bundle empty_ledger (record { text = []; certificate = []; tables = coin_module } ∷ [])
 
 abbrev pub mint_by : List Value → ℕ → RunRequest
 mint_by arguments budget = record { sender = 1; home = record { address = 1; name = codes "M" }; function = codes "mint"; budget = budget; arguments = arguments }
+
+-- the bytes of a reply to the record of this number
+abbrev pub reply_text : ℕ → Reply → List ℕ
+reply_text n reply = flat_map (numbered n) (reply_lines reply)
 
 -- the answer to a run, if it meets no fault
 abbrev pub answer : LedgerState → RunRequest → Option (Reply × LedgerState)

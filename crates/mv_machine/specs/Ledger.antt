@@ -25,10 +25,6 @@ pub record LedgerState : Type 0 where
   pub tallies : List Tallied
   pub runs : ℕ
 
--- the ledger to begin with
-abbrev pub empty_ledger : LedgerState
-empty_ledger = record { published = []; storage = []; tallies = []; runs = 0 }
-
 -- the published modules' tables
 abbrev pub modules_of : LedgerState → List Module
 modules_of s = map (λ p. p.tables) s.published

@@ -161,7 +161,3 @@ reply_lines (Told lines) = lines
 -- a line of the report: the record's number, a space, the text and a line end
 abbrev pub numbered : ℕ → List ℕ → List ℕ
 numbered n text = decimal n ++ codes " " ++ text ++ 10 ∷ []
-
--- the bytes of a reply to the record of this number
-abbrev pub reply_text : ℕ → Reply → List ℕ
-reply_text n reply = flat_map (numbered n) (reply_lines reply)

@@ -1,7 +1,7 @@
 -- What a step of the code on its slots does to what they show.
 use Rattle.mv_storage.proofs.Common.{[], ℕ, ⊎_elim, ◌++◌, ◌||◌, ◌∙◌, ◌∷◌, ◌≡◌, ◌≤◌, Bool, List, None, Option, Some, ap, arith, cond, false, inl, inr, is_some, refl, slice_get}
 use Rattle.mv_storage.proofs.Common.{slice_index_or, slice_set, subst, sym, true, IsOrdered, get, is_at, lookup, option_and_then, Key, FlatEntry, same_key, words_under, AreNoted}
-use Rattle.mv_storage.proofs.Common.{AreSettling, IsSettling, IsSound, IsTracked, ShowsSame, is_changed, is_vacant, key_cmp, layer_at, of_layer, seen, slot_at, value_at, Places, Layer}
+use Rattle.mv_storage.proofs.Common.{IsSettling, IsSound, IsTracked, ShowsSame, is_changed, is_vacant, key_cmp, layer_at, of_layer, seen, slot_at, value_at, Places, Layer}
 use Rattle.mv_storage.proofs.Common.{Committed, Current, Slot, Vacant}
 use Rattle.std.specs.BTreeMap.{BTreeMap}
 use Rattle.std.specs.List.{list_any}
@@ -13,6 +13,11 @@ use Rattle.mv_storage.proofs.Keys.{same_key-is, same_key-refl, same_key-symm, sa
 use Rattle.mv_storage.proofs.PlaceLemmas.{HasAt, HasPlace, Put, place-read, settling-used, wrote-at, removed-at, used-not_vacant, same-sound, same-slots, same-settling, wrote-settling}
 use Rattle.mv_storage.proofs.PlaceLemmas.{removed-settling, slice_set-again, slice_set-read}
 use Rattle.mv_storage.proofs.Shown.{shown_of, words_under-shown, shown-same, layers-same}
+
+-- each key touched has the place that it is noted with, or has been taken out since
+abbrev pub AreSettling : Places → List (Key × ℕ) → Type 0
+AreSettling p [] = Unit {0}
+AreSettling p (t ∷ ts) = IsSettling p t.0 t.1 × AreSettling p ts
 
 -- the words under a key are those of the slot under it
 pub reads : (layer : Layer) (p : Places) (q : Key) (o : Option Slot) → IsOrdered key_cmp p.tree → o ≡ slot_at p q

@@ -151,11 +151,6 @@ IsRemembered tree (Some t) = get key_cmp tree t.0 ≡ Some t.1
 abbrev pub IsSettling : Places → Key → ℕ → Type 0
 IsSettling p key place = (get key_cmp p.tree key ≡ Some place) ⊎ ((get key_cmp p.tree key ≡ None) × IsVacantAt p.slots.items place)
 
--- each key touched has the place that it is noted with, or has been taken out since
-abbrev pub AreSettling : Places → List (Key × ℕ) → Type 0
-AreSettling p [] = Unit {0}
-AreSettling p (t ∷ ts) = IsSettling p t.0 t.1 × AreSettling p ts
-
 -- what settling the slot of one key leaves: the layer shows what it showed, the slot is not a run's change any more, each
 -- other key has the slot that it had, and what is left to settle can be settled
 pub record IsSettledAt (layer : Layer) (key : Key) (old new : Places) : Type 0 where

@@ -1,11 +1,11 @@
 -- Calls and returns, at lists of locals and operands.
 use Rattle.std.proofs.Common.{◌≡◌, ℕ, zero, suc, ◌<◌, ◌≤◌, ◌+◌, List, [], ◌∷◌, ◌++◌, length, Bool, true, ◌⊎◌, inl, inr, refl, sym, ◌∙◌, ap, arith, Option, Some}
-use Rattle.mv_borrow_graph.specs.Abstract.Places.{Defined, Label}
-use Rattle.mv_borrow_graph.specs.Abstract.Covers.{Node, Slot, Own, Glob, Temp, Ref, Live, Edges, InList, Covers}
-use Rattle.mv_borrow_graph.specs.Abstract.Rows.{IsArgument, after_call}
-use Rattle.mv_borrow_graph.specs.Abstract.Lists.{Value, Plain, Reference, stack_ref, local_ref, refs_of, Activation, seen, Lent, GivenAt, first_locals, refs_among}
+use Rattle.mv_borrow_graph.proofs.Abstract.Terms.Places.{Defined, Label}
+use Rattle.mv_borrow_graph.proofs.Abstract.Terms.Covers.{Node, Slot, Own, Glob, Temp, Ref, Live, Edges, InList, Covers}
+use Rattle.mv_borrow_graph.proofs.Abstract.Terms.Rows.{IsArgument, after_call}
+use Rattle.mv_borrow_graph.proofs.Abstract.Terms.Lists.{Value, Plain, Reference, stack_ref, local_ref, refs_of, Activation, seen, Lent, GivenAt, first_locals, refs_among}
 use Rattle.mv_borrow_graph.proofs.Abstract.Lists.{same_temp, stack_pushed, stack_top, stack_under, stack_joined, returned, returned_at}
-use Rattle.mv_borrow_graph.specs.Abstract.Stack.{Entered, Layer, Calls, Chain}
+use Rattle.mv_borrow_graph.proofs.Abstract.Terms.Stack.{Entered, Layer, Calls, Chain}
 use Rattle.mv_borrow_graph.proofs.Abstract.Stack.{covers_returned}
 
 pub locals_from : (args : List Value) (rest : List (Option Value)) (j : ℕ) (r : Ref) → local_ref (first_locals args rest) j ≡ Some r

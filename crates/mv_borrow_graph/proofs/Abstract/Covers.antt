@@ -1,9 +1,9 @@
 -- A frame stays covered where references go, are renamed or come in, and edges grow.
 use Rattle.std.proofs.Common.{◌≡◌, ℕ, List, ◌++◌, true, ◌⊎◌, inl, inr, sym, ◌∙◌, ap, ap₂, append_assoc, Option, Some}
 use Rattle.std.proofs.Math.Decide.{ℕ_discrete}
-use Rattle.mv_borrow_graph.specs.Abstract.Places.{Defined, Local, Global, Place, Below, Overlap, Label, Reach, Matches, LabelBelow, under}
+use Rattle.mv_borrow_graph.proofs.Abstract.Terms.Places.{Defined, Local, Global, Place, Below, Overlap, Label, Reach, Matches, LabelBelow, under}
 use Rattle.mv_borrow_graph.proofs.Abstract.Places.{below_trans, overlap_sym, overlap_above, reach_above, matches_above}
-use Rattle.mv_borrow_graph.specs.Abstract.Covers.{Node, Slot, Own, Glob, Temp, Ref, Frame, with_refs, Live, Edges, Origin, FromOwn, FromStore, FromEntry, Leads, Covers}
+use Rattle.mv_borrow_graph.proofs.Abstract.Terms.Covers.{Node, Slot, Own, Glob, Temp, Ref, Frame, with_refs, Live, Edges, Origin, FromOwn, FromStore, FromEntry, Leads, Covers}
 
 pub swap : {A B : Type 0} → A ⊎ B → B ⊎ A
 swap (inl a) = inr a

@@ -2,11 +2,11 @@
 use Rattle.std.proofs.Common.{◌≡◌, ℕ, zero, suc, ◌<◌, ◌+◌, List, [], ◌∷◌, ◌++◌, length, map, reverse, Bool, true, ◌⊎◌, inl, inr, refl, sym, ◌∙◌, ap, arith, Option, Some, None}
 use Rattle.std.proofs.lemmas.Bool.Decides.{eqb_tells}
 use Rattle.std.proofs.lemmas.List.{length-append}
-use Rattle.mv_borrow_graph.specs.Abstract.Places.{Label, Agrees, field_of}
-use Rattle.mv_borrow_graph.specs.Abstract.Rows.{after_field}
+use Rattle.mv_borrow_graph.proofs.Abstract.Terms.Places.{Label, Agrees, field_of}
+use Rattle.mv_borrow_graph.proofs.Abstract.Terms.Rows.{after_field}
 use Rattle.std.proofs.lemmas.Bool.{cases_eq}
-use Rattle.mv_borrow_graph.specs.Abstract.Covers.{Node, Slot, Own, Glob, Temp, Ref, Live, Edges, Covers}
-use Rattle.mv_borrow_graph.specs.Abstract.Lists.{Value, Reference, ref_of, ref_in, stack_ref, local_ref, set_local, refs_of, Activation, seen}
+use Rattle.mv_borrow_graph.proofs.Abstract.Terms.Covers.{Node, Slot, Own, Glob, Temp, Ref, Live, Edges, Covers}
+use Rattle.mv_borrow_graph.proofs.Abstract.Terms.Lists.{Value, Reference, ref_of, ref_in, stack_ref, local_ref, set_local, refs_of, Activation, seen}
 use Rattle.mv_borrow_graph.proofs.Abstract.Rows.{Pushed, row_field_mutable}
 use Rattle.std.proofs.lemmas.Option.{same_Some}
 

@@ -1,7 +1,7 @@
 -- Facts of places and labels: what a label names, and when places overlap.
 use Rattle.std.proofs.Common.{◌≡◌, ℕ, List, [], ◌∷◌, ◌++◌, ◌⊎◌, inl, inr, refl, sym, ◌∙◌, ap, subst, append_assoc}
 use Rattle.std.proofs.lemmas.List.{append-nil}
-use Rattle.mv_borrow_graph.specs.Abstract.Places.{Place, Begins, Below, Overlap, Label, Exact, Open, steps, Reach, Matches, LabelBelow, extend, opened, AgreesWith, Agrees, field_of}
+use Rattle.mv_borrow_graph.proofs.Abstract.Terms.Places.{Place, Begins, Below, Overlap, Label, Exact, Open, steps, Reach, Matches, LabelBelow, extend, opened, AgreesWith, Agrees, field_of}
 
 pub begins_self : (a : List ℕ) → Begins a a
 begins_self a = ([], sym (append-nil a))

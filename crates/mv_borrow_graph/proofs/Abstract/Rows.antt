@@ -1,10 +1,10 @@
 -- Each rule of borrows keeps a frame covered.
 use Rattle.std.proofs.Common.{◌≡◌, ℕ, List, [], ◌∷◌, ◌++◌, Bool, true, false, ◌⊎◌, inl, inr, refl, sym, ◌∙◌, Option, Some}
 use Rattle.std.proofs.lemmas.List.{append-nil}
-use Rattle.mv_borrow_graph.specs.Abstract.Places.{Defined, Local, Global, Place, Overlap, Label, Exact, Open, Reach, LabelBelow, extend, Agrees, under, field_of}
+use Rattle.mv_borrow_graph.proofs.Abstract.Terms.Places.{Defined, Local, Global, Place, Overlap, Label, Exact, Open, Reach, LabelBelow, extend, Agrees, under, field_of}
 use Rattle.mv_borrow_graph.proofs.Abstract.Places.{begins_self, overlap_sym, reach_extend, matches_apart}
-use Rattle.mv_borrow_graph.specs.Abstract.Covers.{Node, Slot, Own, Glob, Temp, Ref, Frame, with_refs, Live, Edges, FromOwn, FromStore, Covers}
-use Rattle.mv_borrow_graph.specs.Abstract.Rows.{after_copy, after_copy_mutable, apart_from, after_field, after_freeze, after_borrow}
+use Rattle.mv_borrow_graph.proofs.Abstract.Terms.Covers.{Node, Slot, Own, Glob, Temp, Ref, Frame, with_refs, Live, Edges, FromOwn, FromStore, Covers}
+use Rattle.mv_borrow_graph.proofs.Abstract.Terms.Rows.{after_copy, after_copy_mutable, apart_from, after_field, after_freeze, after_borrow}
 use Rattle.mv_borrow_graph.proofs.Abstract.Covers.{covers_pull, covers_put, covers_derived}
 use Rattle.std.proofs.lemmas.Bool.{both_ways}
 

@@ -1,10 +1,10 @@
 -- Steps of stacks of frames keep what holds of them.
 use Rattle.std.proofs.Common.{◌≡◌, ℕ, List, [], ◌∷◌, ◌++◌, length, Bool, true, refl, Option, Some}
-use Rattle.mv_borrow_graph.specs.Abstract.Places.{Defined, Label, LabelBelow}
-use Rattle.mv_borrow_graph.specs.Abstract.Covers.{Node, Own, Glob, Temp, Ref, Live, Edges}
-use Rattle.mv_borrow_graph.specs.Abstract.Rows.{Row, Need, After, IsArgument, after_call}
-use Rattle.mv_borrow_graph.specs.Abstract.Lists.{Value, local_ref, refs_of, refs_among, first_locals, Activation, seen, Lent, GivenAt}
-use Rattle.mv_borrow_graph.specs.Abstract.Stack.{Layer, Calls, Homed, Chain}
+use Rattle.mv_borrow_graph.proofs.Abstract.Terms.Places.{Defined, Label, LabelBelow}
+use Rattle.mv_borrow_graph.proofs.Abstract.Terms.Covers.{Node, Own, Glob, Temp, Ref, Live, Edges}
+use Rattle.mv_borrow_graph.proofs.Abstract.Terms.Rows.{Row, Need, After, IsArgument, after_call}
+use Rattle.mv_borrow_graph.proofs.Abstract.Terms.Lists.{Value, local_ref, refs_of, refs_among, first_locals, Activation, seen, Lent, GivenAt}
+use Rattle.mv_borrow_graph.proofs.Abstract.Terms.Stack.{Layer, Calls, Homed, Chain}
 use Rattle.mv_borrow_graph.proofs.Abstract.Rows.{row_rise}
 use Rattle.mv_borrow_graph.proofs.Abstract.Stack.{chain_covers, chain_step, chain_call, chain_return}
 use Rattle.mv_borrow_graph.proofs.Abstract.Calls.{came_from, entered_at, came_apart, return_row}

@@ -1,10 +1,10 @@
 -- What follows of a stack of covered frames: no live reference into what a frame gives up, and frames kept apart.
 use Rattle.std.proofs.Common.{◌≡◌, ℕ, ◌<◌, ◌≤◌, List, [], ◌∷◌, true, false, ◌⊎◌, inl, inr, refl, sym, ◌∙◌, ap, arith, Option, Some}
-use Rattle.mv_borrow_graph.specs.Abstract.Places.{Defined, Local, Global, Place, Below, Overlap, Label, Reach, opened}
+use Rattle.mv_borrow_graph.proofs.Abstract.Terms.Places.{Defined, Local, Global, Place, Below, Overlap, Label, Reach, opened}
 use Rattle.mv_borrow_graph.proofs.Abstract.Places.{below_self, below_trans, overlap_sym, overlap_above, matches_opened, reach_opened}
-use Rattle.mv_borrow_graph.specs.Abstract.Covers.{Node, Own, Glob, Ref, Frame, with_refs, Live, Edges, InList, Given, Origin, FromOwn, FromStore, FromEntry, Leads, Covers}
+use Rattle.mv_borrow_graph.proofs.Abstract.Terms.Covers.{Node, Own, Glob, Ref, Frame, with_refs, Live, Edges, InList, Given, Origin, FromOwn, FromStore, FromEntry, Leads, Covers}
 use Rattle.mv_borrow_graph.proofs.Abstract.Covers.{origin_kept, swap, one_ref}
-use Rattle.mv_borrow_graph.specs.Abstract.Stack.{Entered, Layer, OnStack, Top, Lower, Calls, Homed, Chain, Bottom, Above}
+use Rattle.mv_borrow_graph.proofs.Abstract.Terms.Stack.{Entered, Layer, OnStack, Top, Lower, Calls, Homed, Chain, Bottom, Above}
 use Rattle.std.proofs.lemmas.Bool.{both_ways}
 
 pub overlap_root : (a b : Place) → Overlap a b → a.root ≡ b.root

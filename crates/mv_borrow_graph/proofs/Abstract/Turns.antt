@@ -1,9 +1,9 @@
 -- What each rule does to the lists, and that it keeps a frame covered.
 use Rattle.std.proofs.Common.{◌≡◌, ℕ, List, [], ◌∷◌, length, Bool, true, false, inl, inr, refl, Some, None}
-use Rattle.mv_borrow_graph.specs.Abstract.Places.{Defined, Local, Global, field_of}
-use Rattle.mv_borrow_graph.specs.Abstract.Covers.{Node, Slot, Temp, Ref, Live, Edges, Covers}
-use Rattle.mv_borrow_graph.specs.Abstract.Rows.{Row, CopyRef, CopyMut, MoveRef, StoreRef, BorrowLocal, BorrowField, BorrowGlobal, Freeze, Drop, Need, After, after_move, after_store}
-use Rattle.mv_borrow_graph.specs.Abstract.Lists.{Value, Plain, Reference, local_ref, set_local, refs_of, Activation, seen}
+use Rattle.mv_borrow_graph.proofs.Abstract.Terms.Places.{Defined, Local, Global, field_of}
+use Rattle.mv_borrow_graph.proofs.Abstract.Terms.Covers.{Node, Slot, Temp, Ref, Live, Edges, Covers}
+use Rattle.mv_borrow_graph.proofs.Abstract.Terms.Rows.{Row, CopyRef, CopyMut, MoveRef, StoreRef, BorrowLocal, BorrowField, BorrowGlobal, Freeze, Drop, Need, After, after_move, after_store}
+use Rattle.mv_borrow_graph.proofs.Abstract.Terms.Lists.{Value, Plain, Reference, local_ref, set_local, refs_of, Activation, seen}
 use Rattle.mv_borrow_graph.proofs.Abstract.Rows.{row_copy_immutable, row_copy_mutable, row_field_mutable, row_field_immutable, row_freeze}
 use Rattle.mv_borrow_graph.proofs.Abstract.Rows.{row_borrow_mutable, row_borrow_immutable, row_borrow_global_mutable, row_borrow_global_immutable}
 use Rattle.mv_borrow_graph.proofs.Abstract.Rows.{row_drop, row_rename}

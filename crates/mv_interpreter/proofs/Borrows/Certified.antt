@@ -11,7 +11,8 @@ use Rattle.mv_edges.specs.Edges.{label_leq, edge_leq, edges_leq}
 use Rattle.mv_certificate.specs.Certificate.{Known, Rule, through, instructions_of, stated_at, flows_into, block_holds}
 use Rattle.mv_certificate.specs.Known.{known_after}
 use Rattle.mv_locals_safety.specs.LocalsRules.{locals_after}
-use Rattle.mv_borrow_graph.specs.{BorrowRules.edges_after, Abstract.Places.Begins}
+use Rattle.mv_borrow_graph.specs.{BorrowRules.edges_after}
+use Rattle.mv_borrow_graph.proofs.{Abstract.Terms.Places.Begins}
 use Rattle.mv_borrow_graph.specs.Laws.There.{same_node-is}
 
 -- ---- the order

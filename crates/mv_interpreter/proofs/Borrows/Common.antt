@@ -34,20 +34,20 @@ pub use Rattle.mv_machine.specs.StepParts.{Here, can_drop, operand, as_fields, T
 pub use Rattle.mv_machine.specs.Typing.{tag_named, Faults, TypeFault, entry, has_tag, FrozenFault, LostFault}
 pub use Rattle.mv_machine.specs.Value.{Stored, Reference, Value, Local, Leaf, Struct, Ref, Root, Place}
 pub use Rattle.mv_borrow_graph.proofs.Abstract.Run.{layer, EdgesBelow, Kinds, chain_steps}
-pub use Rattle.mv_borrow_graph.specs.Abstract.Covers.{Node as TheNode, Own as AtOwn, Glob as AtGlob, Temp as AtTemp, Ref as TheRef, Live, Slot as AtSlot, Edges}
-pub use Rattle.mv_borrow_graph.specs.Abstract.Lists.{Value as TheValue, seen as seen_frame, local_ref, stack_ref, Activation, refs_among, set_local}
-pub use Rattle.mv_borrow_graph.specs.Abstract.Places.{Defined, Label as TheLabel, LabelBelow}
-pub use Rattle.mv_borrow_graph.specs.Abstract.Rows.{Bars, BorrowField, Need}
-pub use Rattle.mv_borrow_graph.specs.Abstract.Stack.{Chain, Layer, OnStack, Top, Lower}
+pub use Rattle.mv_borrow_graph.proofs.Abstract.Terms.Covers.{Node as TheNode, Own as AtOwn, Glob as AtGlob, Temp as AtTemp, Ref as TheRef, Live, Slot as AtSlot, Edges}
+pub use Rattle.mv_borrow_graph.proofs.Abstract.Terms.Lists.{Value as TheValue, seen as seen_frame, local_ref, stack_ref, Activation, refs_among, set_local}
+pub use Rattle.mv_borrow_graph.proofs.Abstract.Terms.Places.{Defined, Label as TheLabel, LabelBelow}
+pub use Rattle.mv_borrow_graph.proofs.Abstract.Terms.Rows.{Bars, BorrowField, Need}
+pub use Rattle.mv_borrow_graph.proofs.Abstract.Terms.Stack.{Chain, Layer, OnStack, Top, Lower}
 pub use Rattle.mv_borrow_graph.specs.BorrowRules.{no_edge_out, is_mutable, return_edges, no_mutable_from, is_mutable_token, is_reference_token, call_edges, is_temp, is_root_node}
 pub use Rattle.mv_edges.specs.Edges.{Edge, same_node, without, inherited, Label, here, renamed, an_edge, extended, out_of}
 pub use Rattle.mv_type_states.specs.TypeRules.{Types, of_call}
 pub use Rattle.mv_type_states.specs.TypesHold.{Point}
 pub use Rattle.mv_interpreter.proofs.Lists.{map-turned}
 pub use Rattle.mv_interpreter.specs.Borrows.Covers.{Seen}
-pub use Rattle.mv_interpreter.specs.Borrows.Hypotheses.{token_kind, operand_kind, Fits, InRefs, NoneInside, NoneOf}
-pub use Rattle.mv_interpreter.specs.Borrows.Links.{IsCall, Reaches}
-pub use Rattle.mv_interpreter.specs.Borrows.Stood.{Stood, seen_of, layer_at, layers, home_of, StoodOn, Descending, AllUnder, Sound}
-pub use Rattle.mv_interpreter.specs.Borrows.View.{ref_of, defined, local_of, node_of, Member, edges_of, held_as, activation, acquires_of, layer_of, operands_of, kind_at, label_from, alone}
-pub use Rattle.mv_interpreter.specs.Borrows.View.{root_of, AmongNodes, label_of}
+pub use Rattle.mv_interpreter.proofs.Borrows.Hypotheses.{token_kind, operand_kind, Fits, InRefs, NoneInside, NoneOf}
+pub use Rattle.mv_interpreter.proofs.Borrows.Links.{IsCall, Reaches}
+pub use Rattle.mv_interpreter.proofs.Borrows.Stood.{Stood, seen_of, layer_at, layers, home_of, StoodOn, Descending, AllUnder, Sound}
+pub use Rattle.mv_interpreter.proofs.Borrows.View.{ref_of, defined, local_of, node_of, Member, edges_of, held_as, activation, acquires_of, layer_of, operands_of, kind_at, label_from, alone}
+pub use Rattle.mv_interpreter.proofs.Borrows.View.{root_of, AmongNodes, label_of}
 pub use Rattle.mv_module_text.proofs.Texts.{on_bind}

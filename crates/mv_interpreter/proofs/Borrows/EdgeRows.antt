@@ -3,8 +3,8 @@ use Rattle.mv_interpreter.proofs.Borrows.Common.{refl, sym, ◌≡◌, ℕ, List
 use Rattle.mv_interpreter.proofs.Borrows.Common.{same_node, without, inherited, Label, here, renamed, an_edge, extended, node_of, Member, edges_of, label_from, label_of}
 use Rattle.std.proofs.Common.{◌&&◌}
 use Rattle.mv_edges.specs.Edges.{into, renamed_node}
-use Rattle.mv_borrow_graph.specs.Abstract.Places.{extend}
-use Rattle.mv_borrow_graph.specs.Abstract.Rows.{after_copy, after_copy_mutable, apart_from, after_field, after_freeze, after_borrow, after_move, after_store, Renamed}
+use Rattle.mv_borrow_graph.proofs.Abstract.Terms.Places.{extend}
+use Rattle.mv_borrow_graph.proofs.Abstract.Terms.Rows.{after_copy, after_copy_mutable, apart_from, after_field, after_freeze, after_borrow, after_move, after_store, Renamed}
 use Rattle.mv_interpreter.proofs.Borrows.Edges.{node_of-inj, node-is, node-not, member_left, member_right, member_map, member_filter, Included}
 
 pub inherited_in : (change : Label → Label) (old new : Node) (e : Edge) (es : List Edge) → Member e es → e.to ≡ old

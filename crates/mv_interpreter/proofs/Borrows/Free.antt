@@ -8,11 +8,11 @@ use Rattle.mv_interpreter.proofs.Borrows.Common.{Stood, seen_of, layer_at, layer
 use Rattle.mv_interpreter.proofs.Borrows.Common.{operands_of, root_of}
 use Rattle.std.specs.List.{cons_option}
 use Rattle.mv_machine.specs.{State.same_key, Live.references, Live.local_references, Live.same_root, StepControl.holds_frame, StepControl.is_local_of}
-use Rattle.mv_borrow_graph.specs.Abstract.Places.{Local as InLocal, Global as InStore, Overlap, Reach}
-use Rattle.mv_borrow_graph.specs.{Abstract.Covers.Covers as TheCovers, Abstract.Stack.Above}
+use Rattle.mv_borrow_graph.proofs.Abstract.Terms.Places.{Local as InLocal, Global as InStore, Overlap, Reach}
+use Rattle.mv_borrow_graph.proofs.{Abstract.Terms.Covers.Covers as TheCovers, Abstract.Terms.Stack.Above}
 use Rattle.mv_borrow_graph.proofs.Abstract.Stack.{local_unborrowed, struct_unborrowed, write_unfrozen, local_below, number_below, chain_covers}
 use Rattle.mv_borrow_graph.proofs.Abstract.Places.{overlap_sym}
-use Rattle.mv_interpreter.specs.Borrows.View.{place_of}
+use Rattle.mv_interpreter.proofs.Borrows.View.{place_of}
 use Rattle.mv_interpreter.proofs.Borrows.Edges.{free_out, none_any, then-some, node_of-inj}
 use Rattle.mv_interpreter.proofs.{Borrows.Lists.place_get, Borrows.Lists.stack-seen, Borrows.Kept.place-under}
 

@@ -7,7 +7,7 @@ use Rattle.mv_borrow_graph.specs.BorrowRules.{edges_after}
 use Rattle.mv_move_types.specs.declared.tables.Definition.{Definition}
 use Rattle.mv_machine.specs.StepControl.{Callee, callee, call, return_results}
 use Rattle.mv_machine.specs.Step.{rule}
-use Rattle.mv_interpreter.specs.{Borrows.Links.CallFacts, Borrows.Stood.point_of, Borrows.Stood.Linked, Borrows.Stood.LinkedTo}
+use Rattle.mv_interpreter.proofs.{Borrows.Links.CallFacts, Borrows.Stood.point_of, Borrows.Stood.Linked, Borrows.Stood.LinkedTo}
 use Rattle.mv_interpreter.proofs.{Borrows.Calls.call-kept, Borrows.Calls.return-kept, Borrows.Same.SameSeen, Borrows.Same.SameFrames, Borrows.Same.layer-same, Borrows.Kept.falls-same}
 use Rattle.mv_interpreter.proofs.{Borrows.Kept.kept-falls, Borrows.Standing.Standing, Borrows.Standing.IsTransfer, Borrows.Standing.Stays, Borrows.Steps.step-kept}
 use Rattle.mv_machine.proofs.Transfers.{called, Called, callee-is, signature-is, tags-long, returned, ReturnedTo}

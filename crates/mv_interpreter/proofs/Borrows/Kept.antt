@@ -4,8 +4,8 @@ use Rattle.mv_interpreter.proofs.Borrows.Common.{eqb_tells, length-map, same_Som
 use Rattle.mv_interpreter.proofs.Borrows.Common.{Reference, Value, Local, layer, EdgesBelow, Kinds, chain_steps, TheNode, AtOwn, AtGlob, AtTemp, TheRef, Live, AtSlot, Edges, TheValue}
 use Rattle.mv_interpreter.proofs.Borrows.Common.{seen_frame, Activation, set_local, TheLabel, LabelBelow, Bars, BorrowField, Need, Chain, Layer, Edge, same_node, without, inherited, here}
 use Rattle.mv_interpreter.proofs.Borrows.Common.{renamed, an_edge, extended, home_of, ref_of, defined, local_of, edges_of, held_as, activation, acquires_of}
-use Rattle.mv_borrow_graph.specs.{Abstract.Places.Exact, Abstract.Places.Open, Abstract.Lists.Reference as Held, Abstract.Lists.refs_of}
-use Rattle.mv_borrow_graph.specs.Abstract.Rows.{Row, CopyRef, CopyMut, MoveRef, StoreRef, BorrowLocal, BorrowGlobal, Freeze, Drop, After}
+use Rattle.mv_borrow_graph.proofs.{Abstract.Terms.Places.Exact, Abstract.Terms.Places.Open, Abstract.Terms.Lists.Reference as Held, Abstract.Terms.Lists.refs_of}
+use Rattle.mv_borrow_graph.proofs.Abstract.Terms.Rows.{Row, CopyRef, CopyMut, MoveRef, StoreRef, BorrowLocal, BorrowGlobal, Freeze, Drop, After}
 use Rattle.mv_borrow_graph.proofs.{Abstract.Places.begins_self, Abstract.Run.ByRow, Abstract.Run.ByValue}
 use Rattle.mv_borrow_graph.proofs.Abstract.Turns.{Turn, Copies, CopiesMutable, Moves, Stores, BorrowsLocal, BorrowsField, BorrowsGlobal, Freezes, Drops}
 use Rattle.mv_interpreter.proofs.Borrows.Edges.{Included}

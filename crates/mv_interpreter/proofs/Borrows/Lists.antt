@@ -4,7 +4,7 @@ use Rattle.mv_interpreter.proofs.Borrows.Common.{eqb_tells, reverse_onto, length
 use Rattle.mv_interpreter.proofs.Borrows.Common.{TheRef, TheValue, local_ref, stack_ref, set_local, ref_of, local_of, held_as}
 use Rattle.std.proofs.{lemmas.Option.slice_get_past, lemmas.Bool.cases_lt}
 use Rattle.mv_bounds.proofs.PlaceLemmas.{slice_get-first, slice_get-second}
-use Rattle.mv_borrow_graph.specs.Abstract.Lists.{ref_of as the_ref_of}
+use Rattle.mv_borrow_graph.proofs.Abstract.Terms.Lists.{ref_of as the_ref_of}
 
 -- the element with k under it
 abbrev pub place_get : {A : Type 0} → List A → ℕ → Option A

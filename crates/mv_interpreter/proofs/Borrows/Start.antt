@@ -2,7 +2,7 @@
 use Rattle.mv_interpreter.proofs.Borrows.Common.{refl, sym, ◌≡◌, ℕ, List, [], ◌∷◌, ap, subst, zero, suc, ◌++◌, map, Some, None, reverse, ◌∙◌, ◌<◌, same_Some, none-some, slice_get}
 use Rattle.mv_interpreter.proofs.Borrows.Common.{replicate, Module, FunctionDefinition, reference_of, State, Value, TheNode, AtTemp, TheRef, Live, AtSlot, seen_frame, stack_ref}
 use Rattle.mv_interpreter.proofs.Borrows.Common.{refs_among, Edge, Types, map-turned, NoneOf, StoodOn, Descending, Sound, held_as, activation, alone}
-use Rattle.mv_borrow_graph.specs.Abstract.Stack.{Bottom}
+use Rattle.mv_borrow_graph.proofs.Abstract.Terms.Stack.{Bottom}
 use Rattle.mv_interpreter.proofs.{Borrows.Lists.local-back, Borrows.Operands.none-reverse, Borrows.Calls.homed}
 
 none-given : (args : List Value) (n l : ℕ) (v : Value) → NoneOf args → slice_get (map Some args ++ replicate n None) l ≡ Some (Some v) → reference_of v ≡ None

@@ -9,7 +9,7 @@ use Rattle.mv_edges.specs.Edges.{agrees}
 use Rattle.mv_borrow_graph.specs.BorrowRules.{edges_after, position_of, field_edges, top_temp}
 use Rattle.mv_machine.specs.StepStructs.{OwnStruct, own_struct}
 use Rattle.mv_machine.specs.StepReferences.{borrow_field, write_reference, read_reference, freeze, own_field, lends}
-use Rattle.mv_borrow_graph.specs.Abstract.Places.{Agrees, AgreesWith, steps}
+use Rattle.mv_borrow_graph.proofs.Abstract.Terms.Places.{Agrees, AgreesWith, steps}
 use Rattle.mv_interpreter.proofs.Borrows.Same.{same-all, layer-same, write-same, plain-tagged}
 use Rattle.mv_interpreter.proofs.Borrows.Edges.{kind_of_node, free_mutable, then-some, none_any, node_of-inj, node-is, member_filter}
 use Rattle.mv_interpreter.proofs.Borrows.Kept.{Falls, falls-pushed, falls-popped, falls-same, kept-borrow-field, kept-freeze}

@@ -4,8 +4,8 @@ use Rattle.mv_interpreter.proofs.Guided.Common.{reverse_onto, list_any, ◌==◌
 use Rattle.mv_interpreter.proofs.Guided.Common.{Reference, Live, InLocal, InStore, Chain, no_edge_out, return_edges, Point, InRefs, Stood, seen_of, layer_at, layers, StoodOn, home_of}
 use Rattle.mv_interpreter.proofs.Guided.Common.{root_of, defined, ref_of, operands_of}
 use Rattle.std.specs.Prelude.{filter_map}
-use Rattle.mv_borrow_graph.specs.Abstract.Covers.{Node as TheNode, Temp as AtTemp}
-use Rattle.mv_borrow_graph.specs.Abstract.Stack.{Layer, OnStack, Top, Lower}
+use Rattle.mv_borrow_graph.proofs.Abstract.Terms.Covers.{Node as TheNode, Temp as AtTemp}
+use Rattle.mv_borrow_graph.proofs.Abstract.Terms.Stack.{Layer, OnStack, Top, Lower}
 use Rattle.mv_borrow_graph.proofs.Abstract.Stack.{local_unborrowed, struct_unborrowed}
 use Rattle.mv_interpreter.proofs.{Borrows.Edges.free_out, Borrows.Lists.place_get, Borrows.Lists.stack-seen, Borrows.Kept.place-under}
 use Rattle.mv_interpreter.proofs.Borrows.Free.{live-at, below-free, result-free, in-cons, place-top}

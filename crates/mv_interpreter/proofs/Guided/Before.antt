@@ -2,10 +2,10 @@
 use Rattle.mv_interpreter.proofs.Guided.Common.{◌≡◌, ℕ, ◌+◌, ◌-◌, List, [], ◌∷◌, ◌++◌, map, length, true, false, refl, sym, ◌∙◌, ap, subst, arith, Bool, Option, Some, option_map, inl, inr}
 use Rattle.mv_interpreter.proofs.Guided.Common.{◌<◌, ◌≤◌, take, and_parts, and_from, leb-true, false_from_ne_true, same_Some, list_all, option_map_or, slice_get, nat_le, zip, slice_range}
 use Rattle.mv_interpreter.proofs.Guided.Common.{ends_block, successors, Module, FunctionDefinition, Availability, Instruction, Known, Stated, flow_holds, through, stated_at}
-use Rattle.mv_interpreter.proofs.Guided.Common.{known_before, known_after, blocks-tile, Block, starts_from, blocks, leads_to, edges_leq, Edge, on_bind, locals_leq, Types, Point, all_at}
+use Rattle.mv_interpreter.proofs.Guided.Common.{known_before, known_after, blocks-tile, Block, starts_from, blocks, leads_to, edges_leq, Edge, on_bind, locals_leq, Types, Point, all_at, ◌&&◌}
 use Rattle.mv_machine.proofs.Binds.{map-is}
 use Rattle.mv_edges.proofs.Order.{edges_leq_itself}
-use Rattle.mv_certificate.specs.{Certificate.instructions_of, Certificate.flows_into, Certificate.block_holds, Known.known_leq, Known.block_of}
+use Rattle.mv_certificate.specs.{Certificate.instructions_of, Certificate.flows_into, Certificate.block_holds, Known.block_of}
 use Rattle.mv_locals_safety.specs.LocalsRules.{locals_after}
 use Rattle.mv_borrow_graph.specs.BorrowRules.{edges_after}
 use Rattle.mv_type_states.specs.TypeRules.{types_after}
@@ -16,6 +16,10 @@ use Rattle.mv_interpreter.proofs.Guided.Tiles.{Tiles, tiles-zip, holds_place, ti
 use Rattle.mv_cfg.proofs.Beginnings.{starts_from-ascending}
 use Rattle.std.proofs.Common.{drop}
 use Rattle.mv_locals_safety.specs.Laws.{leq_reflexive}
+
+-- what is known is below what else could be known, in both parts
+abbrev known_leq : Known → Known → Bool
+known_leq a b = locals_leq a.locals b.locals && edges_leq a.edges b.edges
 
 -- ---- lists
 

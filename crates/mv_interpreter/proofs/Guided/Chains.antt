@@ -1,9 +1,9 @@
 -- The invariant as the theory of borrows has it, and back.
 use Rattle.mv_interpreter.proofs.Guided.Common.{◌≡◌, ℕ, List, [], ◌∷◌, map, length, sym, ◌∙◌, ap, Option, Module, reference_of, Frame, State, frames, Reference, Chain, Certificate, Fits}
 use Rattle.mv_interpreter.proofs.Guided.Common.{Stood, seen_of, layer_at, layers, StoodOn, point_of, Sound, home_of, held_as, AllPlaced, StoodFit, AllAgree, Guided, AllCovered}
-use Rattle.mv_borrow_graph.specs.{Abstract.Stack.Bottom, Abstract.Stack.Above, Abstract.Stack.Calls, Abstract.Rows.IsArgument}
+use Rattle.mv_borrow_graph.proofs.{Abstract.Terms.Stack.Bottom, Abstract.Terms.Stack.Above, Abstract.Terms.Stack.Calls, Abstract.Terms.Rows.IsArgument}
 use Rattle.mv_borrow_graph.proofs.Abstract.Stack.{chain_covers, chain_return}
-use Rattle.mv_interpreter.specs.{Borrows.Stood.Linked, Borrows.Stood.LinkedTo, Guided.Guided.FirstAlone}
+use Rattle.mv_interpreter.proofs.{Borrows.Stood.Linked, Borrows.Stood.LinkedTo, Guided.Guided.FirstAlone}
 use Rattle.mv_interpreter.proofs.Borrows.Calls.{homed, calls-hold}
 
 module _ (depends : ℕ → ℕ → Type 0) where

@@ -43,9 +43,9 @@ pub use Rattle.mv_machine.specs.StepParts.{Here, operand, operands, as_number, a
 pub use Rattle.mv_machine.specs.StepParts.{can_drop}
 pub use Rattle.mv_machine.specs.Typing.{Failure, Aborts, Faults, TypeFault, LinkageFault, LostFault, DanglingFault, FrozenFault, entry, linked, tag_named, value_type_tag, have_tags}
 pub use Rattle.mv_machine.specs.Value.{Value, Root, Local, Stored, Reference, Ref, Leaf, Struct, list_of}
-pub use Rattle.mv_borrow_graph.specs.Abstract.Covers.{Live}
-pub use Rattle.mv_borrow_graph.specs.Abstract.Places.{Local as InLocal, Global as InStore}
-pub use Rattle.mv_borrow_graph.specs.Abstract.Stack.{Chain}
+pub use Rattle.mv_borrow_graph.proofs.Abstract.Terms.Covers.{Live}
+pub use Rattle.mv_borrow_graph.proofs.Abstract.Terms.Places.{Local as InLocal, Global as InStore}
+pub use Rattle.mv_borrow_graph.proofs.Abstract.Terms.Stack.{Chain}
 pub use Rattle.mv_borrow_graph.specs.BorrowRules.{no_edge_out, return_edges}
 pub use Rattle.mv_certificate.specs.Certificate.{Known, Certificate, Stated, flow_holds, through, stated_at}
 pub use Rattle.mv_certificate.specs.Known.{known_before, known_after}
@@ -57,18 +57,18 @@ pub use Rattle.mv_locals_safety.specs.LocalsRules.{locals_leq}
 pub use Rattle.mv_type_states.specs.TypeRules.{Types}
 pub use Rattle.mv_type_states.specs.TypesHold.{Point}
 pub use Rattle.mv_interpreter.proofs.Lists.{map-turned}
-pub use Rattle.mv_interpreter.specs.Borrows.Hypotheses.{InRefs, Fits, token_kind, operand_kind, NoneOf, NoneInside}
+pub use Rattle.mv_interpreter.proofs.Borrows.Hypotheses.{InRefs, Fits, token_kind, operand_kind, NoneOf, NoneInside}
 pub use Rattle.mv_interpreter.specs.Borrows.Invariant.{Holds}
-pub use Rattle.mv_interpreter.specs.Borrows.Links.{Reaches}
-pub use Rattle.mv_interpreter.specs.Borrows.Locals.{AsKnown}
-pub use Rattle.mv_interpreter.specs.Borrows.Stood.{Stood, seen_of, layer_at, layers, StoodOn, point_of, Sound, home_of}
-pub use Rattle.mv_interpreter.specs.Borrows.View.{root_of, held_as, local_of, alone, defined, ref_of, operands_of}
-pub use Rattle.mv_interpreter.specs.Guided.Facts.{StoreFacts, TypeFacts, Rooted, Able, FrameFits}
-pub use Rattle.mv_interpreter.specs.Guided.Guided.{AllPlaced, StoodFit, AllAgree, Guided, AllCovered, Placed}
+pub use Rattle.mv_interpreter.proofs.Borrows.Links.{Reaches}
+pub use Rattle.mv_interpreter.proofs.Borrows.Locals.{AsKnown}
+pub use Rattle.mv_interpreter.proofs.Borrows.Stood.{Stood, seen_of, layer_at, layers, StoodOn, point_of, Sound, home_of}
+pub use Rattle.mv_interpreter.proofs.Borrows.View.{root_of, held_as, local_of, alone, defined, ref_of, operands_of}
+pub use Rattle.mv_interpreter.proofs.Guided.Facts.{StoreFacts, TypeFacts, Rooted, Able, FrameFits}
+pub use Rattle.mv_interpreter.proofs.Guided.Guided.{AllPlaced, StoodFit, AllAgree, Guided, AllCovered, Placed}
 pub use Rattle.mv_interpreter.specs.Guided.Outcome.{ComesTo}
-pub use Rattle.mv_interpreter.specs.Guided.Store.{StoreCertified, Depends}
+pub use Rattle.mv_interpreter.proofs.Guided.Store.{StoreCertified, Depends}
 pub use Rattle.mv_interpreter.specs.Typing.Accepted.{ModuleAccepted}
-pub use Rattle.mv_interpreter.specs.Typing.Facts.{SoundStore}
+pub use Rattle.mv_interpreter.proofs.Typing.Facts.{SoundStore}
 pub use Rattle.mv_interpreter.specs.Typing.StateTyped.{StateTyped, HaveTokens}
 pub use Rattle.mv_acquires.specs.Acquires.{AcquiresHold}
 pub use Rattle.mv_bounds.proofs.Entries.{all_at}

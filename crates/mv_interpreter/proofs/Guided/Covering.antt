@@ -12,9 +12,9 @@ use Rattle.mv_machine.specs.Live.{overlap}
 use Rattle.mv_edges.specs.Edges.{Label}
 use Rattle.mv_interpreter.specs.Borrows.Covers.{Seen, stack_references, reference_at, StandsFor, HasEdge, IsAcquired, IsOwn, IsLent, Covers}
 use Rattle.mv_interpreter.specs.Borrows.Invariant.{seen_under, IsCovered, acquires_of as acquires_in, KeepsOut, KeepsApart, StandTogether}
-use Rattle.mv_interpreter.specs.Borrows.View.{node_of, label_from, label_of, acquires_of, Member, edges_of}
-use Rattle.mv_borrow_graph.specs.{Abstract.Places.Defined, Abstract.Places.Label as TheLabel, Abstract.Places.Reach, Abstract.Lists.refs_among}
-use Rattle.mv_borrow_graph.specs.Abstract.Covers.{Glob as AtGlob, Ref as TheRef, InList, Origin, FromOwn, FromStore, FromEntry, Leads, Covers as TheCovers}
+use Rattle.mv_interpreter.proofs.Borrows.View.{node_of, label_from, label_of, acquires_of, Member, edges_of}
+use Rattle.mv_borrow_graph.proofs.{Abstract.Terms.Places.Defined, Abstract.Terms.Places.Label as TheLabel, Abstract.Terms.Places.Reach, Abstract.Terms.Lists.refs_among}
+use Rattle.mv_borrow_graph.proofs.Abstract.Terms.Covers.{Glob as AtGlob, Ref as TheRef, InList, Origin, FromOwn, FromStore, FromEntry, Leads, Covers as TheCovers}
 use Rattle.mv_interpreter.proofs.{Borrows.Edges.node_of-inj, Borrows.Lists.place-reverse, Borrows.Lists.local-seen, Borrows.Lists.stack-seen, Borrows.Free.overlap-is}
 use Rattle.mv_interpreter.proofs.{Borrows.Available.known-at, Lists.flat-some, Guided.Chains.sound-from, Typing.Frames.held_entry, Guided.Avoids.HasSome, Guided.Avoids.has-reverse}
 use Rattle.mv_interpreter.proofs.Borrows.Apart.{InStood, OutOf, ApartFrom, EachBelow, From, Together, all-out, all-apart, all-together}

@@ -6,7 +6,7 @@ use Rattle.mv_interpreter.proofs.Guided.Common.{OfStruct, ok-is, on_ok, on_need,
 use Rattle.mv_interpreter.proofs.Guided.Common.{entry, linked, tag_named, value_type_tag, Value, Reference, map-turned, Fits, token_kind, operand_kind, Stood, seen_of, StoodOn, point_of}
 use Rattle.mv_interpreter.proofs.Guided.Common.{held_as, local_of, StoodFit, AllAgree}
 use Rattle.mv_machine.specs.StepControl.{callee, signature_tags, return_results}
-use Rattle.mv_borrow_graph.specs.Abstract.Lists.{Value as TheValue, Plain as NoRef, Reference as Held}
+use Rattle.mv_borrow_graph.proofs.Abstract.Terms.Lists.{Value as TheValue, Plain as NoRef, Reference as Held}
 use Rattle.mv_interpreter.proofs.{Borrows.Same.SameSeen, Borrows.Same.SameFrames, Borrows.Operands.tags-kinds, Borrows.Invariant.refit}
 use Rattle.mv_linker.proofs.TagTests.{same_tags-is}
 

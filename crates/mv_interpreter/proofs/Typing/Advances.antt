@@ -8,7 +8,7 @@ use Rattle.mv_cfg.proofs.Beginnings.{starts_from-ascending}
 use Rattle.mv_cfg.specs.Blocks.{blocks, may_be_last}
 use Rattle.mv_move_types.specs.Flow.{targets}
 use Rattle.mv_type_states.specs.{TypeRules.types_after, TypesHold.block_is_typed}
-use Rattle.mv_interpreter.specs.Typing.Facts.{AllAt}
+use Rattle.mv_interpreter.proofs.Typing.Facts.{AllAt}
 use Rattle.mv_interpreter.proofs.Typing.FlowFacts.{range_split, through_step, through_apart, through_join, through_one, Among, rising_bounds, targets_begin, ended_begin, BlockFacts}
 use Rattle.mv_interpreter.proofs.Typing.FlowFacts.{block_facts, begins_block, next_inside}
 use Rattle.mv_interpreter.proofs.Lists.{below-or-at}

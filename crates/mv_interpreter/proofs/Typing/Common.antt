@@ -61,8 +61,9 @@ pub use Rattle.mv_type_states.specs.TypeRules.{Types, boolean, takes_gives, take
 pub use Rattle.mv_type_states.specs.TypesAt.{TypesAt}
 pub use Rattle.mv_type_states.specs.TypesHold.{function_is_typed, types_through}
 pub use Rattle.mv_interpreter.specs.Typing.Accepted.{StoreAccepted, ModuleAccepted}
-pub use Rattle.mv_interpreter.specs.Typing.Facts.{SoundStore, Advance, Row, Facts, CallFacts, Named, are_plain, ConstantFacts}
-pub use Rattle.mv_interpreter.specs.Typing.HasType.{in_range, Roots, Rooted, HaveTypes, IsOf, AreOf, Table, HasType, AtOnce, PointsTo, LentHaveTypes}
+pub use Rattle.mv_interpreter.proofs.Typing.Facts.{SoundStore, Advance, Row, Facts, CallFacts, Named, are_plain, ConstantFacts}
+pub use Rattle.mv_interpreter.specs.Typing.HasType.{in_range, Roots, Rooted, IsOf, AreOf, Table, HasType, AtOnce, PointsTo, LentHaveTypes}
+pub use Rattle.mv_interpreter.proofs.Typing.HaveTypes.{HaveTypes}
 pub use Rattle.mv_interpreter.specs.Typing.StateTyped.{HasToken, HaveTokens, LocalsHaveTokens, Numbered, AreWaiting, StateTyped, TurnTyped, EntryTyped, StorageTyped, LocalHasToken}
 pub use Rattle.mv_interpreter.specs.Typing.StateTyped.{IsWaiting}
 pub use Rattle.mv_interpreter.specs.Typing.Unreached.{Avoid, Unreached, BelowAvoid}

@@ -6,7 +6,8 @@ use Rattle.mv_interpreter.proofs.Typing.Common.{all_at, there_below, then_found,
 use Rattle.mv_interpreter.proofs.{Typing.Operands.on_names, Typing.Roots.named_plain, Typing.Names.tokens_there}
 use Rattle.mv_machine.specs.{Typing.linked, Step.own_struct}
 use Rattle.mv_linker.proofs.OwnDefinitions.{own-definition, owns-structs}
-use Rattle.mv_interpreter.specs.{Typing.HasType.fields_by_name, Typing.Facts.OwnFacts}
+use Rattle.mv_interpreter.specs.{Typing.HasType.fields_by_name}
+use Rattle.mv_interpreter.proofs.{Typing.Facts.OwnFacts}
 
 -- one part after the other
 pub then_ok : {A B E : Type 0} (r : Result A E) (f : A → Result B E) (x : A) (y : B) → r ≡ Ok x → f x ≡ Ok y → (r >>=ᵣ f) ≡ Ok y

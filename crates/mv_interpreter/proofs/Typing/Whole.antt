@@ -3,7 +3,8 @@ use Rattle.mv_interpreter.proofs.Typing.Common.{◌≡◌, ℕ, zero, suc, ◌+�
 use Rattle.mv_interpreter.proofs.Typing.Common.{Storage, Faults, LostFault, FrozenFault, Failure, Aborts, StoreAccepted, SoundStore, StateTyped, TurnTyped, StorageTyped}
 use Rattle.mv_machine.specs.Step.{Turn, Goes, Returns, step}
 use Rattle.mv_machine.specs.Run.{run, outcome_from, turns, follows, goes_with}
-use Rattle.mv_interpreter.specs.{Typing.Watched.Clean, Typing.Watched.Watches, Typing.Watched.Faultless, Typing.Laws.StepTyped, Typing.Laws.EveryStepIsTyped}
+use Rattle.mv_interpreter.specs.{Typing.Outcome.Faultless, Typing.Laws.StepTyped, Typing.Laws.EveryStepIsTyped}
+use Rattle.mv_interpreter.proofs.{Typing.Watched.Clean, Typing.Watched.Watches}
 use Rattle.mv_interpreter.proofs.{Typing.Parts.Part, Typing.Rule.step_typed, Typing.Rule.counted_typed, Typing.Addresses.accepted_is_sound}
 use Rattle.mv_interpreter.proofs.Typing.First.{CallTyped, begun, first_typed, first_is}
 

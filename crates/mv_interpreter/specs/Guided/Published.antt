@@ -9,7 +9,7 @@ use Rattle.mv_machine.specs.Run.{FunctionCall, first_state, run}
 use Rattle.mv_interpreter.specs.Borrows.Invariant.{Holds}
 use Rattle.mv_interpreter.specs.Typing.CallTyped.{CallTyped}
 use Rattle.mv_interpreter.specs.Typing.StateTyped.{StorageTyped}
-use Rattle.mv_interpreter.specs.Typing.Watched.{Faultless}
+use Rattle.mv_interpreter.specs.Typing.Outcome.{Faultless}
 use Rattle.mv_interpreter.specs.Guided.Outcome.{ComesTo}
 
 -- the certificates that a store's modules were published with, in their order

@@ -75,13 +75,6 @@ module _ (table : Table) where
   HasType look (Struct name fields) (ReferenceTag m t) = ⊥
   HasType look (Ref r) (ReferenceTag m t) = (r.is_mutable ≡ m) × PointsTo look r t
 
-  -- values are of types, one each
-  abbrev pub HaveTypes : Roots → List Value → List Tag → Type 0
-  HaveTypes look [] [] = Unit {0}
-  HaveTypes look [] (t ∷ ts) = ⊥
-  HaveTypes look (v ∷ vs) [] = ⊥
-  HaveTypes look (v ∷ vs) (t ∷ ts) = HasType look v t × HaveTypes look vs ts
-
   -- an argument that was lent, if it was a reference, is of its parameter's type, and else that is no reference's
   abbrev pub LentHasType : Roots → Option Reference → Tag → Type 0
   LentHasType look None t = is_reference_tag t ≡ false

@@ -1,7 +1,7 @@
 -- What is stored, as it is put into the sections of its structs.
 use Rattle.mv_ledger.proofs.Common.{[], ◌++◌, ◌+◌, ◌<◌, ◌^◌, ◌∙◌, ◌∷◌, ◌≡◌, Bool, List, None, Some, ap, append-nil, append_assoc, ap₂, arith, cond, false, flat_map, length, length-append}
-use Rattle.mv_ledger.proofs.Common.{refl, subst, sym, true, ℕ, eqb-true, length-map, map-append, flat_map-append, All-cons, All-head, All-nil, All-tail, filter-append, same_Some, first_so}
-use Rattle.mv_ledger.proofs.Common.{second_so, filter, list_all, option_map_or, ◌&&◌, ◌==◌, All, IfSome, IsSome, slice_get, Module, name_at, ◌>>=◌, PublishedModule, Definition, Abilities, LeafKind}
+use Rattle.mv_ledger.proofs.Common.{refl, subst, sym, true, ℕ, length-map, map-append, flat_map-append, All-cons, All-head, All-nil, All-tail, filter-append, same_Some, first_so}
+use Rattle.mv_ledger.proofs.Common.{second_so, filter, list_all, option_map_or, ◌&&◌, All, IfSome, IsSome, slice_get, Module, name_at, ◌>>=◌, PublishedModule, Definition, Abilities, LeafKind}
 use Rattle.mv_ledger.proofs.Common.{on_bind, address_text, address_fits, FlatEntry, flat, storage_of, value_under, Entry, abilities_at, is_fine_entry, is_of_struct, some-of, then_found, IsStore}
 use Rattle.mv_ledger.proofs.Common.{tables_in, fine_words-typed, on_found, typed_is_fine, IsFineWords, AreLeaves, coded, is_keyed, kinds_under, leaf_kinds, IsOfStore, AddsValue, AreSections}
 use Rattle.mv_ledger.proofs.Common.{HasOneMore, IsAdded, IsSection, KnowsKinds, definition_at, is_same_definition, section_at, stored_in, addressed_text, is_under, leaves_text, Section}

@@ -1,11 +1,11 @@
 -- Values whose struct values' abilities are those of their fields too.
-use Rattle.std.specs.Prelude.{◌≡◌, true, false, List, [], ◌∷◌, Option, Some, None}
+use Rattle.std.specs.Prelude.{◌≡◌, true, false, List, [], ◌∷◌, Some}
 use Rattle.mv_move_types.specs.declared.tables.Key.{Key}
 use Rattle.mv_move_types.specs.declared.token.Abilities.{Abilities}
 use Rattle.mv_move_types.specs.Names.{StructName}
 use Rattle.mv_move_types.specs.Module.{Module}
 use Rattle.mv_machine.specs.Value.{Value, Leaf, Struct, Ref, Values, NoMore, More}
-use Rattle.mv_machine.specs.State.{Storage, Frame, key_before}
+use Rattle.mv_machine.specs.State.{Storage, key_before}
 use Rattle.mv_move_types.specs.Named.{declared}
 use Rattle.mv_machine.specs.Typing.{abilities_of}
 
@@ -32,32 +32,7 @@ pub record IsScarce (modules : List Module) (name : StructName) : Type 0 where
   pub copy : abilities.copy ≡ false
   pub drop : abilities.drop ≡ false
 
--- so with all operands
-abbrev pub StackIsKept : List Module → List Value → Type 0
-StackIsKept modules [] = Unit {0}
-StackIsKept modules (v ∷ vs) = IsKept modules v × StackIsKept modules vs
-
--- so with what a local holds
-abbrev pub LocalIsKept : List Module → Option Value → Type 0
-LocalIsKept modules None = Unit {0}
-LocalIsKept modules (Some v) = IsKept modules v
-
--- so with all locals
-abbrev pub LocalsAreKept : List Module → List (Option Value) → Type 0
-LocalsAreKept modules [] = Unit {0}
-LocalsAreKept modules (x ∷ xs) = LocalIsKept modules x × LocalsAreKept modules xs
-
--- so with a frame
-pub record FrameIsKept (modules : List Module) (f : Frame) : Type 0 where
-  pub locals : LocalsAreKept modules f.locals
-  pub stack : StackIsKept modules f.stack
-
--- so with frames
-abbrev pub FramesAreKept : List Module → List Frame → Type 0
-FramesAreKept modules [] = Unit {0}
-FramesAreKept modules (f ∷ fs) = FrameIsKept modules f × FramesAreKept modules fs
-
--- so with the storage
+-- each stored value is so
 abbrev pub StorageIsKept : List Module → Storage → Type 0
 StorageIsKept modules [] = Unit {0}
 StorageIsKept modules (e ∷ es) = IsKept modules e.value × StorageIsKept modules es

@@ -6,11 +6,9 @@
 --   AreNotJoined    why it has none
 --   body_from       what follows the modules: the tallies, which Tallies::read reads, and the values, which read_storage does
 --   IsNoBody        the bytes are no such thing with nothing after it
---   IsBody          the text of the same
---   EachBodyIsRead, EachReadIsBody   body_from reads these texts, and no others
 --   AreCounted      the tallies are those of what is stored. are_tallied is the test
-use Rattle.std.specs.Prelude.{◌≡◌, ◌==◌, ℕ, ◌+◌, ◌*◌, ◌^◌, ◌<◌, ◌≤◌, cond, All, IsTrue, List, [], ◌++◌, map, flat_map, length, Option, Some, None, ⊤}
-use Rattle.std.specs.List.{list_all, AllByRecursion}
+use Rattle.std.specs.Prelude.{◌≡◌, ◌==◌, ℕ, ◌+◌, ◌*◌, ◌≤◌, cond, All, List, [], map, length, Option, Some, None, ⊤}
+use Rattle.std.specs.List.{AllByRecursion}
 use Rattle.mv_uleb.specs.Parsing.{number_from}
 use Rattle.mv_move_types.specs.Limits.{most_modules, most_runs, most_steps}
 use Rattle.mv_move_types.specs.declared.refusal.Refusal.{Refusal}
@@ -21,11 +19,9 @@ use Rattle.mv_move_types.specs.Published.{PublishedModule}
 use Rattle.mv_module_text.specs.Laws.{AreBytes}
 use Rattle.mv_module_text.specs.Parsing.{Read, byte_from, mark_from, entries_from, counted_from}
 use Rattle.mv_machine.specs.Count.{count}
-use Rattle.mv_machine.specs.Flat.{flat_storage}
 use Rattle.mv_machine.specs.Ledger.{Offer, scarce_structs}
 use Rattle.mv_machine.specs.Lines.{Tallied}
 use Rattle.mv_machine.specs.State.{Storage}
-use Rattle.mv_machine.specs.Typed.{is_fine_storage}
 use Rattle.mv_storage.specs.FlatStorage.{FlatStorage}
 use Rattle.mv_frames.specs.Counters.{IsClear}
 use Rattle.mv_frames.specs.declared.counters.Count.{Count}
@@ -36,11 +32,10 @@ use Rattle.mv_ledger.specs.declared.loading.head.Head.{Head}
 use Rattle.mv_ledger.specs.declared.tallies.Tally.{Tally}
 use Rattle.mv_ledger.specs.Asking.{offers_of}
 use Rattle.mv_ledger.specs.Parts.BodyParts.{form_of, tally_from, storage_into}
-use Rattle.mv_ledger.specs.Counting.Kept.{IsAscending}
 use Rattle.mv_ledger.specs.Loading.{AreLinked}
 use Rattle.mv_ledger.specs.Payloads.{offer_from}
 use Rattle.mv_ledger.specs.Publishing.{AllPass, FailsAmong}
-use Rattle.mv_ledger.specs.SavedText.{Form, First, Second, tally_text, tally_fits, storage_text}
+use Rattle.mv_ledger.specs.SavedText.{Form, First, Second}
 use Rattle.mv_ledger.specs.View.{AreCountable, all_of, tallied, AreScarce, IsNamed}
 
 -- why bytes are not loaded where a part of them is refused
@@ -129,33 +124,6 @@ body_from form modules count bytes = do
 -- no such thing stands there with nothing after it
 abbrev pub IsNoBody : Form → List Module → ℕ → List ℕ → Type 0
 IsNoBody form modules count bytes = (body : List (ℕ × ℕ) × FlatStorage) → body_from form modules count bytes ≡ Some (body, []) → ⊥
-
--- The bytes are what follows the modules in a ledger's text: the tallies can be written, and each stored value is one of its
--- key's struct, which has key, by strictly ascending key.
-pub record IsBody (form : Form) (modules : List Module) (bytes : List ℕ) (tallies : List Tallied) (storage : Storage) : Type 0 where
-  pub text : bytes ≡ flat_map (tally_text form) tallies ++ storage_text form modules storage
-  pub counts : IsTrue (list_all (tally_fits form) tallies)
-  pub ascending : IsAscending storage
-  pub typed : IsTrue (is_fine_storage modules storage)
-  pub few : length storage < 2 ^ 64
-
--- what a tally counts
-abbrev pub counted_by : Tallied → ℕ × ℕ
-counted_by t = (t.packs, t.unpacks)
-
--- each such text is read
-abbrev pub EachBodyIsRead : Type 0
-EachBodyIsRead =
-    (form : Form) (published : List PublishedModule) (bytes : List ℕ) (tallies : List Tallied) (storage : Storage) → IsStore published → length published ≤ 65536
-    → IsBody form (tables_in published) bytes tallies storage
-    → body_from form (tables_in published) (length tallies) bytes ≡ Some ((map counted_by tallies, flat_storage storage), [])
-
--- and what is read is such a text
-abbrev pub EachReadIsBody : Type 0
-EachReadIsBody =
-    (form : Form) (published : List PublishedModule) (bytes : List ℕ) (tallies : List Tallied) (stored : FlatStorage) → IsStore published → AreBytes bytes → length stored < 2 ^ 64
-    → body_from form (tables_in published) (length tallies) bytes ≡ Some ((map counted_by tallies, stored), [])
-    → (storage : Storage) × ((stored ≡ flat_storage storage) × IsBody form (tables_in published) bytes tallies storage)
 
 -- ---- the tallies against what is stored
 

@@ -1,8 +1,8 @@
 -- The rules of linking over all modules of a result, from those over the bundle.
-use Rattle.mv_linker.proofs.Common.{[], ℕ, ◌++◌, ◌+◌, ◌∙◌, ◌∷◌, ◌≡◌, All, All-head, All-tail, AreNames, AreNamesOf, Bool, InBounds, IsLinkedBundle, IsPublishable, IsStore, Links, List}
+use Rattle.mv_linker.proofs.Common.{[], ℕ, ◌++◌, ◌+◌, ◌∙◌, ◌∷◌, ◌≡◌, All, All-head, All-tail, AreNames, AreNamesOf, Bool, InBounds, IsPublishable, IsStore, Links, List}
 use Rattle.mv_linker.proofs.Common.{Module, Names, New, PublishedModule, Some, WellDefined, all_differ, and_from, and_parts, ap, are_compatible, function_is_there, have_one_name, inl, inr}
 use Rattle.mv_linker.proofs.Common.{length, length-map, length_push, list_all, modules_are_there, names_hold, none-some, offered, published_of, refl, slice_get, slice_get-map}
-use Rattle.mv_linker.proofs.Common.{struct_is_small, structs_are_there, subst, sym, tables_in, take, true, with_tables}
+use Rattle.mv_linker.proofs.Common.{struct_is_small, structs_are_there, subst, sym, tables_in, take, true, with_tables, IsTrue, Reaches}
 use Rattle.mv_linker.proofs.Lemmas.{Among, all-among, among-all, among-at, among-result, bundle-there}
 use Rattle.mv_linker.proofs.StructSizes.JoinedSizes.{small-joined}
 use Rattle.mv_linker.proofs.Joining.Resolving.{each_push}
@@ -42,6 +42,12 @@ pub joining-offered : (ps : List PublishedModule) (news : List New) → IsStore 
 joining-offered ps news store passed apart fits =
     let same = offered-tables news in
     subst (Joining (tables_in ps)) same (joining ps (published_of news) store passed (rw same apart) (rw same fits))
+
+-- c, d, e and g of a bundle among the modules, and f of them all
+pub record IsLinkedBundle (modules bundle : List Module) : Type 0 where
+  pub named : IsTrue (list_all (names_hold modules) bundle)
+  pub ordered : (m : Module) → Reaches modules m m → ⊥
+  pub small : IsTrue (list_all (λ m. list_all (struct_is_small modules m) m.structs) bundle)
 
 -- what holds of all holds of the bundle
 pub bundle-links : (old ns : List Module) → all_differ have_one_name ns ≡ true → Links (with_tables old ns) → IsLinkedBundle (with_tables old ns) ns

@@ -1,5 +1,5 @@
 -- What the old modules name stays there once a bundle joins that replaces what it may.
-use Rattle.mv_linker.proofs.Common.{[], ℕ, ◌&&◌, ◌<◌, ◌∙◌, ◌∷◌, ◌≡◌, Abilities, Bool, List, Module, None, Option, OwnsStructs, Some, StructDefinition, StructName, and_parts}
+use Rattle.mv_linker.proofs.Common.{[], ℕ, ◌&&◌, ◌<◌, ◌∙◌, ◌∷◌, ◌≡◌, Abilities, Bool, List, Module, None, Option, Some, StructDefinition, StructName, and_parts}
 use Rattle.mv_linker.proofs.Common.{ap, ap₂, arith, beq, booleans_Decides, both_there, bytes_eq, bytes_eq-Decides, declared_in, false, find_index, first_so, is_struct, name_of_struct}
 use Rattle.mv_linker.proofs.Common.{option_map_or, own_name, refl, same_abilities, same_fields, same_Some, same_struct, same_struct_definition, second_so, slice_get, struct_abilities}
 use Rattle.mv_linker.proofs.Common.{structs_stay, subst, suc, sym, true, zero}
@@ -7,6 +7,7 @@ use Rattle.std.proofs.lemmas.Option.{option_and_then_some}
 use Rattle.mv_linker.proofs.Lemmas.{found_at, map_as_bind, struct_named_so}
 use Rattle.mv_linker.proofs.NameLemmas.{same_struct-same, named_in}
 use Rattle.mv_linker.proofs.Found.{find_first, found_first}
+use Rattle.mv_linker.proofs.OwnDefinitions.{OwnsStructs}
 
 -- ---- tests of two parts that are there
 

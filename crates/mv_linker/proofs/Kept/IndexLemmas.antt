@@ -1,9 +1,13 @@
 -- The modules of a bundle are found in maps as the lists say.
-use Rattle.mv_linker.proofs.Common.{[], ℕ, ◌&&◌, ◌++◌, ◌||◌, ◌∙◌, ◌∷◌, ◌≡◌, AreNamesIn, ArePlacesOf, Bool, Kept, List, Module, ModuleName, Name, None, Option, PutsName, PutsPlace}
+use Rattle.mv_linker.proofs.Common.{[], ℕ, ◌&&◌, ◌++◌, ◌||◌, ◌∙◌, ◌∷◌, ◌≡◌, ArePlacesOf, Bool, Kept, List, Module, ModuleName, Name, None, Option, PutsName, PutsPlace}
 use Rattle.mv_linker.proofs.Common.{Some, all_differ, ap, arith, cases_Bool, cond, false, found_among, have_one_name, inl, inr, is_module, is_some, length, list_any, lookup, name_in, not}
-use Rattle.mv_linker.proofs.Common.{option_map_or, option_or, own_name, refl, same_module, sym, true}
+use Rattle.mv_linker.proofs.Common.{option_map_or, option_or, own_name, refl, same_module, sym, true, has_name_of}
 use Rattle.std.proofs.lemmas.List.Folds.{list_any-append}
 use Rattle.mv_linker.proofs.Kept.Keyed.{same_module-turns}
+
+-- the names are those of modules
+abbrev pub AreNamesIn : {V : Type 0} → List (Name × V) → List Kept → Type 0
+AreNamesIn entries kept = (q : Name) → is_some (lookup (has_name_of q) entries) ≡ list_any (λ k. is_module (name_in q) k.published.tables) kept
 
 -- the first of two, and then a third
 or-or : {A : Type 0} (o : Option A) (p : A) (before : Option A) → option_or (option_or o (Some p)) before ≡ option_or o (Some p)

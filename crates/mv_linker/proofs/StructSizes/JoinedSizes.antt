@@ -1,7 +1,7 @@
 -- Sizes once a bundle joins: its structs alone have to be looked at.
-use Rattle.mv_linker.proofs.Common.{AreSmall, Keeps, Links, List, Module, first_so, function_stays, inl, inr, list_all, struct_is_small, structs_stay, with_tables}
+use Rattle.mv_linker.proofs.Common.{AreSmall, Links, List, Module, first_so, function_stays, inl, inr, list_all, struct_is_small, structs_stay, with_tables}
 use Rattle.mv_linker.proofs.Lemmas.{all-among, among-all, among-result, at-among, follower, named-so, owns-structs}
-use Rattle.mv_linker.proofs.StructSizes.SizesStay.{small-stays}
+use Rattle.mv_linker.proofs.StructSizes.SizesStay.{small-stays, Keeps}
 use Rattle.mv_linker.proofs.Joining.StillThere.{Joining}
 
 module _ (old ns : List Module) (j : Joining old ns) where

@@ -1,14 +1,20 @@
 -- Sizes of structs stay where modules are added, or replaced by such as keep their structs.
-use Rattle.mv_linker.proofs.Common.{[], ℕ, ◌&&◌, ◌+◌, ◌>>=◌, ◌∙◌, ◌∷◌, ◌≡◌, Abilities, Field, IsSized, Keeps, LeafTag, List, Module, ModuleName, MutableReference, None, OfLeaf, OfStruct}
+use Rattle.mv_linker.proofs.Common.{[], ℕ, ◌&&◌, ◌+◌, ◌>>=◌, ◌∙◌, ◌∷◌, ◌≡◌, Abilities, Field, IsSized, LeafTag, List, Module, ModuleName, MutableReference, None, OfLeaf, OfStruct}
 use Rattle.mv_linker.proofs.Common.{Option, Plain, Reference, ReferenceTag, Size, Some, StructDefinition, StructName, StructTag, Tag, Token, ap, ap₂, both_ways, bytes_eq, declared}
 use Rattle.mv_linker.proofs.Common.{declared_in, definition_of, false, find_index, first_so, inl, inr, is_struct, leaves_of, leaves_within, leb, list_all, module_named, module_place}
 use Rattle.mv_linker.proofs.Common.{name_of_struct, on_bind, option_map_or, own_name, refl, same_abilities, same_fields, same_Some, same_tag, second_so, slice_get, struct_is_small}
-use Rattle.mv_linker.proofs.Common.{struct_name, structs_are_there, suc, sum_of_fields, sym, token_named, true, value_type_named, zero}
+use Rattle.mv_linker.proofs.Common.{struct_name, structs_are_there, suc, sum_of_fields, sym, token_named, true, value_type_named, zero, ◌⊎◌, IsTrue, structs_stay}
 use Rattle.std.proofs.lemmas.Option.{option_and_then_some, some_pair_parts}
 use Rattle.mv_linker.proofs.Lemmas.{all_from, all_at, module_place-is, passing, same_bind, struct_parts}
 use Rattle.mv_linker.proofs.Joining.Upgraded.{Replaces, both-there, parts-stay, stays-at, struct-stays}
 use Rattle.mv_linker.proofs.TagTests.{same_tag-is}
 use Rattle.mv_linker.proofs.Joining.Resolving.{struct-of-all}
+use Rattle.mv_linker.proofs.OwnDefinitions.{OwnsStructs}
+
+-- an old module stands among the new ones, or one of its name that keeps its structs
+abbrev pub Keeps : List Module → List Module → Type 0
+Keeps old new = (name : ModuleName) (m : Module) → module_named old name ≡ Some m
+    → (n : Module) × (module_named new name ≡ Some n) × ((n ≡ m) ⊎ (IsTrue (structs_stay m m.structs n n.structs) × (own_name n ≡ Some name) × OwnsStructs m × OwnsStructs n))
 
 -- the leaves of a type by name
 abbrev leaves_of_tag : (StructName → Option ℕ) → Tag → Option ℕ

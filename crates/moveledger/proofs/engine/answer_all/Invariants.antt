@@ -1,4 +1,4 @@
-use Rattle.moveledger.specs.Progress.{Progress}
+use Rattle.moveledger.proofs.Progress.{Progress}
 use Rattle.moveledger.proofs.engine.answer_all.Given as goal
 
 abbrev pub invariant-loop-n : goal.invariant-loop-n

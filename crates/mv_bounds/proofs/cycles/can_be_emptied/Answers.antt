@@ -1,7 +1,7 @@
 use Rattle.mv_bounds.proofs.Common.{[], ℕ, ◌<◌, ◌∙◌, ◌≡◌, ◌≤◌, Bool, Global, List, Some, Vec, ap, arith, drop, get_or, length, map, refl, set, subst, sym, true, length-map, take_at}
-use Rattle.mv_bounds.proofs.Common.{slice_get-map, slice_get_read, list_all, slice_get, option_map, Released, Removal, are_nodes, is_zero, times}
+use Rattle.mv_bounds.proofs.Common.{slice_get-map, slice_get_read, list_all, slice_get, option_map, Released, are_nodes, is_zero, times}
 use Rattle.std.proofs.lemmas.List.{nil_from_length}
-use Rattle.mv_bounds.proofs.RemovalLemmas.{removal_begins, node_within, unmarked, edges_held, removal_more, removal_ends, fewer_remain}
+use Rattle.mv_bounds.proofs.RemovalLemmas.{removal_begins, node_within, unmarked, edges_held, removal_more, removal_ends, fewer_remain, Removal}
 use Rattle.mv_bounds.proofs.cycles.can_be_emptied.Goals as goal
 
 -- the successors of a node of the graph

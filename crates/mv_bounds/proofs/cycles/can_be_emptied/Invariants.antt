@@ -1,5 +1,5 @@
-use Rattle.mv_bounds.proofs.Common.{ℕ, Global, Vec, map, Removal}
-use Rattle.mv_bounds.proofs.RemovalLemmas.{remaining}
+use Rattle.mv_bounds.proofs.Common.{ℕ, Global, Vec, map}
+use Rattle.mv_bounds.proofs.RemovalLemmas.{remaining, Removal}
 use Rattle.mv_bounds.proofs.cycles.can_be_emptied.Given as goal
 
 abbrev pub invariant-loop-node : goal.invariant-loop-node

@@ -1,5 +1,5 @@
-use Rattle.mv_storage.proofs.Common.{◌∙◌, refl, subst, AreNoted, AreSettling}
-use Rattle.mv_storage.proofs.Steps.{settling-placed, settling-last, settling-rest, noted-rest}
+use Rattle.mv_storage.proofs.Common.{◌∙◌, refl, subst, AreNoted}
+use Rattle.mv_storage.proofs.Steps.{settling-placed, settling-last, settling-rest, noted-rest, AreSettling}
 use Rattle.mv_storage.proofs.slots.settle.Goals as goal
 
 pub loop-key-init : goal.loop-key-init

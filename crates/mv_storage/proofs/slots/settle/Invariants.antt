@@ -1,5 +1,6 @@
-use Rattle.mv_storage.proofs.Common.{length, AreNoted, AreSettling, IsSound, ShowsSame}
+use Rattle.mv_storage.proofs.Common.{length, AreNoted, IsSound, ShowsSame}
 use Rattle.mv_storage.proofs.slots.settle.Given as goal
+use Rattle.mv_storage.proofs.Steps.{AreSettling}
 
 -- what is left to touch holds each slot that is changed, and the layer shows what it showed
 abbrev pub invariant-loop-key : goal.invariant-loop-key

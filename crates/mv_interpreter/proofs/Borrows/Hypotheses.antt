@@ -10,7 +10,7 @@ use Rattle.mv_machine.specs.Live.{reference_of}
 use Rattle.mv_type_states.specs.TypeRules.{Types}
 use Rattle.mv_type_states.specs.TypesHold.{Point}
 use Rattle.mv_interpreter.specs.Borrows.Covers.{Seen}
-use Rattle.mv_interpreter.specs.Borrows.View.{operands_of}
+use Rattle.mv_interpreter.proofs.Borrows.View.{operands_of}
 
 -- whether a type is a reference, and whether a mutable one
 abbrev pub token_kind : Token → Option Bool

@@ -1,6 +1,6 @@
 -- When the edges of a frame cover its live references.
 use Rattle.std.specs.Prelude.{◌≡◌, ℕ, List, [], ◌∷◌, Bool, true, ◌⊎◌, Option, Some}
-use Rattle.mv_borrow_graph.specs.Abstract.Places.{Defined, Local, Global, Place, Below, Overlap, Label, Reach, Matches}
+use Rattle.mv_borrow_graph.proofs.Abstract.Terms.Places.{Defined, Local, Global, Place, Below, Overlap, Label, Reach, Matches}
 
 pub data Node : Type 0 where
   Slot : ℕ → Node

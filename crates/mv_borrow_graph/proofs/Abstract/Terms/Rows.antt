@@ -1,7 +1,7 @@
 -- What each rule of borrows needs of the edges before it, and which edges it leaves.
 use Rattle.std.specs.Prelude.{◌≡◌, ℕ, ◌≤◌, ◌+◌, [], ◌⊎◌, Bool, true, false}
-use Rattle.mv_borrow_graph.specs.Abstract.Places.{Defined, Label, Exact, extend, opened, Agrees}
-use Rattle.mv_borrow_graph.specs.Abstract.Covers.{Node, Slot, Own, Glob, Temp, Edges}
+use Rattle.mv_borrow_graph.proofs.Abstract.Terms.Places.{Defined, Label, Exact, extend, opened, Agrees}
+use Rattle.mv_borrow_graph.proofs.Abstract.Terms.Covers.{Node, Slot, Own, Glob, Temp, Edges}
 
 -- the edges after each row, by what was there before it; k is the place of the stack that the row takes or gives
 abbrev pub after_copy : ℕ → ℕ → Edges → Edges

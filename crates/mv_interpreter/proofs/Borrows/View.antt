@@ -9,10 +9,10 @@ use Rattle.mv_edges.specs.Edges.{Label, Edge}
 use Rattle.mv_type_states.specs.TypesHold.{Point}
 use Rattle.mv_borrow_graph.specs.BorrowRules.{is_mutable}
 use Rattle.mv_interpreter.specs.Borrows.Covers.{Seen}
-use Rattle.mv_borrow_graph.specs.Abstract.Places.{Defined, Root as TheRoot, Local as InLocal, Global as InStore, Place as ThePlace, Label as TheLabel, Exact, Open}
-use Rattle.mv_borrow_graph.specs.Abstract.Covers.{Node as TheNode, Slot as AtSlot, Own as AtOwn, Glob as AtGlob, Temp as AtTemp, Ref as TheRef, Edges}
-use Rattle.mv_borrow_graph.specs.Abstract.Lists.{Value as TheValue, Plain, Reference as Held, Activation, refs_among, seen as seen_frame}
-use Rattle.mv_borrow_graph.specs.Abstract.Stack.{Layer}
+use Rattle.mv_borrow_graph.proofs.Abstract.Terms.Places.{Defined, Root as TheRoot, Local as InLocal, Global as InStore, Place as ThePlace, Label as TheLabel, Exact, Open}
+use Rattle.mv_borrow_graph.proofs.Abstract.Terms.Covers.{Node as TheNode, Slot as AtSlot, Own as AtOwn, Glob as AtGlob, Temp as AtTemp, Ref as TheRef, Edges}
+use Rattle.mv_borrow_graph.proofs.Abstract.Terms.Lists.{Value as TheValue, Plain, Reference as Held, Activation, refs_among, seen as seen_frame}
+use Rattle.mv_borrow_graph.proofs.Abstract.Terms.Stack.{Layer}
 use Rattle.mv_machine.specs.State.{Frame}
 
 -- a struct definition by the place of its module and its index there

@@ -1,7 +1,7 @@
 -- Stacks of frames, each covered by its edges, and how a waiting frame belongs to the one above it.
 use Rattle.std.specs.Prelude.{◌≡◌, ℕ, ◌<◌, List, [], ◌∷◌, true, ◌⊎◌}
-use Rattle.mv_borrow_graph.specs.Abstract.Places.{Defined, Label}
-use Rattle.mv_borrow_graph.specs.Abstract.Covers.{Node, Glob, Ref, Frame, Live, Edges, InList, Covers}
+use Rattle.mv_borrow_graph.proofs.Abstract.Terms.Places.{Defined, Label}
+use Rattle.mv_borrow_graph.proofs.Abstract.Terms.Covers.{Node, Glob, Ref, Frame, Live, Edges, InList, Covers}
 
 -- a frame with the edges that its certificate gives at its instruction
 pub record Layer : Type 1 where

@@ -13,10 +13,10 @@ use Rattle.mv_type_states.specs.TypeRules.{Types}
 use Rattle.mv_certificate.specs.Known.{known_before}
 use Rattle.mv_interpreter.specs.Borrows.Covers.{Seen}
 use Rattle.mv_machine.specs.StepParts.{Here, can_copy, can_drop}
-use Rattle.mv_interpreter.specs.Borrows.Hypotheses.{Fits, NoneInside, InRefs}
-use Rattle.mv_interpreter.specs.Borrows.Links.{CallFacts, Reaches}
-use Rattle.mv_interpreter.specs.Borrows.View.{alone}
-use Rattle.mv_interpreter.specs.Borrows.Locals.{DropFits}
+use Rattle.mv_interpreter.proofs.Borrows.Hypotheses.{Fits, NoneInside, InRefs}
+use Rattle.mv_interpreter.proofs.Borrows.Links.{CallFacts, Reaches}
+use Rattle.mv_interpreter.proofs.Borrows.View.{alone}
+use Rattle.mv_interpreter.proofs.Borrows.Locals.{DropFits}
 
 -- ---- the store
 

@@ -1,7 +1,7 @@
 -- Frames with lists of locals and operands, and their live references.
-use Rattle.mv_borrow_graph.specs.Abstract.Places.{Defined}
+use Rattle.mv_borrow_graph.proofs.Abstract.Terms.Places.{Defined}
 use Rattle.std.specs.Prelude.{ℕ, zero, suc, List, [], ◌∷◌, length, Bool, cond, eqb, Option, Some, None}
-use Rattle.mv_borrow_graph.specs.Abstract.Covers.{Node, Slot, Own, Glob, Temp, Ref, Frame, Live}
+use Rattle.mv_borrow_graph.proofs.Abstract.Terms.Covers.{Node, Slot, Own, Glob, Temp, Ref, Frame, Live}
 
 -- a value: what no borrow rule looks into, or a reference
 pub data Value : Type 0 where

@@ -3,14 +3,14 @@ use Rattle.std.specs.Prelude.{◌≡◌, ℕ, ◌<◌, List, [], ◌∷◌, map,
 use Rattle.mv_move_types.specs.declared.token.Token.{Token}
 use Rattle.mv_move_types.specs.declared.tables.FunctionHandle.{FunctionHandle}
 use Rattle.mv_move_types.specs.declared.instruction.Instruction.TheVariants.{Call}
-use Rattle.mv_interpreter.specs.Borrows.Hypotheses.{Fits, token_kind}
+use Rattle.mv_interpreter.proofs.Borrows.Hypotheses.{Fits, token_kind}
 use Rattle.mv_move_types.specs.Module.{Module, FunctionDefinition}
 use Rattle.mv_machine.specs.State.{State, frames}
 use Rattle.mv_certificate.specs.Certificate.{Known, Certificate, Stated}
 use Rattle.mv_certificate.specs.Known.{known_before}
-use Rattle.mv_borrow_graph.specs.Abstract.Covers.{Covers as TheCovers}
-use Rattle.mv_interpreter.specs.Borrows.Stood.{Stood, seen_of, point_of, layer_at, StoodOn, Descending, LinkedTo}
-use Rattle.mv_interpreter.specs.Borrows.Locals.{AsKnown}
+use Rattle.mv_borrow_graph.proofs.Abstract.Terms.Covers.{Covers as TheCovers}
+use Rattle.mv_interpreter.proofs.Borrows.Stood.{Stood, seen_of, point_of, layer_at, StoodOn, Descending, LinkedTo}
+use Rattle.mv_interpreter.proofs.Borrows.Locals.{AsKnown}
 
 -- a frame stands in its function, and what its certificate says of the instruction is what is known of it; its locals are as known
 pub record Placed (modules : List Module) (certificates : List Certificate) (x : Stood) : Type 0 where

@@ -8,10 +8,10 @@ use Rattle.mv_type_states.specs.TypesHold.{Point}
 use Rattle.mv_borrow_graph.specs.BorrowRules.{call_edges}
 use Rattle.mv_type_states.specs.TypeRules.{Types, of_call}
 use Rattle.mv_interpreter.specs.Borrows.Covers.{Seen}
-use Rattle.mv_borrow_graph.specs.Abstract.Places.{Defined}
-use Rattle.mv_borrow_graph.specs.Abstract.Stack.{Layer, Chain}
-use Rattle.mv_interpreter.specs.Borrows.View.{layer_of}
-use Rattle.mv_interpreter.specs.Borrows.Links.{IsCall}
+use Rattle.mv_borrow_graph.proofs.Abstract.Terms.Places.{Defined}
+use Rattle.mv_borrow_graph.proofs.Abstract.Terms.Stack.{Layer, Chain}
+use Rattle.mv_interpreter.proofs.Borrows.View.{layer_of}
+use Rattle.mv_interpreter.proofs.Borrows.Links.{IsCall}
 
 -- a frame, what the frame above it was lent, its function, and the types and edges before its instruction
 pub record Stood : Type 0 where
