@@ -43,7 +43,7 @@ joining-offered ps news store passed apart fits =
     let same = offered-tables news in
     subst (Joining (tables_in ps)) same (joining ps (published_of news) store passed (rw same apart) (rw same fits))
 
--- c, d, e and g of a bundle among the modules, and f of them all
+-- the link rules c, d, e and g (specs/StoreRules.antt) of a bundle among the modules, and f of them all
 pub record IsLinkedBundle (modules bundle : List Module) : Type 0 where
   pub named : IsTrue (list_all (names_hold modules) bundle)
   pub ordered : (m : Module) → Reaches modules m m → ⊥
