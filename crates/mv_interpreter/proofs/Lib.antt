@@ -1,6 +1,7 @@
 pub mod Owned
 pub mod Edits
 pub mod Counting
+pub mod Entering
 pub mod Turning
 pub mod Typing
 pub mod Flat

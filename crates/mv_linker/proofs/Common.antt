@@ -62,8 +62,11 @@ pub use Rattle.mv_module_text.specs.Fits.{function_definition_fits, identifier_f
 pub use Rattle.mv_type_states.specs.Sound.{FailsTypes, IsRefusedByTypes, IsSound, endless, ill_signed, ill_typed, types_before, unable}
 pub use Rattle.mv_type_states.specs.Tops.{tops_before, tops_of}
 pub use Rattle.mv_type_states.specs.TypeRules.{Types, top_type}
-pub use Rattle.mv_linker.specs.Code.{operation, operations}
-pub use Rattle.mv_linker.specs.DependencyGraph.{AreDependencies, AreHandlePlaces, IsDependencyGraph, IsOrdered, others, shifted}
+pub use Rattle.mv_linker.proofs.Counted.{count_after}
+pub use Rattle.mv_linker.proofs.KeptSlots.{IsSlot, KeepsSlots}
+pub use Rattle.mv_linker.specs.Code.{called, entered, entered_in, operation, operations, operations_from, program}
+pub use Rattle.mv_linker.specs.Codes.{IsCallee, IsCode, IsSlotOf}
+pub use Rattle.mv_linker.specs.DependencyGraph.{AreHandlePlaces, IsOrdered, others}
 pub use Rattle.mv_linker.specs.FoundStructs.{AreFoundFor, IsFoundAt}
 pub use Rattle.mv_linker.specs.Identifiers.{identifier_or_none, identifiers_of}
 pub use Rattle.mv_linker.specs.Indexed.{ArePlacesOf, PutsName, PutsPlace, has_name_of}
@@ -73,26 +76,23 @@ pub use Rattle.mv_linker.specs.Link.{AreSentBy, IsPublishable, IsStore, MayJoin,
 pub use Rattle.mv_linker.specs.Linked.{Entered, Site, constant_number, linked_module, operations_along, operations_of, others_in, program_of, programs_from, to_call, to_field, to_return}
 pub use Rattle.mv_linker.specs.Linked.{width_of_others, with_slot, with_target, with_top}
 pub use Rattle.mv_linker.specs.LinkedBy.{AreAlong, AreOperations, Gives, GoesOn, IsLinker, Pushes, Stands, constant_numbers, literal_of, site_of}
-pub use Rattle.mv_linker.specs.LinkedTogether.{AreCodes, AreOthers, AreOthersOf, AreOwnSizes, AreSized, AreToLink, IsCalled, IsCode, IsToLink, callees_by, others_row, widths_in, words_for}
-pub use Rattle.mv_linker.specs.LinkedTogether.{words_of_size}
-pub use Rattle.mv_linker.specs.NamerSteps.{AreNamed, HasAll, HasOthers}
-pub use Rattle.mv_linker.specs.Namers.{AreNamedBy, AreNamers, AreNamersOf, AreNamersOfAll, NamesAt}
+pub use Rattle.mv_linker.specs.Lowered.{AreOthers, AreOwnSizes, AreSized, IsCalled, IsLowered, IsLoweredIn, IsToLink, called_by, widths_in, words_of_size}
 pub use Rattle.mv_linker.specs.News.{published_of, published_one}
 pub use Rattle.mv_linker.specs.Operations.{BorrowInside, BorrowLocal as BorrowOperation, Differ as DifferOperation, Discard as DiscardOperation, Enter, GiveUp, Leave}
 pub use Rattle.mv_linker.specs.Operations.{Load as LoadOperation, Operation, Push, PutStored as PutStoredOperation, Read as ReadOperation, Same as SameOperation, Store as StoreOperation}
 pub use Rattle.mv_linker.specs.Operations.{Write as WriteOperation}
-pub use Rattle.mv_linker.specs.Reached.{AreNumbers, AreReached, IsExtended, IsReachedGraph}
-pub use Rattle.mv_linker.specs.Relinked.{AreCalls, AreDependants, AreLinkable, AreSizesAt, BeginAt, IsApart, IsCallAt, IsDependant, IsFunction, IsLinkable, IsSmallAt, IsStruct, Joins}
-pub use Rattle.mv_linker.specs.Relinked.{NamesBundle, bundled_target}
-pub use Rattle.mv_linker.specs.Resolved.{AreResolved, callee_of, width_of_handle}
+pub use Rattle.mv_linker.specs.Relinked.{AreSizesAt, IsSmallAt, IsStruct, Joins}
+pub use Rattle.mv_linker.specs.Resolved.{AreCallees, AreResolved, AreWidths, callee_of, width_of_handle}
 pub use Rattle.mv_linker.specs.Scope.{all_named, found_among, offered, place_for, places_in, with_table, with_tables}
-pub use Rattle.mv_linker.specs.ScopeDependencies.{AreDependenciesAt, AreDependenciesIn, ArePlaces, count_after}
+pub use Rattle.mv_linker.specs.ScopeDependencies.{AreDependenciesIn, ArePlaces}
 pub use Rattle.mv_linker.specs.Shapes.{AreFieldsAt, AreParts, AreShapes, IsPart, has_key, is_keyed, part_by, parts_by, shapes_by, structs_in}
 pub use Rattle.mv_linker.specs.Sizes.{AreDefined, AreSizes, AreSmall, IsDefined, IsSized, Total, greater, next_rows, row_of, rows_after, size_at, size_of_struct}
 pub use Rattle.mv_linker.specs.Sizes.{size_of_token, small_size, total_of}
 pub use Rattle.mv_linker.specs.StoreRules.{Links, Reaches, depends_on, directly, function_fits, function_is_there, function_named, further, module_is_there}
 pub use Rattle.mv_linker.specs.StoreRules.{modules_are_there, names_hold, names_module, struct_is_small, struct_is_there, structs_are_there}
-pub use Rattle.mv_linker.specs.Stored.{AreCodesOf, AreDependenciesOf, AreNames, AreNamesOf, IsLinkedTo, IsSizeAt, KeepsDependencies, LinkedBundle, Relinks, with_at, with_codes}
+pub use Rattle.mv_linker.specs.Slots.{AreFilled, AreOnce, AreSlots, GivesSlot, IsFilled, IsOpen, IsOpenAt, callee_by, carried, exports_at, exports_from, moved, slot_number, slot_of}
+pub use Rattle.mv_linker.specs.Slotted.{AreSlotted, IsSlotted}
+pub use Rattle.mv_linker.specs.Stored.{AreCodesOf, AreDependenciesOf, AreLowered, AreNames, AreNamesOf, IsLinkedTo, IsSizeAt, KeepsDependencies, LinkedBundle, with_at, with_codes}
 pub use Rattle.mv_linker.specs.Stored.{with_dependencies}
 pub use Rattle.mv_linker.specs.Targets.{AreFunctionsAt, AreStructsAt, AreTargets, EachAt, IsFunctionAt, IsFunctionIn, IsStructAt, IsStructIn, IsTarget, function_matches, modules_in}
 pub use Rattle.mv_linker.specs.Targets.{struct_matches, tables_of}
@@ -104,7 +104,6 @@ pub use Rattle.mv_linker.specs.declared.New.{New}
 pub use Rattle.mv_linker.specs.declared.code.Callee.{Callee}
 pub use Rattle.mv_linker.specs.declared.code.Code.{Code}
 pub use Rattle.mv_linker.specs.declared.code.CodeAt.{CodeAt}
-pub use Rattle.mv_linker.specs.declared.dependants.Dependant.{Dependant}
 pub use Rattle.mv_linker.specs.declared.dependencies.Dependencies.{Dependencies}
 pub use Rattle.mv_linker.specs.declared.dependencies.DependenciesAt.{DependenciesAt}
 pub use Rattle.mv_linker.specs.declared.entry.Name.{Name}
@@ -122,7 +121,7 @@ pub use Rattle.mv_linker.specs.declared.sizes.Size.{Size}
 pub use Rattle.mv_linker.specs.declared.store_rules.Names.{Names}
 pub use Rattle.mv_linker.specs.declared.targets.Target.{Target}
 pub use Rattle.mv_linker.specs.declared.to_link.Called.{Called}
-pub use Rattle.mv_linker.specs.declared.to_link.Others.TheVariants.{In, Known}
+pub use Rattle.mv_linker.specs.declared.to_link.Lowered.{Lowered}
 pub use Rattle.mv_linker.specs.declared.to_link.ToLink.{ToLink}
 unfoldable pub use Rattle.mv_linker.specs.Linked.{linked}
-unfoldable pub use Rattle.mv_linker.specs.LinkedTogether.{callee_by, words_of_others}
+unfoldable pub use Rattle.mv_linker.specs.Lowered.{words_of_others}

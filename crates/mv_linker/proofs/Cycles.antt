@@ -1,22 +1,20 @@
--- Rule f, and who depends on whom: the order of modules once a bundle joins, the places that are kept of what each module names
--- and of what names it, and the search from a bundle along them. The main statement is `ordered-acyclic`, in Depends.
+-- Rule f: the order of modules once a bundle joins, the places that are kept of what each module depends on, and the search from a
+-- bundle along them. The main statements are `ordered-by`, in Settled, and the steps of the search, in Searching.
 --
--- Read first specs/DependencyGraph.antt and Reached.antt, then Depends and ReachedLemmas.
---   Depends           `ordered-acyclic`: dependencies by their places: a cycle of modules is a cycle of places
---   NoEdges           `no-edges`: a graph without edges has no cycle
---   Graphs            `whole-graph`, `appended-graph`: graphs of dependencies: of all modules, of modules after others, and where a store grows
+-- Read first specs/DependencyGraph.antt and Settled.antt, then Settled and Searching.
+--   Depends           `dependencies_from`: the modules that a module depends on, by the places that its handles name
+--   Graphs            `named_there`: chains of modules, and modules that handles name
 --   JoinedOrder       `names-stay`: the order of modules once a bundle joins
---   DependencyLemmas  `one-more`, `graph-appended`: dependencies, place by place
---   DependenciesStay  `dependencies-stay`, `keeps-dependencies`: those of a module that stays are the same
---   ReachedLemmas     `reached-graph`, `ordered-reached`: the search from a bundle; a chain that leads back is of what it reaches
---   NamerLemmas       `keeps-of`, `finding-all`: which modules of a store name which others: sets of pairs, and what is found in them
---   DependantLemmas   `no-dependants`, `all-dependants`: published modules that stay and name a module of a bundle
+--   DependencyLemmas  `one-more`, `places-within`: dependencies, place by place
+--   DependenciesStay  `those-stay`, `keeps-dependencies`: those of a module that stays are the same
+--   PlaceBits         sets of places as bits
+--   Settled           `ordered-by`, `settled-first`: modules that are in order by themselves, and when all are
+--   Searching         `search-loops`, `search-ends`: the search for a chain that leads back
 pub mod Depends
 pub mod Graphs
 pub mod JoinedOrder
 pub mod DependencyLemmas
 pub mod DependenciesStay
-pub mod ReachedLemmas
-pub mod NamerLemmas
-pub mod DependantLemmas
-pub mod NoEdges
+pub mod PlaceBits
+pub mod Settled
+pub mod Searching

@@ -7,6 +7,8 @@
 --   StructSizes  rule g
 --   LinkedCode   the code that stands for a module's
 --   Kept         what else the store keeps
+pub mod Counted
+pub mod KeptSlots
 pub mod Common
 pub mod Found
 pub mod ListTests

@@ -3,6 +3,7 @@ use Rattle.mv_linker.proofs.Common.{ℕ, ◌<◌, ◌∙◌, ◌≡◌, List, Mo
 use Rattle.mv_linker.proofs.Common.{ap₂, arith, both_ways, bytes_eq, bytes_eq-Decides, cases_order, depends_on, eq-eqb, eqb, eqb-true, false, first_so, have_one_name, inl, inr, is_module}
 use Rattle.mv_linker.proofs.Common.{length, module_name, module_place, name_at, name_of_struct, names_module, not, not-true, on_bind, option_map_or, or_cases, or_left, or_right, own_name}
 use Rattle.mv_linker.proofs.Common.{refl, same_module, same_Some, same_struct, second_so, slice_get, struct_name, suc, sym, true, zero}
+use Rattle.std.proofs.lemmas.Option.{slice_get_within}
 use Rattle.mv_linker.proofs.Found.{differ_at, find_first, found_at, one_place, passing}
 
 abbrev pub module_of : ℕ → List ℕ → ModuleName
@@ -18,6 +19,11 @@ module_parts m h name e go =
     on_bind (slice_get m.module_handles h) _ name e (λ x x_is e1. on_bind (slice_get m.addresses x.address) _ name e1 (λ p p_is e2. on_bind (slice_get m.identifiers x.name) _ name e2 (λ n n_is e3.
     let same = same_Some (record { address = p; name = n }) name e3 in
     go x x_is (p_is ∙ ap (λ (z : ModuleName). Some z.address) same) (n_is ∙ ap (λ (z : ModuleName). Some z.name) same))))
+
+-- a handle that names a module is there
+pub handle-below : (m : Module) (h : ℕ) (name : ModuleName) → module_name m h ≡ Some name → h < length m.module_handles
+handle-below m h name e =
+    module_parts m h name e (λ handle at address_is name_is. slice_get_within m.module_handles h handle at)
 
 pub struct_parts : {P : Type 0} (m : Module) (h : ℕ) (name : StructName) → struct_name m h ≡ Some name
     → ((x : StructHandle) → slice_get m.struct_handles h ≡ Some x → module_name m x.module ≡ Some name.home → slice_get m.identifiers x.name ≡ Some name.name → P) → P

@@ -1,9 +1,11 @@
--- What a call from outside asks of a module's functions: the identifier, the types of the parameters, and whether it is an entry.
+-- What a call from outside asks of a module's functions: the identifier, the types of the parameters, and whether it is an entry;
+-- and whether other modules may call them.
 --   IsInterfaceOf m d i                   the interface is the function definition's
 --   AreInterfacesOf m interfaces          they are those of a module's functions, in order
 --   IsInterfaceAt modules place index i   it is that of the function at an index in the module at a place
 use Rattle.std.specs.Prelude.{◌≡◌, ℕ, List, Some, length, slice_get}
 use Rattle.mv_move_types.specs.Module.{Module, FunctionDefinition, name_of_function, parameter_tokens}
+use Rattle.mv_move_types.specs.Named.{is_public}
 use Rattle.mv_linker.specs.declared.interfaces.Interface.{Interface}
 
 -- the interface is the function definition's
@@ -11,6 +13,7 @@ pub record IsInterfaceOf (m : Module) (d : FunctionDefinition) (i : Interface) :
   pub identifier : name_of_function m d ≡ Some i.identifier.items
   pub parameters : parameter_tokens m d ≡ Some i.parameters.items
   pub entry : d.is_entry ≡ i.is_entry
+  pub is_open : is_public d ≡ i.is_public
 
 -- those of a module's functions, in order
 pub record AreInterfacesOf (m : Module) (interfaces : List Interface) : Type 0 where

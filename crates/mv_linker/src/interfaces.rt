@@ -1,10 +1,12 @@
-// What a call from outside asks of a module's functions.
-ghost use Rattle.std.specs.Prelude.{◌≡◌, [], option_map, position, unwrap_or, IfOk};
+// What a call from outside asks of a module's functions, and whether other modules may call them.
+ghost use Rattle.std.specs.Prelude.{◌≡◌, ◌≤◌, [], length, option_map, position, unwrap_or, IfOk};
 ghost use Rattle.std.specs.Str.{bytes_eq};
 ghost use Rattle.mv_move_types.specs.Module.{name_of_function, parameter_tokens};
+ghost use Rattle.mv_move_types.specs.Named.{is_public as may_be_called};
 ghost use Rattle.mv_bounds.specs.Bounds.{InBounds};
 ghost use Rattle.mv_linker.specs.Interfaces.{AreInterfacesOf};
 
+use crate::handles::is_public;
 use crate::names::function_name;
 use mv_binary_format::{FunctionDefinition, Module};
 use mv_move_types::Token;
@@ -19,6 +21,8 @@ pub struct Interface {
     pub parameters: Vec<Token>,
     /// Whether it is an entry.
     pub is_entry: bool,
+    /// Whether other modules may call it.
+    pub is_public: bool,
 }
 
 // The types of a function's parameters, if they are there.
@@ -38,6 +42,7 @@ fn interface_of(
     ensures identifier { IfOk result (λ i. i.identifier.items ≡ unwrap_or (name_of_function m.now d.now) []) }
     ensures parameters { IfOk result (λ i. i.parameters.items ≡ unwrap_or (parameter_tokens m.now d.now) []) }
     ensures entry { IfOk result (λ i. i.is_entry ≡ d.now.is_entry) }
+    ensures visible { IfOk result (λ i. i.is_public ≡ may_be_called d.now) }
 {
     let identifier = function_name(m, d).unwrap_or(&[]).to_vec(alloc)?;
     let parameters = parameters(m, d).unwrap_or(&[]).to_vec(alloc)?;
@@ -45,12 +50,14 @@ fn interface_of(
         identifier,
         parameters,
         is_entry: d.is_entry(),
+        is_public: is_public(d),
     })
 }
 
 /// The interfaces of a module's functions, in order.
 pub(crate) fn interfaces_of(alloc: Global, m: &Module<'_>) -> Result<Vec<Interface>, AllocError>
-    ensures { IfOk result (λ v. InBounds m.now → AreInterfacesOf m.now v.items) }
+    ensures interfaces { IfOk result (λ v. InBounds m.now → AreInterfacesOf m.now v.items) }
+    ensures few { IfOk result (λ v. length v.items ≤ 256) }
 {
     let functions = m.functions();
     let mut interfaces = Vec::with_capacity(alloc, functions.len())?;

@@ -7,7 +7,7 @@ ghost use Rattle.mv_bounds.specs.Definitions.{all_differ};
 ghost use Rattle.mv_linker.specs.Link.{MayJoin, AreSentBy, IsPublishable, tables_in, have_one_name, is_sent_by};
 ghost use Rattle.mv_linker.specs.Kept.{Kept, published_in};
 ghost use Rattle.mv_linker.specs.News.{published_of};
-ghost use Rattle.mv_linker.specs.Stored.{KeepsDependencies, Relinks};
+ghost use Rattle.mv_linker.specs.Stored.{AreLowered, KeepsDependencies};
 
 use crate::entry::Entry;
 use crate::indexed::put_name;
@@ -30,7 +30,7 @@ pub fn may_join(
     requires few { length s.now + length new.now ≤ 65536 }
     requires passed { All IsPublishable (published_of new.now) }
     ensures ok { OnOk result (MayJoin sender (tables_in s.now) (tables_in (published_of new.now)) (tables_in (with_modules s.now (published_of new.now)))) }
-    ensures linked { IfOk result (λ c. Relinks (tables_in s.now) (tables_in (with_modules s.now (published_of new.now))) c.codes.items) }
+    ensures lowered { IfOk result (λ c. AreLowered (tables_in s.now) (tables_in (published_of new.now)) (tables_in (with_modules s.now (published_of new.now))) c.lowered.items) }
     ensures dependencies { IfOk result (λ c. KeepsDependencies (tables_in s.now) (tables_in (with_modules s.now (published_of new.now))) c.dependencies.items) }
     ensures refused { IfErr result (IsRefusedIn 13 (MayJoin sender (tables_in s.now) (tables_in (published_of new.now)) (tables_in (with_modules s.now (published_of new.now))))) }
 {

@@ -8,14 +8,14 @@ ghost use Rattle.mv_linker.specs.Link.{tables_in, have_one_name};
 ghost use Rattle.mv_linker.specs.StoreRules.{Links, names_hold};
 ghost use Rattle.mv_linker.specs.Relinked.{IsFitting};
 ghost use Rattle.mv_linker.specs.Scope.{offered};
-ghost use Rattle.mv_linker.specs.Stored.{KeepsDependencies, Relinks, AreNames, AreNamesOf};
+ghost use Rattle.mv_linker.specs.Stored.{KeepsDependencies, AreLowered, AreNames, AreNamesOf};
 ghost use Rattle.mv_linker.specs.Targets.{modules_in};
 
-use crate::code::CodeAt;
 use crate::dependencies::{DependenciesAt, placed};
 use crate::pushed::pushed;
 use crate::scope::Scope;
 use crate::targets::places_of;
+use crate::to_link::Lowered;
 use mv_binary_format::Module;
 use mv_move_types::{Definition, Refusal};
 use std::alloc::Global;
@@ -34,8 +34,8 @@ pub struct Names {
 /// What a store keeps of the modules that a bundle changes, beside their texts.
 #[derive(Drop)]
 pub struct Changes {
-    /// The code of each module that was linked.
-    pub codes: Vec<CodeAt>,
+    /// What was made of the bundle's modules.
+    pub lowered: Vec<Lowered>,
     /// The dependencies of the bundle's modules.
     pub dependencies: Vec<DependenciesAt>,
 }
@@ -92,7 +92,7 @@ impl<'a> Scope<'a> {
         requires few { length (modules_in self.now) ≤ 65536 }
         requires fits { IsFitting self.now }
         ensures ok { OnOk result (Links (modules_in self.now)) }
-        ensures codes { IfOk result (λ c. Relinks (tables_in self.now.store.now) (modules_in self.now) c.codes.items) }
+        ensures lowered { IfOk result (λ c. AreLowered (tables_in self.now.store.now) (offered self.now.new.now) (modules_in self.now) c.lowered.items) }
         ensures dependencies { IfOk result (λ c. KeepsDependencies (tables_in self.now.store.now) (modules_in self.now) c.dependencies.items) }
         ensures refused { IfErr result (IsRefusedIn 13 (Links (modules_in self.now))) }
     {
@@ -102,10 +102,10 @@ impl<'a> Scope<'a> {
             return Err(Refusal::Phase(13));
         }
         let sizes = self.sizes(alloc, &names)?;
-        let codes = self.codes(alloc, &names, &sizes)?;
+        let lowered = self.lowered(alloc, &names, &sizes)?;
         let dependencies = placed(alloc, &self.places, needed)?;
         Ok(Changes {
-            codes,
+            lowered,
             dependencies,
         })
     }

@@ -1,11 +1,10 @@
 // What a store keeps of its modules beside their texts.
-ghost use Rattle.std.specs.Prelude.{◌≡◌, ◌<◌, ◌≤◌, IsSome, Some, length, map, option_map, slice_get, IfSome, IfOk};
+ghost use Rattle.std.specs.Prelude.{◌≡◌, ◌<◌, ◌≤◌, IsSome, Some, length, option_map, slice_get, IfSome, IfOk};
 ghost use Rattle.mv_move_types.specs.Limits.{most_functions};
 ghost use Rattle.mv_move_types.specs.Module.{name_at};
 ghost use Rattle.mv_move_types.specs.Named.{function_place};
 ghost use Rattle.mv_linker.specs.Link.{IsStore, tables_in};
-ghost use Rattle.mv_linker.specs.Code.{operations};
-ghost use Rattle.mv_linker.specs.LinkedTogether.{AreOwnSizes};
+ghost use Rattle.mv_linker.specs.Code.{program};
 ghost use Rattle.mv_linker.specs.Interfaces.{IsInterfaceAt};
 ghost use Rattle.mv_linker.specs.Linked.{program_of, width_of_others};
 ghost use Rattle.mv_linker.specs.Shapes.{AreFieldsAt, is_keyed, structs_in};
@@ -17,14 +16,12 @@ use crate::interfaces::{Interface, index_of};
 use crate::names::StructName;
 use crate::shapes::Part;
 use crate::sizes::Size;
-use mv_move_types::{Definition, Refusal};
-use mv_type_states::Tops;
-use std::alloc::AllocError;
+use mv_move_types::Definition;
 
 impl Store {
     /// The linked code of each module, by its place.
     pub fn codes(&self) -> &[Code]
-        ensures code { map operations result.now ≡ program_of (tables_in self.now) }
+        ensures code { program result.now ≡ program_of (tables_in self.now) }
         ensures store { IsStore self.now }
     {
         &self.codes
@@ -98,39 +95,12 @@ impl Store {
         Some((index, &interfaces[index]))
     }
 
-    /// The sizes of the structs of the module at a place.
-    pub(crate) fn sizes_at(&self, place: usize) -> &[Size]
-        requires { place < length self.now }
-        ensures { IfSome (slice_get (tables_in self.now) place) (λ m. AreOwnSizes (tables_in self.now) m result.now) }
-    {
-        &self.codes[place].sizes
-    }
-
     /// The size of a struct.
     pub(crate) fn size(&self, d: Definition) -> Size
         requires { IsSome (name_at (tables_in self.now) d.place d.index) }
         ensures { IsSizeAt (tables_in self.now) d result }
     {
         self.codes[usize::from(d.place)].sizes[usize::from(d.index)]
-    }
-
-    /// The module at a place, with the types that linking reads. It passed phases 3 to 8 when it was published.
-    pub(crate) fn tops(&self, place: usize) -> Result<Tops<'_>, AllocError>
-        requires { place < length self.now }
-        ensures { IfOk result (λ t. slice_get (tables_in self.now) place ≡ Some t) }
-    {
-        let alloc = self.allocator();
-        let module = self.module(place)?;
-        let bounded = match mv_bounds::check(alloc, module) {
-            Ok(bounded) => bounded,
-            Err(Refusal::Memory) => return Err(AllocError),
-            Err(Refusal::Phase(_)) => unreachable!(),
-        };
-        match mv_type_states::check(alloc, bounded) {
-            Ok(typed) => typed.into_tops(alloc),
-            Err(Refusal::Memory) => Err(AllocError),
-            Err(Refusal::Phase(_)) => unreachable!(),
-        }
     }
 
     /// The bytes that the module at a place was read from, and those of the certificate that it was checked with.

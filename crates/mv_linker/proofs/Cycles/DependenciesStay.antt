@@ -1,11 +1,14 @@
 -- The dependencies of modules once a bundle joins: names keep their places, so those of a module that stays are the same.
---   dependencies-stay    of a module that stays
---   bundled-dependencies, kept-dependencies    what stands at a place
+--   was-needed, those-stay    of a module that stays
+--   bundled-dependencies, kept-those           what stands at a place
 --   no-dependencies, keeps-dependencies        those that are kept, at first and once a bundle's are put
-use Rattle.mv_linker.proofs.Common.{[], ℕ, ◌&&◌, ◌<◌, ◌==◌, ◌∙◌, ◌∷◌, ◌≡◌, AreDependencies, AreDependenciesAt, AreDependenciesIn, AreDependenciesOf, ArePlaces, Contains, Dependencies}
-use Rattle.mv_linker.proofs.Common.{DependenciesAt, Global, KeepsDependencies, Links, List, Module, None, Option, Some, Vec, all_differ, ap, ap₂, arith, count_after, depends_on}
-use Rattle.mv_linker.proofs.Common.{have_one_name, inl, inr, length, length-map, map, modules_are_there, names_module, none-some, not, own_name, places_in, position, refl, same_Some}
-use Rattle.mv_linker.proofs.Common.{slice_get, slice_get-map, slice_get_within, subst, suc, sym, true, with_tables, zero, zip}
+use Rattle.mv_linker.proofs.Common.{[], ℕ, ◌&&◌, ◌<◌, ◌==◌, ◌∙◌, ◌∷◌, ◌≡◌, AreDependenciesIn, AreDependenciesOf, ArePlaces, Contains, Dependencies}
+use Rattle.mv_linker.proofs.Common.{DependenciesAt, KeepsDependencies, Links, List, Module, None, Option, Some, all_differ, ap, ap₂, arith, count_after, depends_on}
+use Rattle.mv_linker.proofs.Common.{have_one_name, inl, inr, length, map, modules_are_there, names_module, none-some, not, own_name, places_in, position, refl, same_Some}
+use Rattle.mv_linker.proofs.Common.{slice_get, slice_get_within, subst, suc, sym, true, with_tables, zero, zip}
+use Rattle.mv_linker.specs.DependencyGraph.{DependsOnThose}
+use Rattle.mv_linker.specs.Places.{has}
+use Rattle.mv_linker.specs.ScopeDependencies.{IsNeeded}
 use Rattle.mv_linker.proofs.Lemmas.{Contains-at, at-Contains, depends_on-is, differ-result, all_at, name_at_one, one_test, element_at}
 use Rattle.mv_linker.proofs.Joining.Bundled.{bundle-at, old-at, place-at}
 use Rattle.mv_linker.proofs.Cycles.DependencyLemmas.{count-places, length-places, places-within}
@@ -29,10 +32,20 @@ names_module-alike m x n e (suc k) = simp (one_test x n e, names_module-alike m 
 pub depends_on-alike : (m x n : Module) → own_name x ≡ own_name n → depends_on m x ≡ depends_on m n
 depends_on-alike m x n e = ap₂ (λ a b. not a && b) (have_one_name-alike m x n e) (names_module-alike m x n e (length m.module_handles))
 
+-- what an old module depends on among the modules that result, it depended on before
+pub was-needed : (old ns : List Module) → all_differ have_one_name old ≡ true → Links old → (q : ℕ) (m : Module) → slice_get old q ≡ Some m → (j : ℕ) (n : Module)
+    → slice_get (with_tables old ns) j ≡ Some n → depends_on m n ≡ true → (y : Module) × (slice_get old j ≡ Some y) × (depends_on m y ≡ true)
+was-needed old ns once links q m at j n e depends =
+    let names = (depends_on-is m n depends).1 in
+    let there = named_there old m (length m.module_handles) names.handle names.name (all_at (λ m. modules_are_there old m (length m.module_handles)) old q m links.modules at) names.below names.named in
+    let new = names-stay old ns there.0 there.1 there.2 in
+    let same : j ≡ there.0 = name_at_one (with_tables old ns) names.name j there.0 n new.0 (differ-result old ns once) e new.1 names.own (new.2 ∙ there.3) in
+    (there.1, ap (slice_get old) same ∙ there.2, depends_on-alike m there.1 n (there.3 ∙ sym names.own) ∙ depends)
+
 -- the dependencies of an old module are the same among the modules that result
-pub dependencies-stay : (old ns : List Module) → all_differ have_one_name old ≡ true → Links old → (q : ℕ) (m : Module) → slice_get old q ≡ Some m → (places : List ℕ) → AreDependencies old m places
-    → AreDependencies (with_tables old ns) m places
-dependencies-stay old ns once links q m at places d = record {
+pub those-stay : (old ns : List Module) → all_differ have_one_name old ≡ true → Links old → (q : ℕ) (m : Module) → slice_get old q ≡ Some m → (P : ℕ → Type 0) → DependsOnThose old m P
+    → DependsOnThose (with_tables old ns) m P
+those-stay old ns once links q m at P d = record {
   there = λ j has.
       let x = element_at old j (d.there j has) in
       let new = names-stay old ns j x.0 x.1 in
@@ -43,13 +56,7 @@ dependencies-stay old ns once links q m at places d = record {
         let new = names-stay old ns j x.0 x.1 in
         let same : new.0 ≡ n = same_Some new.0 n (sym new.1 ∙ e) in
         sym (depends_on-alike m x.0 n (sym new.2 ∙ ap own_name same)) ∙ (d.each j x.0 x.1).0 has,
-    λ depends.
-        let names = (depends_on-is m n depends).1 in
-        let there = named_there old m (length m.module_handles) names.handle names.name (all_at (λ m. modules_are_there old m (length m.module_handles)) old q m links.modules at) names.below names.named in
-        let new = names-stay old ns there.0 there.1 there.2 in
-        let same : j ≡ there.0 = name_at_one (with_tables old ns) names.name j there.0 n new.0 (differ-result old ns once) e new.1 names.own (new.2 ∙ there.3) in
-        let so : depends_on m there.1 ≡ true = depends_on-alike m there.1 n (there.3 ∙ sym names.own) ∙ depends in
-        subst (λ k. Contains places k) (sym same) ((d.each there.0 there.1 there.2).1 so),
+    λ depends. let y = was-needed old ns once links q m at j n e depends in (d.each j y.0 y.1).1 y.2,
   );
 }
 
@@ -67,26 +74,27 @@ placed-there old ns apart n has =
 
 module _ (old ns : List Module) (once : all_differ have_one_name old ≡ true) (apart : all_differ have_one_name ns ≡ true) (links : Links old) where
   -- at a place of the bundle stand those of its module
-  pub bundled-dependencies : (graph : List (List ℕ)) → AreDependenciesIn (with_tables old ns) ns graph → (k q : ℕ) (places : List ℕ) → slice_get (places_in old ns) k ≡ Some q
-      → slice_get graph k ≡ Some places → AreDependenciesAt (with_tables old ns) q places
-  bundled-dependencies graph are k q places placed at m m_at =
-      let n = element_at ns k (let low = slice_get_within graph k places at in omega (arith, low, are.len)) in
+  pub bundled-dependencies : (all : List Dependencies) → AreDependenciesIn (with_tables old ns) ns all → (k q : ℕ) (d : Dependencies) → slice_get (places_in old ns) k ≡ Some q
+      → slice_get all k ≡ Some d → (m : Module) → slice_get (with_tables old ns) q ≡ Some m → IsNeeded (with_tables old ns) m d
+  bundled-dependencies all are k q d placed at m m_at =
+      let n = element_at ns k (let low = slice_get_within all k d at in omega (arith, low, are.len)) in
       let same : n.0 ≡ m = same_Some n.0 m (sym (bundle-at old ns k q n.0 apart n.1 placed) ∙ m_at) in
-      subst (λ (x : Module). AreDependencies (with_tables old ns) x places) same (are.each k n.0 places n.1 at)
+      subst (λ (x : Module). IsNeeded (with_tables old ns) x d) same (are.each k n.0 d n.1 at)
 
   -- and at any other those of the old one
-  pub kept-dependencies : (q : ℕ) (places : List ℕ) → position (λ p. p == q) (places_in old ns) ≡ None → AreDependenciesAt old q places → AreDependenciesAt (with_tables old ns) q places
-  kept-dependencies q places none are m m_at =
+  pub kept-those : (q : ℕ) (P : ℕ → Type 0) → position (λ p. p == q) (places_in old ns) ≡ None → ((m : Module) → slice_get old q ≡ Some m → DependsOnThose old m P)
+      → (m : Module) → slice_get (with_tables old ns) q ≡ Some m → DependsOnThose (with_tables old ns) m P
+  kept-those q P none are m m_at =
       let there : slice_get old q ≡ Some m = sym (old-at old ns q none) ∙ m_at in
-      dependencies-stay old ns once links q m there places (are m there)
+      those-stay old ns once links q m there P (are m there)
 
 -- ---- those of a bundle, with their places
 
-abbrev with_place : ℕ × Vec ℕ Global → DependenciesAt
-with_place p = record { place = p.0; dependencies = record { places = p.1 } }
+abbrev with_place : ℕ × Dependencies → DependenciesAt
+with_place p = record { place = p.0; dependencies = p.1 }
 
-abbrev pub placed : List ℕ → List (Vec ℕ Global) → List DependenciesAt
-placed places graph = map (λ p. record { place = p.0; dependencies = record { places = p.1 } }) (zip places graph)
+abbrev pub placed : List ℕ → List Dependencies → List DependenciesAt
+placed places all = map (λ p. record { place = p.0; dependencies = p.1 }) (zip places all)
 
 abbrev pub place : DependenciesAt → ℕ
 place d = d.place
@@ -94,66 +102,62 @@ place d = d.place
 abbrev pub dependencies_of : DependenciesAt → Dependencies
 dependencies_of d = d.dependencies
 
-abbrev items : Vec ℕ Global → List ℕ
-items v = v.items
-
-places-placed : (places : List ℕ) (graph : List (Vec ℕ Global)) → length graph ≡ length places → map place (placed places graph) ≡ places
-places-placed [] graph e = refl
+places-placed : (places : List ℕ) (all : List Dependencies) → length all ≡ length places → map place (placed places all) ≡ places
+places-placed [] all e = refl
 places-placed (p ∷ places) [] e = absurd (omega (arith, e))
-places-placed (p ∷ places) (v ∷ graph) e = ap (λ l. p ∷ l) (places-placed places graph (omega (arith, e)))
+places-placed (p ∷ places) (d ∷ all) e = ap (λ l. p ∷ l) (places-placed places all (omega (arith, e)))
 
-placed-at : (places : List ℕ) (graph : List (Vec ℕ Global)) (k : ℕ) (d : DependenciesAt) → slice_get (placed places graph) k ≡ Some d
-    → (slice_get places k ≡ Some d.place) × (slice_get graph k ≡ Some d.dependencies.places)
-placed-at [] graph k d e = absurd (none-some d e)
+placed-at : (places : List ℕ) (all : List Dependencies) (k : ℕ) (d : DependenciesAt) → slice_get (placed places all) k ≡ Some d
+    → (slice_get places k ≡ Some d.place) × (slice_get all k ≡ Some d.dependencies)
+placed-at [] all k d e = absurd (none-some d e)
 placed-at (p ∷ places) [] k d e = absurd (none-some d e)
-placed-at (p ∷ places) (v ∷ graph) zero d e =
-    let same : with_place (p, v) ≡ d = same_Some (with_place (p, v)) d e in
-    (ap (λ (x : DependenciesAt). Some x.place) same, ap (λ (x : DependenciesAt). Some x.dependencies.places) same)
-placed-at (p ∷ places) (v ∷ graph) (suc k) d e = placed-at places graph k d e
+placed-at (p ∷ places) (x ∷ all) zero d e =
+    let same : with_place (p, x) ≡ d = same_Some (with_place (p, x)) d e in
+    (ap (λ (y : DependenciesAt). Some y.place) same, ap (λ (y : DependenciesAt). Some y.dependencies) same)
+placed-at (p ∷ places) (x ∷ all) (suc k) d e = placed-at places all k d e
 
 -- once they are put, each module has its dependencies
 pub keeps-dependencies : (old ns : List Module) → all_differ have_one_name old ≡ true → all_differ have_one_name ns ≡ true → Links old → (places : List ℕ) → places ≡ places_in old ns
-    → (graph : List (Vec ℕ Global)) → AreDependenciesIn (with_tables old ns) ns (map (λ (v : Vec ℕ Global). v.items) graph) → KeepsDependencies old (with_tables old ns) (placed places graph)
-keeps-dependencies old ns once apart links places e graph are = record {
+    → (all : List Dependencies) → AreDependenciesIn (with_tables old ns) ns all → KeepsDependencies old (with_tables old ns) (placed places all)
+keeps-dependencies old ns once apart links places e all are = record {
   places = among;
   keeps = λ kept was. record {
     len =
-        length-put_all place dependencies_of kept (placed places graph) (within kept was)
+        length-put_all place dependencies_of kept (placed places all) (within kept was)
         ∙ ap (λ l. count_after l (length kept)) (taken ∙ e) ∙ ap (count_after (places_in old ns)) was.len ∙ count-places old ns;
-    each = λ q m d at d_at. elim (from-put_all place dependencies_of kept (placed places graph) (within kept was) q d d_at) [
+    each = λ q m d at d_at. elim (from-put_all place dependencies_of kept (placed places all) (within kept was) q d d_at) [
       | inl put ↦ put_there q m d at put
       | inr there ↦ left_there kept was q m d at there (position (λ p. p == q) places) refl
     ];
   };
 }
   where
-    long : length graph ≡ length places
-    long = (let a = length-map graph (λ (v : Vec ℕ Global). v.items) in omega (arith, a, are.len, length-places old ns, ap length e))
+    long : length all ≡ length places
+    long = omega (arith, are.len, length-places old ns, ap length e)
 
-    taken : map place (placed places graph) ≡ places
-    taken = places-placed places graph long
+    taken : map place (placed places all) ≡ places
+    taken = places-placed places all long
 
-    among : ArePlaces (map place (placed places graph)) (length old)
+    among : ArePlaces (map place (placed places all)) (length old)
     among = subst (λ l. ArePlaces l (length old)) (sym (taken ∙ e)) (places-within old ns)
 
-    within : (kept : List Dependencies) → AreDependenciesOf old kept → ArePlaces (map place (placed places graph)) (length kept)
-    within kept was = subst (λ n. ArePlaces (map place (placed places graph)) n) (sym was.len) among
+    within : (kept : List Dependencies) → AreDependenciesOf old kept → ArePlaces (map place (placed places all)) (length kept)
+    within kept was = subst (λ n. ArePlaces (map place (placed places all)) n) (sym was.len) among
 
-    put_there : (q : ℕ) (m : Module) (d : Dependencies) → slice_get (with_tables old ns) q ≡ Some m → WasPut place dependencies_of (placed places graph) q d
-        → AreDependencies (with_tables old ns) m d.places.items
+    put_there : (q : ℕ) (m : Module) (d : Dependencies) → slice_get (with_tables old ns) q ≡ Some m → WasPut place dependencies_of (placed places all) q d
+        → IsNeeded (with_tables old ns) m d
     put_there q m d at put =
-        let k = Contains-at (placed places graph) put.entry put.one in
-        let parts = placed-at places graph k.0 put.entry k.1 in
+        let k = Contains-at (placed places all) put.entry put.one in
+        let parts = placed-at places all k.0 put.entry k.1 in
         let standing : slice_get (places_in old ns) k.0 ≡ Some q = sym (ap (λ l. slice_get l k.0) e) ∙ parts.0 ∙ ap Some put.at in
-        let row : slice_get (map (λ (v : Vec ℕ Global). v.items) graph) k.0 ≡ Some d.places.items = rw (slice_get-map, parts.1) (ap (λ (x : Dependencies). Some x.places.items) put.is) in
-        bundled-dependencies old ns once apart links (map (λ (v : Vec ℕ Global). v.items) graph) are k.0 q d.places.items standing row m at
+        bundled-dependencies old ns once apart links all are k.0 q d standing (parts.1 ∙ ap Some put.is) m at
 
     left_there : (kept : List Dependencies) → AreDependenciesOf old kept → (q : ℕ) (m : Module) (d : Dependencies) → slice_get (with_tables old ns) q ≡ Some m
-        → WasThere place kept (placed places graph) q d → (o : Option ℕ) → position (λ p. p == q) places ≡ o → AreDependencies (with_tables old ns) m d.places.items
+        → WasThere place kept (placed places all) q d → (o : Option ℕ) → position (λ p. p == q) places ≡ o → IsNeeded (with_tables old ns) m d
     left_there kept was q m d at there (Some k) f =
         let standing : slice_get places k ≡ Some q = place-at q k places f in
-        let one = mapped-at place (placed places graph) k q (ap (λ l. slice_get l k) taken ∙ standing) in
-        absurd (there.none one.0 (at-Contains (placed places graph) k one.0 one.1) one.2)
+        let one = mapped-at place (placed places all) k q (ap (λ l. slice_get l k) taken ∙ standing) in
+        absurd (there.none one.0 (at-Contains (placed places all) k one.0 one.1) one.2)
     left_there kept was q m d at there None f =
         let none : position (λ p. p == q) (places_in old ns) ≡ None = sym (ap (position (λ p. p == q)) e) ∙ f in
-        kept-dependencies old ns once apart links q d.places.items none (λ x x_at. was.each q x d x_at there.at) m at
+        kept-those old ns once apart links q (λ j. has d.needs j ≡ true) none (λ x x_at. was.each q x d x_at there.at) m at

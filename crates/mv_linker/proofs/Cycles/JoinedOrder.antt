@@ -1,23 +1,7 @@
 -- The order of modules once a bundle joins.
-use Rattle.mv_linker.proofs.Common.{[], ℕ, ◌++◌, ◌+◌, ◌∙◌, ◌∷◌, ◌≡◌, List, Module, Some, ap, append-nil, append_assoc, arith, cases_Bool, cond, false, have_one_name, inl, inr, length}
+use Rattle.mv_linker.proofs.Common.{[], ℕ, ◌∙◌, ◌∷◌, ◌≡◌, List, Module, Some, ap, cases_Bool, cond, false, have_one_name, inl, inr}
 use Rattle.mv_linker.proofs.Common.{none-some, own_name, refl, same_Some, slice_get, suc, sym, true, with_table, with_tables, zero}
 use Rattle.mv_linker.proofs.Lemmas.{have_one_name-is}
-use Rattle.mv_linker.proofs.Joining.Scopes.{with_tables-short}
-
--- a module that takes a place of its own comes last
-with_table-last : (ms : List Module) (n : Module) → length (with_table ms n) ≡ length ms + 1 → with_table ms n ≡ ms ++ n ∷ []
-with_table-last [] n h = refl
-with_table-last (m ∷ ms) n h = let go = with_table-last ms n in grind (arith, go)
-
--- a bundle of which each module takes a place of its own stands after the others
-pub with_tables-appended : (ms ns : List Module) → length (with_tables ms ns) ≡ length ms + length ns → with_tables ms ns ≡ ms ++ ns
-with_tables-appended ms [] h = sym (append-nil ms)
-with_tables-appended ms (n ∷ ns) h =
-    let one = with_tables-short ms (n ∷ []) in
-    let rest = with_tables-short (with_table ms n) ns in
-    let long : length (with_table ms n) ≡ length ms + 1 = omega (arith, one, rest, h) in
-    let last = with_table-last ms n long in
-    with_tables-appended (with_table ms n) ns (omega (arith, h, long)) ∙ ap (λ l. l ++ ns) last ∙ append_assoc ms (n ∷ []) ns
 
 -- the old names stand in their places
 pub record IsNamedAlike (result : List Module) (i : ℕ) (m : Module) : Type 0 where

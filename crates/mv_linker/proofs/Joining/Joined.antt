@@ -1,6 +1,6 @@
 -- A store that a bundle joined is a store.
-use Rattle.mv_linker.proofs.Common.{[], ℕ, ◌∷◌, ◌≡◌, All, All-cons, All-head, All-nil, All-tail, IsLinkedTo, IsPublishable, IsStore, KeepsDependencies, LinkedBundle, List, MayJoin, Module}
-use Rattle.mv_linker.proofs.Common.{Option, PublishedModule, Relinks, all_differ, cond, false, have_one_name, subst, sym, tables_in, true, with_module, with_modules}
+use Rattle.mv_linker.proofs.Common.{[], ℕ, ◌∷◌, ◌≡◌, All, AreLowered, All-cons, All-head, All-nil, All-tail, IsLinkedTo, IsPublishable, IsStore, KeepsDependencies, LinkedBundle, List, MayJoin, Module}
+use Rattle.mv_linker.proofs.Common.{Option, PublishedModule, all_differ, cond, false, have_one_name, subst, sym, tables_in, true, with_module, with_modules}
 use Rattle.mv_move_types.specs.Published.{has_name_of}
 use Rattle.mv_linker.proofs.Lemmas.{differ-result}
 use Rattle.mv_linker.proofs.Joining.Scopes.{all_tables}
@@ -28,5 +28,13 @@ joined-store sender old bundle store passed join = record {
 -- linked to it
 pub joined-linked : (sender : Option ℕ) (old : List PublishedModule) (l : LinkedBundle) → IsStore old → All IsPublishable l.published → MayJoin sender (tables_in old) (tables_in l.published)
     (tables_in (with_modules old l.published))
-    → Relinks (tables_in old) (tables_in (with_modules old l.published)) l.codes → KeepsDependencies (tables_in old) (tables_in (with_modules old l.published)) l.dependencies → IsLinkedTo old l
-joined-linked sender old l store passed join relinks keeps = record { whole = joined-store sender old l.published store passed join; codes = relinks; dependencies = keeps }
+    → AreLowered (tables_in old) (tables_in l.published) (tables_in (with_modules old l.published)) l.lowered
+    → KeepsDependencies (tables_in old) (tables_in (with_modules old l.published)) l.dependencies → IsLinkedTo old l
+joined-linked sender old l store passed join lowered keeps = record {
+  passed = passed;
+  once = join.once;
+  compatible = join.compatible;
+  whole = joined-store sender old l.published store passed join;
+  lowered = lowered;
+  dependencies = keeps;
+}

@@ -1,10 +1,8 @@
--- What is kept of the old modules, and what their handles lead to, once a bundle joins: for the order of modules and the sizes of structs.
-use Rattle.mv_linker.proofs.Common.{ℕ, ◌+◌, ◌∙◌, ◌≡◌, AreDependencies, AreHandlePlaces, AreTargets, IsDependencyGraph, IsSized, Links, List, Module, Size, Some, StructName, Target}
-use Rattle.mv_linker.proofs.Common.{all_differ, ap, definition_of, have_one_name, length, length-map, map, name_at, on_bind, same_Some, slice_get, slice_get-map, subst, sym, true}
+-- What is kept of the old modules, and what their handles lead to, once a bundle joins: for the sizes of structs.
+use Rattle.mv_linker.proofs.Common.{ℕ, ◌∙◌, ◌≡◌, AreHandlePlaces, AreTargets, IsSized, Links, List, Module, Size, Some, StructName, Target}
+use Rattle.mv_linker.proofs.Common.{ap, definition_of, length-map, map, name_at, on_bind, same_Some, slice_get, slice_get-map, sym}
 use Rattle.mv_linker.proofs.Common.{with_tables}
-use Rattle.mv_linker.proofs.Lemmas.{among-at, differ-result, map_as_bind, name_parts, own-definition}
-use Rattle.mv_linker.proofs.Cycles.Graphs.{appended-graph}
-use Rattle.mv_linker.proofs.Cycles.JoinedOrder.{with_tables-appended}
+use Rattle.mv_linker.proofs.Lemmas.{among-at, map_as_bind, name_parts, own-definition}
 use Rattle.mv_linker.proofs.StructSizes.JoinedSizes.{keeps-joined}
 use Rattle.mv_linker.proofs.StructSizes.SizesStay.{size-stays}
 use Rattle.mv_linker.proofs.Joining.StillThere.{Joining}
@@ -20,20 +18,6 @@ places_of_targets modules m targets a =
 module _ (old ns : List Module) (j : Joining old ns) where
   abbrev result : List Module
   result = with_tables old ns
-
-  once : all_differ have_one_name result ≡ true
-  once = differ-result old ns j.once
-
-  -- the graph of a bundle that replaces nothing
-  pub appended-joined : (graph : List (List ℕ)) → Links old → length result ≡ length old + length ns → length graph ≡ length ns
-      → ((i : ℕ) (m : Module) (places : List ℕ) → slice_get result (length old + i) ≡ Some m → slice_get graph i ≡ Some places → AreDependencies result m places)
-      → IsDependencyGraph result (length old) graph
-  appended-joined graph links long len deps =
-      let same = with_tables-appended old ns long in
-      let P : List Module → Type 0 = λ l. all_differ have_one_name l ≡ true in
-      let G : List Module → Type 0 = λ l. IsDependencyGraph l (length old) graph in
-      let E : List Module → Type 0 = λ l. (i : ℕ) (m : Module) (places : List ℕ) → slice_get l (length old + i) ≡ Some m → slice_get graph i ≡ Some places → AreDependencies l m places in
-      subst G (sym same) (appended-graph old ns graph links (subst P same once) len (subst E same deps))
 
   -- the size of an old struct stays
   pub kept-size : Links old → (p k : ℕ) (name : StructName) (size : Size) → name_at old p k ≡ Some name → IsSized old name size → IsSized result name size

@@ -6,6 +6,7 @@
 use Rattle.mv_linker.proofs.Common.{[], ℕ, ◌&&◌, ◌∙◌, ◌∷◌, ◌≡◌, AreInterfacesOf, FunctionDefinition, IfSome, InBounds, Interface, IsInterfaceAt, IsInterfaceOf, List, Module, Option, Some}
 use Rattle.mv_linker.proofs.Common.{Token, ap, ap₂, arith, below, bytes_eq, cond, false, find_index, first_so, function_handle_in, function_place, length, ltb-true, name_of_function}
 use Rattle.mv_linker.proofs.Common.{option_map, option_map_or, parameter_tokens, position, refl, second_so, slice_get, slice_get_within, subst, suc, sym, true, unwrap_or}
+use Rattle.mv_move_types.specs.Named.{is_public}
 use Rattle.mv_bounds.proofs.FunctionLemmas.{handle_below, signatures_below}
 use Rattle.mv_linker.proofs.Lemmas.{all_at, element_at}
 use Rattle.mv_linker.proofs.Found.{position-find_index}
@@ -37,13 +38,14 @@ defined-parts m bounds f d at =
 -- an interface with those parts is the definition's
 pub interface-made : (m : Module) → InBounds m → (f : ℕ) (d : FunctionDefinition) → slice_get m.functions f ≡ Some d → (i : Interface) → i.identifier.items ≡ unwrap_or (name_of_function m d) []
     → i.parameters.items ≡ unwrap_or (parameter_tokens m d) []
-    → i.is_entry ≡ d.is_entry → IsInterfaceOf m d i
-interface-made m bounds f d at i identifier parameters entry =
+    → i.is_entry ≡ d.is_entry → i.is_public ≡ is_public d → IsInterfaceOf m d i
+interface-made m bounds f d at i identifier parameters entry visible =
     let p = defined-parts m bounds f d at in
     record {
       identifier = p.identifier_is ∙ ap Some (sym (identifier ∙ ap (λ o. unwrap_or o []) p.identifier_is));
       parameters = p.tokens_are ∙ ap Some (sym (parameters ∙ ap (λ o. unwrap_or o []) p.tokens_are));
       entry = sym entry;
+      is_open = sym visible;
     }
 
 -- the interfaces of these definitions find what the definitions do
@@ -58,7 +60,7 @@ found-by m name (d ∷ ds) (i ∷ is) len are =
     (sym (ap (λ o. option_map_or (bytes_eq name) o false) (are 0 d i refl refl).identifier))
     (found-by m name ds is (omega (arith, len)) (λ k d i at at2. are (suc k) d i at at2))
 
-place-by : (m : Module) (interfaces : List Interface) (name : List ℕ) → AreInterfacesOf m interfaces
+pub place-by : (m : Module) (interfaces : List Interface) (name : List ℕ) → AreInterfacesOf m interfaces
     → find_index (λ (i : Interface). bytes_eq name i.identifier.items) interfaces ≡ function_place m name
 place-by m interfaces name are = found-by m name m.functions interfaces are.len are.each
 

@@ -1,11 +1,11 @@
-use Rattle.mv_linker.proofs.Common.{ℕ, ◌∙◌, DependenciesAt, Global, Vec, ap, length, rules}
+use Rattle.mv_linker.proofs.Common.{ℕ, ◌∙◌, Dependencies, DependenciesAt, ap, length, rules}
 use Rattle.std.proofs.lemmas.Iterator.{YieldsList-from_map, YieldsList-from_slice, YieldsList-from_zip, items_from_collect}
 use Rattle.std.proofs.lemmas.Iterator.Adapters.{YieldsList-from_vec}
 use Rattle.std.proofs.lemmas.Iterator.Consumers.{YieldsList-at}
 use Rattle.mv_linker.proofs.dependencies.placed.Goals as goal
 
-abbrev made : ℕ × Vec ℕ Global → DependenciesAt
-made p = record { place = p.0; dependencies = record { places = p.1 } }
+abbrev made : ℕ × Dependencies → DependenciesAt
+made p = record { place = p.0; dependencies = p.1 }
 
 pub returns : goal.returns
 returns c =

@@ -1,4 +1,4 @@
-use Rattle.mv_linker.proofs.Common.{[], ◌++◌, ◌+◌, ◌∙◌, ◌∷◌, ◌≡◌, FunctionDefinition, Interface, IsInterfaceOf, Some, ap, arith, inl, inr, length, length-append, refl, same_Some}
+use Rattle.mv_linker.proofs.Common.{[], ◌++◌, ◌+◌, ◌∙◌, ◌∷◌, ◌≡◌, FunctionDefinition, Interface, IsInterfaceOf, Some, ap, arith, inl, inr, leb-true, length, length-append, refl, same_Some}
 use Rattle.mv_linker.proofs.Common.{slice_get, slice_get_read, subst, sym}
 use Rattle.mv_linker.proofs.Kept.InterfaceLemmas.{interface-made}
 use Rattle.mv_linker.proofs.interfaces.interfaces_of.Goals as goal
@@ -21,13 +21,20 @@ loop-d-preserved c =
         | inr last ↦
             let same : c.d-item.result ≡ d = same_Some c.d-item.result d (sym here ∙ ap (slice_get m.functions) (sym c.loop-d.invariant.count ∙ sym last.0) ∙ at) in
             let one : IsInterfaceOf m c.d-item.result made =
-            interface-made m bounds c.loop-d.d-index c.d-item.result here made c.in_ok-interface_of.ensures.identifier c.in_ok-interface_of.ensures.parameters c.in_ok-interface_of.ensures.entry in
+            interface-made m bounds c.loop-d.d-index c.d-item.result here made c.in_ok-interface_of.ensures.identifier c.in_ok-interface_of.ensures.parameters c.in_ok-interface_of.ensures.entry c.in_ok-interface_of.ensures.visible in
             subst (λ (x : Interface). IsInterfaceOf m d x) last.1 (subst (λ (x : FunctionDefinition). IsInterfaceOf m x made) same one)
       ];
     }
 
-pub returns : goal.returns
-returns c = λ bounds.
+pub returns-clause-interfaces : goal.returns-clause-interfaces
+returns-clause-interfaces c = λ bounds.
     let count : length c.functions-functions.result.now ≡ length c.args.m.now.functions = ap length c.functions-functions.ensures.value in
     let low = c.loop-d.auto.d-index-end in
     record { len = omega (arith, c.loop-d.invariant.count, c.loop-d-test.false, count, low); each = c.loop-d.invariant.each bounds }
+
+pub returns-clause-few : goal.returns-clause-few
+returns-clause-few c =
+    let few = leb-true (length c.args.m.now.functions) 256 c.functions-functions.ensures.few in
+    let count : length c.functions-functions.result.now ≡ length c.args.m.now.functions = ap length c.functions-functions.ensures.value in
+    let low = c.loop-d.auto.d-index-end in
+    omega (arith, c.loop-d.invariant.count, count, low, few)

@@ -81,8 +81,9 @@ returns-clause-ok c =
       links = subst Links (sym (scope-tables c.args.s.now c.args.new.now)) (rw (c.in_ok-scope.ensures.store, c.in_ok-scope.ensures.new) at links);
     }) c.links.ensures.ok
 
-pub returns-clause-linked : goal.returns-clause-linked
-returns-clause-linked c = rw (scope-tables c.args.s.now c.args.new.now) (rw (c.in_ok-scope.ensures.store, c.in_ok-scope.ensures.new) at c.links.ensures.codes)
+pub returns-clause-lowered : goal.returns-clause-lowered
+returns-clause-lowered c =
+    rw (scope-tables c.args.s.now c.args.new.now, offered-tables c.args.new.now) (rw (c.in_ok-scope.ensures.store, c.in_ok-scope.ensures.new) at c.links.ensures.lowered)
 
 pub returns-clause-dependencies : goal.returns-clause-dependencies
 returns-clause-dependencies c =

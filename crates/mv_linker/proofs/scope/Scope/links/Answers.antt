@@ -23,10 +23,10 @@ all-linked c =
     let j = fitting s c.requires.fits in
     links-all (tables_in s.store.now) (offered s.new.now) j c.requires.fits.store.links (record { named = c.in_ok-names.ensures.ok; ordered = c.in_ok-is_ordered.ensures.0 c.if-not-branch.false; small = c.in_ok-sizes.ensures.small })
 
-pub codes-requires-clause-joins : goal.codes-requires-clause-joins
-codes-requires-clause-joins c = record {
+pub lowered-requires-clause-joins : goal.lowered-requires-clause-joins
+lowered-requires-clause-joins c = record {
   fits = c.requires.fits;
-  links = all-linked (goal.at.codes-requires-clause-joins c).In_ok-sizes;
+  links = all-linked (goal.at.lowered-requires-clause-joins c).In_ok-sizes;
 }
 
 pub returns-clause-ok : goal.returns-clause-ok

@@ -1,0 +1,204 @@
+-- Words and the places in them.
+use Rattle.std.proofs.Common.{◌≡◌, ◌↔◌, ◌⊎◌, ℕ, zero, suc, ◌+◌, ◌-◌, ◌*◌, ◌^◌, ◌<◌, ◌≤◌, ◌∙◌, ◌==◌, true, false, List, [], ◌∷◌, ◌++◌, cond, length, refl, sym, ap, ap₂, arith, subst, get_or, inl, inr, leb, take, bit_and, bit_or, w64}
+use Rattle.std.specs.Prelude.{◌/◌, ◌%◌, ◌||◌, Contains, slice_set, min}
+use Rattle.std.specs.Int.{bit_at, bit_not, trailing_zeros}
+use Rattle.std.proofs.lemmas.Nat.Bits.{bit_at_set_same, bit_at_set_other, bit_at_and, bit_at_not, bit_at_ones, bit_at_ones_above, bit_at-lt, bit_at-trailing_zeros, bit_at-zero}
+use Rattle.std.proofs.Math.Nat.{mod-eq_of_lt}
+use Rattle.std.proofs.Math.Pow.{pow-lt}
+use Rattle.std.proofs.lemmas.Bool.{cases_eq, cases_lt, eq-eqb, ne_eqb, eqb-true, both_ways, lt-leb, le-leb, or_cases, or_left, or_right}
+use Rattle.std.proofs.lemmas.List.{take_all, take_more}
+use Rattle.std.proofs.lemmas.List.Elements.{Contains-append_left, Contains-push, Contains-push_cases}
+use Rattle.mv_linker.specs.Places.{has, AreBitsWithin, IsBitFrom, IsBitOutside, IsOutside}
+
+-- one word more, with no place
+get-zero : (ws : List ℕ) (i : ℕ) → get_or (ws ++ 0 ∷ []) i 0 ≡ get_or ws i 0
+get-zero [] zero = refl
+get-zero [] (suc i) = refl
+get-zero (w ∷ ws) zero = refl
+get-zero (w ∷ ws) (suc i) = get-zero ws i
+
+pub has-zero : (ws more : List ℕ) → more ≡ ws ++ 0 ∷ [] → (p : ℕ) → has more p ≡ has ws p
+has-zero ws more e p = ap (λ l. has l p) e ∙ ap (λ w. bit_at w (p % 64) == 1) (get-zero ws (p / 64))
+
+-- a word is put
+set-same : (ws : List ℕ) (i w : ℕ) → i < length ws → get_or (slice_set ws i w) i 0 ≡ w
+set-same [] i w h = absurd (omega (arith, h))
+set-same (x ∷ ws) zero w h = refl
+set-same (x ∷ ws) (suc i) w h = set-same ws i w (omega (arith, h))
+
+set-other : (ws : List ℕ) (i j w : ℕ) → (j ≡ i → ⊥) → get_or (slice_set ws i w) j 0 ≡ get_or ws j 0
+set-other [] i j w other = refl
+set-other (x ∷ ws) zero zero w other = absurd (other refl)
+set-other (x ∷ ws) zero (suc j) w other = refl
+set-other (x ∷ ws) (suc i) zero w other = refl
+set-other (x ∷ ws) (suc i) (suc j) w other = set-other ws i j w (λ e. other (ap suc e))
+
+-- a place is its word and its bit
+one-place : (p q : ℕ) → p / 64 ≡ q / 64 → p % 64 ≡ q % 64 → p ≡ q
+one-place p q d r = omega (arith, d, r)
+
+-- the words with a place
+pub has-put : (ws : List ℕ) (place : ℕ) → place / 64 < length ws → (p : ℕ)
+    → has (slice_set ws (place / 64) (bit_or (get_or ws (place / 64) 0) (1 * 2 ^ (place % 64) % 2 ^ 64))) p ≡ (p == place || has ws p)
+has-put ws place h p = elim (cases_eq (p / 64) (place / 64)) [
+  | inl word ↦
+      let here : get_or (slice_set ws (place / 64) (bit_or (get_or ws (place / 64) 0) (1 * 2 ^ (place % 64) % 2 ^ 64))) (p / 64) 0 ≡ bit_or (get_or ws (place / 64) 0) (1 * 2 ^ (place % 64) % 2 ^ 64) =
+      ap (λ k. get_or (slice_set ws (place / 64) (bit_or (get_or ws (place / 64) 0) (1 * 2 ^ (place % 64) % 2 ^ 64))) k 0) word ∙ set-same ws (place / 64) _ h in
+      elim (cases_eq (p % 64) (place % 64)) [
+        | inl bit ↦
+            let same : p ≡ place = one-place p place word bit in
+            ap (λ w. bit_at w (p % 64) == 1) here
+            ∙ ap (λ b. bit_at (bit_or (get_or ws (place / 64) 0) (1 * 2 ^ (place % 64) % 2 ^ 64)) b == 1) bit
+            ∙ ap (λ n. n == 1) (bit_at_set_same w64 (get_or ws (place / 64) 0) (place % 64) (omega arith))
+            ∙ sym (ap (λ b. b || has ws p) (eq-eqb p place same))
+        | inr apart ↦
+            let differ : (p ≡ place → ⊥) = λ e. apart (ap (λ n. n % 64) e) in
+            ap (λ w. bit_at w (p % 64) == 1) here
+            ∙ ap (λ n. n == 1) (bit_at_set_other w64 (get_or ws (place / 64) 0) (place % 64) (omega arith) (p % 64) apart)
+            ∙ ap (λ k. bit_at (get_or ws k 0) (p % 64) == 1) (sym word)
+            ∙ sym (ap (λ b. b || has ws p) (ne_eqb p place differ))
+      ]
+  | inr apart ↦
+      let differ : (p ≡ place → ⊥) = λ e. apart (ap (λ n. n / 64) e) in
+      ap (λ w. bit_at w (p % 64) == 1) (set-other ws (place / 64) (p / 64) _ apart) ∙ sym (ap (λ b. b || has ws p) (ne_eqb p place differ))
+]
+
+-- ---- what one word has and another one hasn't
+
+left-bit : (x y : ℕ) → x < 2 → y < 2 → min x (1 - y) ≡ 1 → (x ≡ 1) × (y ≡ 0)
+left-bit zero y h g e = absurd (omega (arith, e))
+left-bit (suc zero) zero h g e = (refl, refl)
+left-bit (suc zero) (suc zero) h g e = absurd (omega (arith, e))
+left-bit (suc zero) (suc (suc y)) h g e = absurd (omega (arith, g))
+left-bit (suc (suc x)) y h g e = absurd (omega (arith, h))
+
+-- a bit that one word has and another one hasn't
+pub outside-bit : (a b i : ℕ) → b < 2 ^ 64 → i < 64 → bit_at (bit_and a (bit_not w64 b)) i ≡ 1 → (bit_at a i ≡ 1) × (bit_at b i ≡ 0)
+outside-bit a b i fits low e =
+    left-bit (bit_at a i) (bit_at b i) (bit_at-lt a i) (bit_at-lt b i) (sym (bit_at_and a (bit_not w64 b) i ∙ ap (min (bit_at a i)) (bit_at_not w64 b i fits low)) ∙ e)
+
+inside-bit : (x y : ℕ) → x < 2 → y < 2 → min x (1 - y) ≡ 0 → x ≡ 1 → y ≡ 1
+inside-bit x zero h g e is = absurd (omega (arith, e, is))
+inside-bit x (suc zero) h g e is = refl
+inside-bit x (suc (suc y)) h g e is = absurd (omega (arith, g))
+
+pub within-bit : (a b i : ℕ) → b < 2 ^ 64 → i < 64 → bit_and a (bit_not w64 b) ≡ 0 → bit_at a i ≡ 1 → bit_at b i ≡ 1
+within-bit a b i fits low e is =
+    inside-bit (bit_at a i) (bit_at b i) (bit_at-lt a i) (bit_at-lt b i)
+    (sym (bit_at_and a (bit_not w64 b) i ∙ ap (min (bit_at a i)) (bit_at_not w64 b i fits low)) ∙ ap (λ n. bit_at n i) e ∙ bit_at-zero i) is
+
+-- ---- what one set has and another one hasn't
+
+pub first-left : (word others : ℕ) → word < 2 ^ 64 → others < 2 ^ 64 → (bit_and word (bit_not w64 others) ≡ 0 → ⊥) → bit_and word (bit_not w64 others) < 2 ^ 64
+    → IsBitOutside word others (trailing_zeros w64 (bit_and word (bit_not w64 others)))
+first-left word others fits small some left_fits =
+    let left = bit_and word (bit_not w64 others) in
+    let t = bit_at-trailing_zeros w64 left (omega (arith, some)) left_fits in
+    let b = outside-bit word others (trailing_zeros w64 left) small t.0 t.1 in
+    record { low = t.0; is = b.0; is_not = b.1 }
+
+pub bits-within : (word others : ℕ) → others < 2 ^ 64 → bit_and word (bit_not w64 others) ≡ 0 → AreBitsWithin word others
+bits-within word others small none bit low is = within-bit word others bit small low none is
+
+pub is-outside : (words others : List ℕ) (from i word bit : ℕ) → ((b : ℕ) → b < 64 → (bit_at word b ≡ 1) ↔ IsBitFrom words i from b) → IsBitOutside word (get_or others i 0) bit
+    → IsOutside from words others (64 * i + bit)
+is-outside words others from i word bit part b =
+    let index : (64 * i + bit) / 64 ≡ i = omega (arith, b.low) in
+    let place : (64 * i + bit) % 64 ≡ bit = omega (arith, b.low) in
+    let there = (part bit b.low).0 b.is in
+    record {
+      high = there.high;
+      is = ap₂ (λ j k. bit_at (get_or words j 0) k == 1) index place ∙ ap (λ n. n == 1) there.is;
+      is_not = ap₂ (λ j k. bit_at (get_or others j 0) k == 1) index place ∙ ap (λ n. n == 1) b.is_not;
+    }
+
+-- the places of the words before one are in another set
+abbrev pub AreWithin : ℕ → List ℕ → List ℕ → ℕ → Type 0
+AreWithin from words others i = (p : ℕ) → p / 64 < i → from ≤ p → has words p ≡ true → has others p ≡ true
+
+pub none-yet : (words others : List ℕ) (from : ℕ) → AreWithin from words others (from / 64)
+none-yet words others from p low high is = absurd (omega (arith, low, high))
+
+pub within-more : (words others : List ℕ) (from i word : ℕ) → AreWithin from words others i → ((b : ℕ) → b < 64 → (bit_at word b ≡ 1) ↔ IsBitFrom words i from b)
+    → AreBitsWithin word (get_or others i 0) → AreWithin from words others (i + 1)
+within-more words others from i word before part here p low high is = elim (cases_eq (p / 64) i) [
+  | inl same ↦
+      let bit : bit_at (get_or words i 0) (p % 64) ≡ 1 = ap (λ j. bit_at (get_or words j 0) (p % 64)) (sym same) ∙ eqb-true (bit_at (get_or words (p / 64) 0) (p % 64)) 1 is in
+      let above : from ≤ 64 * i + p % 64 = omega (arith, high, same) in
+      let set = (part (p % 64) (omega arith)).1 (record { high = above; is = bit }) in
+      ap (λ j. bit_at (get_or others j 0) (p % 64) == 1) same ∙ ap (λ n. n == 1) (here (p % 64) (omega arith) set)
+  | inr other ↦ before p (omega (arith, low, other)) high is
+]
+
+-- ---- the part of a word from a bit on
+
+-- the mask of the bits from one on
+mask-bit : (k i : ℕ) → k < 64 → i < 64 → bit_at (bit_not w64 (1 * 2 ^ k % 2 ^ 64 - 1)) i ≡ cond (leb k i) 1 0
+mask-bit k i low here =
+    let power : 1 * 2 ^ k % 2 ^ 64 ≡ 2 ^ k = ap (λ n. n % 2 ^ 64) (times-one (2 ^ k)) ∙ mod-eq_of_lt (pow-lt low) in
+    let fits : 2 ^ k - 1 < 2 ^ 64 = (let small = pow-lt low in omega (arith, small)) in
+    ap (λ n. bit_at (bit_not w64 (n - 1)) i) power ∙ bit_at_not w64 (2 ^ k - 1) i fits here ∙ by_order (cases_lt i k)
+  where
+    times-one : (n : ℕ) → 1 * n ≡ n
+    times-one n = omega arith
+
+    by_order : (i < k) ⊎ (k ≤ i) → 1 - bit_at (2 ^ k - 1) i ≡ cond (leb k i) 1 0
+    by_order (inl below) = rw (bit_at_ones k i below, lt-leb k i below) refl
+    by_order (inr above) = rw (bit_at_ones_above k i above, le-leb k i above) refl
+
+both-bits : (x y : ℕ) → x < 2 → y < 2 → min x y ≡ 1 → (x ≡ 1) × (y ≡ 1)
+both-bits x zero h g e = absurd (omega (arith, e))
+both-bits zero (suc y) h g e = absurd (omega (arith, e))
+both-bits (suc zero) (suc zero) h g e = (refl, refl)
+both-bits (suc zero) (suc (suc y)) h g e = absurd (omega (arith, g))
+both-bits (suc (suc x)) (suc y) h g e = absurd (omega (arith, h))
+
+-- the part has the bits of the word from one on
+pub part-bit : (words : List ℕ) (from i word bit : ℕ) → word ≡ get_or words i 0 → i ≡ from / 64 → bit < 64
+    → (bit_at (bit_and word (bit_not w64 (1 * 2 ^ (from % 64) % 2 ^ 64 - 1))) bit ≡ 1) ↔ IsBitFrom words i from bit
+part-bit words from i word bit is at low = (
+  λ e.
+      let mask = bit_not w64 (1 * 2 ^ (from % 64) % 2 ^ 64 - 1) in
+      let b = both-bits (bit_at word bit) (bit_at mask bit) (bit_at-lt word bit) (bit_at-lt mask bit) (sym (bit_at_and word mask bit) ∙ e) in
+      let above : from % 64 ≤ bit = elim (cases_lt bit (from % 64)) [
+        | inl below ↦ absurd (let no : bit_at mask bit ≡ 0 = mask-bit (from % 64) bit (omega arith) low ∙ ap (λ b. cond b 1 0) (lt-leb (from % 64) bit below) in omega (arith, no, b.1))
+        | inr above ↦ above
+      ] in
+      record { high = omega (arith, above, at); is = ap (λ w. bit_at w bit) (sym is) ∙ b.0 },
+  λ b.
+      let mask = bit_not w64 (1 * 2 ^ (from % 64) % 2 ^ 64 - 1) in
+      let above : from % 64 ≤ bit = (let high = b.high in omega (arith, high, at)) in
+      bit_at_and word mask bit ∙ ap₂ min (ap (λ w. bit_at w bit) is ∙ b.is) (mask-bit (from % 64) bit (omega arith) low ∙ ap (λ b. cond b 1 0) (le-leb (from % 64) bit above)),
+)
+
+-- after its first word all of a word's bits are
+pub whole-bit : (words : List ℕ) (from i word bit : ℕ) → word ≡ get_or words i 0 → from / 64 ≤ i → (i ≡ from / 64 → ⊥) → (bit_at word bit ≡ 1) ↔ IsBitFrom words i from bit
+whole-bit words from i word bit is low other = (
+  λ e. record { high = omega (arith, low, other); is = ap (λ w. bit_at w bit) (sym is) ∙ e },
+  λ b. ap (λ w. bit_at w bit) is ∙ b.is,
+)
+
+-- ---- the set of some places
+
+-- it has the first of them
+abbrev pub HasFirst : List ℕ → List ℕ → ℕ → Type 0
+HasFirst words places i = (p : ℕ) → (has words p ≡ true) ↔ Contains (take i places) p
+
+pub has-none : (words places : List ℕ) → ((p : ℕ) → has words p ≡ false) → HasFirst words places 0
+has-none words places none p = (λ is. absurd (both_ways (has words p) (none p) is), λ there. absurd (omega (arith, there.1)))
+
+pub has-more : (words more places : List ℕ) (i place : ℕ) → HasFirst words places i → i < length places → place ≡ get_or places i 0
+    → ((p : ℕ) → has more p ≡ (p == place || has words p)) → HasFirst more places (i + 1)
+has-more words more places i place first low at put p = (
+  λ is. rw (take_more places i 0 low) (elim (or_cases (p == place) (has words p) (sym (put p) ∙ is)) [
+    | inl here ↦ subst (λ q. Contains (take i places ++ get_or places i 0 ∷ []) q) (sym at ∙ sym (eqb-true p place here)) (Contains-push (take i places) (get_or places i 0))
+    | inr before ↦ Contains-append_left (take i places) (get_or places i 0 ∷ []) p ((first p).0 before)
+  ]),
+  λ there. put p ∙ elim (Contains-push_cases (take i places) (get_or places i 0) p (rw (take_more places i 0 low) at there)) [
+    | inl before ↦ or_right (p == place) (has words p) ((first p).1 before)
+    | inr here ↦ or_left (p == place) (has words p) (eq-eqb p place (sym here ∙ sym at))
+  ],
+)
+
+pub has-all : (words places : List ℕ) (i : ℕ) → HasFirst words places i → length places ≤ i → (p : ℕ) → (has words p ≡ true) ↔ Contains places p
+has-all words places i first done p = subst (λ l. (has words p ≡ true) ↔ Contains l p) (take_all i places done) (first p)
