@@ -4,6 +4,7 @@ pub mod Lengths
 pub mod Whole
 pub mod Unfinished
 pub mod Steps
+pub mod Onward
 pub mod One
 pub mod OneRequest
 pub mod OneRefusal

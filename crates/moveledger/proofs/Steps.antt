@@ -17,11 +17,11 @@ use Rattle.moveledger.proofs.Unfinished.{NoWhole-cut, some-cut}
 
 -- one more record after others
 
-AreRecords-push : (rs : List Record) (xs rest more : List ℕ) (r : Record) → AreRecords xs rs rest → Begins rest r more → AreRecords xs (rs ++ r ∷ []) more
+pub AreRecords-push : (rs : List Record) (xs rest more : List ℕ) (r : Record) → AreRecords xs rs rest → Begins rest r more → AreRecords xs (rs ++ r ∷ []) more
 AreRecords-push [] xs rest more r e b = (more, subst (λ z. Begins z r more) (sym e) b, refl)
 AreRecords-push (r1 ∷ rs) xs rest more r h b = (h.0, h.1, AreRecords-push rs h.0 rest more r h.2 b)
 
-Reports-push : (rs : List Record) (n : ℕ) (old mid new : LedgerView) (r : Record) (text : List ℕ) (lines : List (List ℕ)) → Reports n old rs text mid → Step mid r lines new
+pub Reports-push : (rs : List Record) (n : ℕ) (old mid new : LedgerView) (r : Record) (text : List ℕ) (lines : List (List ℕ)) → Reports n old rs text mid → Step mid r lines new
     → Reports n old (rs ++ r ∷ []) (text ++ flat_map (numbered (n + length rs)) lines) new
 Reports-push [] n old mid new r text lines h step =
     let same : n + 0 ≡ n = omega arith in
@@ -33,12 +33,12 @@ Reports-push (r1 ∷ rs) n old mid new r text lines h step =
     let first : List ℕ = flat_map (numbered n) h.0 in
     (h.0, h.1, h.2 ++ tail, h.3, ap (λ m. text ++ flat_map (numbered m) lines) same ∙ ap (λ l. l ++ tail) h.4 ∙ append_assoc first h.2 tail, Reports-push rs (n + 1) h.1 mid new r h.2 lines h.5 step)
 
-length-push : (rs : List Record) (r : Record) → length (rs ++ r ∷ []) ≡ length rs + 1
+pub length-push : (rs : List Record) (r : Record) → length (rs ++ r ∷ []) ≡ length rs + 1
 length-push rs r = length-append rs (r ∷ [])
 
 -- what is told
 
-Tells-trans : (a b : Option (List ℕ)) (took tail : List ℕ) → Consumes a b took → Tells b tail → Tells a (took ++ tail)
+pub Tells-trans : (a b : Option (List ℕ)) (took tail : List ℕ) → Consumes a b took → Tells b tail → Tells a (took ++ tail)
 Tells-trans None b took tail p q = tt
 Tells-trans (Some xs) None took tail p q = absurd p
 Tells-trans (Some xs) (Some ys) took tail p q = p ∙ ap (λ l. took ++ l) q
@@ -47,7 +47,7 @@ Tells-left : (a : Option (List ℕ)) → Tells a (left_of a)
 Tells-left None = tt
 Tells-left (Some xs) = refl
 
-nonempty : (xs ys : List ℕ) → (xs ≢ []) → xs ++ ys ≢ []
+pub nonempty : (xs ys : List ℕ) → (xs ≢ []) → xs ++ ys ≢ []
 nonempty [] ys h e = h refl
 nonempty (x ∷ xs) ys h e = cc
 

@@ -14,3 +14,4 @@ pub mod Checking
 pub mod Proving
 pub mod Printing
 pub mod Authoring
+pub mod Continuing

@@ -40,20 +40,23 @@ pub enum LineError {
     Memory,
 }
 
-/// A name that has to be given.
-fn name_arg<'a>(alloc: Global, name: &'a str) -> Arg<'a>
+/// A name that has to be given, and what help says of it.
+fn name_arg<'a>(alloc: Global, name: &'a str, help: &'a str) -> Arg<'a>
     ensures rule { rule_of result ≡ name_of name.entry.now }
     ensures local { result.global ≡ false }
 {
-    Arg::new(alloc, name).required(true)
+    Arg::new(alloc, name).required(true).help(help)
 }
 
-/// An option that may be given, with the name of a file.
-fn path_option<'a>(alloc: Global, name: &'a str) -> Arg<'a>
+/// An option that may be given, with the name of a file, and what help says of it.
+fn path_option<'a>(alloc: Global, name: &'a str, help: &'a str) -> Arg<'a>
     ensures rule { rule_of result ≡ path_option name.entry.now }
     ensures local { result.global ≡ false }
 {
-    Arg::new(alloc, name).long(name).value_name("PATH")
+    Arg::new(alloc, name)
+        .long(name)
+        .value_name("PATH")
+        .help(help)
 }
 
 /// `apply [--load PATH] [--save PATH] FILE`.
@@ -62,9 +65,21 @@ fn apply_command<'a>(alloc: Global) -> Result<Command<'a>, AllocError>
     ensures local { IfOk result (λ c. (out-Command c).has_globals ≡ false) }
 {
     Command::new(alloc, "apply")
-        .arg(path_option(alloc, "load"))?
-        .arg(path_option(alloc, "save"))?
-        .arg(name_arg(alloc, "FILE"))
+        .about("Answer the records of a stream, and print the report")
+        .after_help(
+            "Example: moveledger apply --load coins.ledger --save coins.ledger today.stream",
+        )
+        .arg(path_option(
+            alloc,
+            "load",
+            "Begin with the ledger that is saved in this file, and not with an empty one",
+        ))?
+        .arg(path_option(
+            alloc,
+            "save",
+            "Save the ledger in this file once the input is answered to its end",
+        ))?
+        .arg(name_arg(alloc, "FILE", "The stream of records; - is standard input"))
 }
 
 /// `migrate OLD NEW`.
@@ -73,8 +88,14 @@ fn migrate_command<'a>(alloc: Global) -> Result<Command<'a>, AllocError>
     ensures local { IfOk result (λ c. (out-Command c).has_globals ≡ false) }
 {
     Command::new(alloc, "migrate")
-        .arg(name_arg(alloc, "OLD"))?
-        .arg(name_arg(alloc, "NEW"))
+        .about("Convert a saved ledger to the current form")
+        .after_help("Example: moveledger migrate old.ledger new.ledger")
+        .arg(name_arg(alloc, "OLD", "A saved ledger of either form"))?
+        .arg(name_arg(
+            alloc,
+            "NEW",
+            "The file that is replaced by it, or made; it may be OLD",
+        ))
 }
 
 /// `prove MODULE`.
@@ -82,7 +103,14 @@ fn prove_command<'a>(alloc: Global) -> Result<Command<'a>, AllocError>
     ensures app { IfOk result (λ c. app_of c ≡ prove) }
     ensures local { IfOk result (λ c. (out-Command c).has_globals ≡ false) }
 {
-    Command::new(alloc, "prove").arg(name_arg(alloc, "MODULE"))
+    Command::new(alloc, "prove")
+        .about("Print a certificate for a module, in hexadecimal, or why there is none")
+        .after_help("Example: moveledger prove coin.module > coin.certificate")
+        .arg(name_arg(
+            alloc,
+            "MODULE",
+            "The bytes of a module; - is standard input",
+        ))
 }
 
 /// `check MODULE CERT`.
@@ -91,8 +119,18 @@ fn check_command<'a>(alloc: Global) -> Result<Command<'a>, AllocError>
     ensures local { IfOk result (λ c. (out-Command c).has_globals ≡ false) }
 {
     Command::new(alloc, "check")
-        .arg(name_arg(alloc, "MODULE"))?
-        .arg(name_arg(alloc, "CERT"))
+        .about("Print `accepted` if a module passes with a certificate, or why not")
+        .after_help("Example: moveledger check coin.module coin.certificate")
+        .arg(name_arg(
+            alloc,
+            "MODULE",
+            "The bytes of a module; - is standard input",
+        ))?
+        .arg(name_arg(
+            alloc,
+            "CERT",
+            "The text of its certificate, as prove prints it",
+        ))
 }
 
 /// The program, with the commands over ledgers.
@@ -101,6 +139,11 @@ fn ledger_commands<'a>(alloc: Global) -> Result<Command<'a>, AllocError>
     ensures local { IfOk result (λ c. (out-Command c).has_globals ≡ false) }
 {
     Command::new(alloc, "moveledger")
+        .about("A proved bytecode verifier for Move with a ledger of resources")
+        .after_help(
+            "Exit status: 0 done; 1 a fault, which standard error names; 2 the command line isn't understood, or \
+             asks for help; 3 a module, a certificate or a saved ledger is refused, or a module is too complex.",
+        )
         .subcommand_required(true)
         .subcommand(apply_command(alloc)?)?
         .subcommand(migrate_command(alloc)?)

@@ -17,6 +17,7 @@ mod answering;
 mod authoring;
 mod checking;
 pub mod command;
+mod continuing;
 pub mod engine;
 mod inputs;
 mod keeping;
@@ -31,6 +32,7 @@ pub mod status;
 
 pub use authoring::{check_module, prove_module};
 pub use checking::check_text;
+pub use continuing::answer_on;
 pub use keeping::keep;
 pub use pacing::{AfterRecord, Gathering, Prompt};
 pub use proving::prove_text;

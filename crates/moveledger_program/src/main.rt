@@ -9,10 +9,12 @@
 //! ```
 #![tactic(auto)]
 
+mod kinds;
 mod meter;
 mod program;
 #[cfg(test)]
 mod tests;
+mod told;
 
 use std::process::ExitCode;
 

@@ -23,6 +23,11 @@ impl<R: Read> Counted<R> {
     {
         Counted { inner, bytes: 0 }
     }
+
+    /// How many bytes it has given.
+    pub fn given(&self) -> u64 {
+        self.bytes
+    }
 }
 
 impl<R: Read> Read for Counted<R> {
@@ -32,6 +37,39 @@ impl<R: Read> Read for Counted<R> {
         let n = self.inner.read(buf)?;
         self.bytes = self.bytes.saturating_add(n as u64);
         Ok(n)
+    }
+}
+
+/// What is done after each record, and how many bytes had been read when the last one was answered: where more was read, the
+/// input ended within a record.
+#[derive(Drop)]
+pub struct Whole<A> {
+    inner: A,
+    bytes: u64,
+}
+
+impl<A> Whole<A> {
+    /// No record is answered yet.
+    pub fn new(inner: A) -> Self {
+        Whole { inner, bytes: 0 }
+    }
+
+    /// How many bytes the records take that were answered.
+    pub fn answered_bytes(&self) -> u64 {
+        self.bytes
+    }
+}
+
+impl<R: Read, W: Write, A: AfterRecord<Counted<R>, W>> AfterRecord<Counted<R>, W> for Whole<A> {
+    fn answered(
+        &mut self,
+        number: u64,
+        reader: &Counted<R>,
+        writer: &mut W,
+    ) -> Result<(), EngineError> {
+        self.inner.answered(number, reader, writer)?;
+        self.bytes = reader.bytes;
+        Ok(())
     }
 }
 

@@ -2,38 +2,50 @@
 ghost use Rattle.std.specs.Prelude.{◌≡◌, ◌+◌, ◌-◌, ◌^◌, IfOk, IfSome, None, min, unwrap_or};
 ghost use Rattle.std.specs.Fs.{file_type, metadata_len, IsFile};
 
-use crate::meter::{Counted, Meter, Report, Screen};
+use crate::kinds::{FRONT, Kind, kind_of};
+use crate::meter::{Counted, Meter, Report, Screen, Whole};
+use crate::told::Told;
 use moveledger::command::{LineError, Task, command, not_text};
 use moveledger::status::{End, end_of_words, ended};
 use moveledger::{
-    Gathering, Prompt, check_module, end_of_text, keep, loaded, migrated, prove_module, report,
-    text_to_keep,
+    AfterRecord, Gathering, Prompt, check_module, end_of_text, keep, loaded, migrated,
+    prove_module, report, text_to_keep,
 };
 use mv_ledger::Ledger;
-use std::fs::{self, File, Metadata};
+use std::fs::{self, File, Metadata, OpenOptions};
 use std::io::{self, BufReader, BufWriter, ErrorKind, IsTerminal, Read, Write};
 use std::{env, mem};
 
-/// Runs the program, and gives the status that it ends with. A fault has its line on standard error.
+/// Runs the program, and gives the status that it ends with. A fault has its line on standard error, and behind it stands which
+/// file it was about, and why.
 pub fn run(rt: &HostRuntime) -> u8 {
-    let end = asked(rt);
-    ended(&mut rt.stderr(), &end)
+    let told = asked(rt);
+    let status = ended(&mut rt.stderr(), &told.end);
+    if let Some(why) = &told.why {
+        let _ = rt.eprint(why.as_str());
+    }
+    status
 }
 
 /// What the program calls itself, whatever the name of its file.
 const NAME: &str = "moveledger";
 
+/// What `--version` prints. CHANGELOG.md says what each version has.
+const VERSION: &str = "moveledger 1.0.0\n";
+
 /// Reads the command line, and does what it asks for.
-fn asked(rt: &HostRuntime) -> End {
+fn asked(rt: &HostRuntime) -> Told {
     let args = match env::args(rt) {
         Ok(args) => args,
-        Err(e) if e.kind() == ErrorKind::InvalidData => return refused(rt, not_text(rt.alloc())),
-        Err(_) => return End::Memory,
+        Err(e) if e.kind() == ErrorKind::InvalidData => {
+            return Told::plainly(refused(rt, not_text(rt.alloc())));
+        }
+        Err(_) => return Told::plainly(End::Memory),
     };
     let mut owned: Vec<String> = Vec::new(rt.alloc());
     for word in args {
         if owned.push(word).is_err() {
-            return End::Memory;
+            return Told::plainly(End::Memory);
         }
     }
     let mut words: Vec<&str> = Vec::new(rt.alloc());
@@ -44,15 +56,31 @@ fn asked(rt: &HostRuntime) -> End {
             word.as_str()
         };
         if words.push(said).is_err() {
-            return End::Memory;
+            return Told::plainly(End::Memory);
         }
     }
-    match command(rt.alloc(), words.as_slice()) {
+    done(rt, words.as_slice())
+}
+
+/// Does what words ask for.
+fn done(rt: &HostRuntime, words: &[&str]) -> Told {
+    if let [_, "--version"] = words {
+        return Told::plainly(version(rt));
+    }
+    match command(rt.alloc(), words) {
         Ok(Task::Apply { file, load, save }) => apply(rt, file, load, save),
         Ok(Task::Migrate(old, new)) => migrate(rt, old, new),
         Ok(Task::Prove(module)) => prove(rt, module),
         Ok(Task::Check(module, certificate)) => check(rt, module, certificate),
-        Err(error) => refused(rt, error),
+        Err(error) => Told::plainly(refused(rt, error)),
+    }
+}
+
+/// Prints the version.
+fn version(rt: &HostRuntime) -> End {
+    match rt.print(VERSION) {
+        Ok(()) => End::Done,
+        Err(_) => End::Write,
     }
 }
 
@@ -71,33 +99,136 @@ const STANDARD_INPUT: &str = "-";
 /// Where standard input is found by a name, to see what it is.
 const STANDARD_INPUT_FILE: &str = "/dev/stdin";
 
+/// What is said where a read failed that had begun.
+const NOT_READ: &str = "it can't be read to its end";
+
+/// What is said where a ledger can't be put into a file's place.
+const NOT_KEPT: &str = "the ledger can't be kept there";
+
+/// What is said where the report can't be written.
+const NOT_WRITTEN: &str = "it takes no more of the report";
+
+/// The name of standard output, for who reads of it.
+const STANDARD_OUTPUT: &str = "standard output";
+
+/// Opens a file to read it.
+fn open(rt: &HostRuntime, path: &str) -> Result<File, Told> {
+    match File::open(rt, path) {
+        Ok(file) => Ok(file),
+        Err(e) => Err(Told::of_file(rt.alloc(), End::Read, path, e)),
+    }
+}
+
+/// An end with the file that it is about, where a read or a write failed.
+fn told(rt: &HostRuntime, end: End, path: &str) -> Told {
+    match end {
+        End::Read => match why_not_read(rt, path) {
+            Some(why) => Told::of_file(rt.alloc(), end, path, why),
+            None => Told::of_file(rt.alloc(), end, path, NOT_READ),
+        },
+        End::Write => Told::of_file(rt.alloc(), end, STANDARD_OUTPUT, NOT_WRITTEN),
+        _ => Told::plainly(end),
+    }
+}
+
+/// Whether a name is that of a regular file or of a folder, which can be opened again: a pipe might wait for its other end.
+fn is_at_rest(rt: &HostRuntime, path: &str) -> bool {
+    match fs::metadata(rt, path) {
+        Ok(found) => found.is_file() || found.is_dir(),
+        Err(_) => false,
+    }
+}
+
+/// Why a file can't be read, if a read of it fails again.
+fn why_not_read(rt: &HostRuntime, path: &str) -> Option<io::Error> {
+    if path == STANDARD_INPUT || !is_at_rest(rt, path) {
+        return None;
+    }
+    let mut file = match File::open(rt, path) {
+        Ok(file) => file,
+        Err(e) => return Some(e),
+    };
+    let mut front = [0u8; 1];
+    file.read(&mut front).err()
+}
+
+/// An end with the file that a ledger was to be kept in, where that failed.
+fn told_of_keeping(rt: &HostRuntime, end: End, path: &str) -> Told {
+    match end {
+        End::Write => match why_not_kept(rt, path) {
+            Some(why) => Told::of_file(rt.alloc(), end, path, why),
+            None => Told::of_file(rt.alloc(), end, path, NOT_KEPT),
+        },
+        _ => Told::plainly(end),
+    }
+}
+
+/// Why a file can't be replaced, if its folder isn't there, or it can't be opened to be written to. Nothing of it changes.
+fn why_not_kept(rt: &HostRuntime, path: &str) -> Option<io::Error> {
+    if let Some((folder, _)) = path.rsplit_once('/') {
+        if !folder.is_empty() {
+            if let Err(e) = fs::metadata(rt, folder) {
+                return Some(e);
+            }
+        }
+    }
+    if !is_at_rest(rt, path) {
+        return None;
+    }
+    OpenOptions::new().write(true).open(rt, path).err()
+}
+
+/// What a regular file plainly is.
+fn kind_of_file(rt: &HostRuntime, path: &str) -> Option<Kind> {
+    regular_size(fs::metadata(rt, path))?;
+    let mut file = File::open(rt, path).ok()?;
+    let mut front = [0u8; FRONT];
+    let count = file.read(&mut front).ok()?;
+    kind_of(&front[..count])
+}
+
+/// An end with a word of advice, where a file is plainly of another kind than the one that is read.
+fn advised(rt: &HostRuntime, told: Told, path: &str, wanted: Kind) -> Told {
+    if told.why.is_some() {
+        return told;
+    }
+    match kind_of_file(rt, path) {
+        Some(found) if found != wanted => Told::of_file(rt.alloc(), told.end, path, found.advice()),
+        _ => told,
+    }
+}
+
 /// Answers the records of a file by a ledger that is kept in another, or by an empty one, and writes the report to standard
 /// output. Where that ends well, the ledger is put into the place of a file.
-fn apply(rt: &HostRuntime, path: &str, load: Option<&str>, save: Option<&str>) -> End {
+fn apply(rt: &HostRuntime, path: &str, load: Option<&str>, save: Option<&str>) -> Told {
     let begun = match load {
         None => Ok(Ledger::new(rt.alloc())),
         Some(kept) => load_file(rt, kept),
     };
     let mut ledger = match begun {
         Ok(ledger) => ledger,
-        Err(end) => return end,
+        Err(told) => return told,
     };
-    let mut end = apply_file(rt, path, &mut ledger);
-    if let Some(kept) = save {
-        end = save_file(rt, kept, end, &ledger);
+    let mut said = apply_file(rt, path, &mut ledger);
+    if let (End::Done, Some(kept)) = (said.end, save) {
+        let end = save_file(rt, kept, said.end, &ledger);
+        if end != End::Done {
+            said = told_of_keeping(rt, end, kept);
+        }
     }
     // The process ends, which gives back all memory at once: what the ledger holds isn't given back piece by piece before.
     mem::forget(ledger);
-    end
+    said
 }
 
-/// The ledger that a file keeps; else why it isn't loaded, which is printed.
-fn load_file(rt: &HostRuntime, path: &str) -> Result<Ledger, End> {
-    let Ok(file) = File::open(rt, path) else {
-        return Err(End::Read);
-    };
+/// The ledger that a file keeps; otherwise why it isn't loaded, which is printed.
+fn load_file(rt: &HostRuntime, path: &str) -> Result<Ledger, Told> {
+    let file = open(rt, path)?;
     let expected = expected_bytes(regular_size(file.metadata()));
-    loaded(rt.alloc(), file, expected, &mut io::writer(rt))
+    match loaded(rt.alloc(), file, expected, &mut io::writer(rt)) {
+        Ok(ledger) => Ok(ledger),
+        Err(end) => Err(advised(rt, told(rt, end, path), path, Kind::Ledger)),
+    }
 }
 
 /// Puts a ledger into the place of a file, if its records ended well.
@@ -106,13 +237,16 @@ fn save_file(rt: &HostRuntime, path: &str, end: End, ledger: &Ledger) -> End {
 }
 
 /// Puts the ledger that one file keeps, in the form of today, into the place of another.
-fn migrate(rt: &HostRuntime, old: &str, new: &str) -> End {
-    let Ok(file) = File::open(rt, old) else {
-        return End::Read;
+fn migrate(rt: &HostRuntime, old: &str, new: &str) -> Told {
+    let file = match open(rt, old) {
+        Ok(file) => file,
+        Err(told) => return told,
     };
     let expected = expected_bytes(regular_size(file.metadata()));
-    let text = migrated(rt.alloc(), file, expected, &mut io::writer(rt));
-    end_of_text(text, |text| keep(rt, new, text))
+    match migrated(rt.alloc(), file, expected, &mut io::writer(rt)) {
+        Ok(text) => told_of_keeping(rt, end_of_text(Ok(text), |text| keep(rt, new, text)), new),
+        Err(end) => advised(rt, told(rt, end, old), old, Kind::Ledger),
+    }
 }
 
 /// Room for a file's bytes, and for one more: a read of it then finds the end.
@@ -123,17 +257,40 @@ fn expected_bytes(size: Option<u64>) -> usize
     size.saturating_add(1)
 }
 
+/// What is said where the last record isn't whole.
+const CUT: &str =
+    "the last record isn't whole: the input ends within it, or it has no length that may be";
+
+/// What came of records: the end, and whether the last one was whole.
+#[derive(Drop)]
+struct Answered {
+    end: End,
+    is_whole: bool,
+}
+
 /// Answers the records of a file, and writes the report to standard output.
-fn apply_file(rt: &HostRuntime, path: &str, ledger: &mut Ledger) -> End {
+fn apply_file(rt: &HostRuntime, path: &str, ledger: &mut Ledger) -> Told {
     if path == STANDARD_INPUT {
         let size = regular_size(fs::metadata(rt, STANDARD_INPUT_FILE));
-        return apply_to(rt, rt.stdin(), size, ledger);
+        let answered = apply_to(rt, rt.stdin(), size, ledger);
+        return told_of_cut(rt, told(rt, answered.end, path), path, answered.is_whole);
     }
-    let Ok(file) = File::open(rt, path) else {
-        return End::Read;
+    let file = match open(rt, path) {
+        Ok(file) => file,
+        Err(told) => return told,
     };
     let size = regular_size(file.metadata());
-    apply_to(rt, file, size, ledger)
+    let answered = apply_to(rt, file, size, ledger);
+    let told = advised(rt, told(rt, answered.end, path), path, Kind::Stream);
+    told_of_cut(rt, told, path, answered.is_whole)
+}
+
+/// An end, and that the last record isn't whole, where nothing else is said.
+fn told_of_cut(rt: &HostRuntime, told: Told, path: &str, is_whole: bool) -> Told {
+    if is_whole || told.why.is_some() || told.end != End::Done {
+        return told;
+    }
+    Told::of_file(rt.alloc(), told.end, path, CUT)
 }
 
 /// How many bytes a regular file has; None of anything else.
@@ -155,38 +312,80 @@ fn apply_to<R: Read + Drop>(
     source: R,
     size: Option<u64>,
     ledger: &mut Ledger,
-) -> End {
+) -> Answered {
     let screen = Screen::new(rt);
-    let Ok(mut reader) = BufReader::new(rt.alloc(), source) else {
-        return End::Memory;
+    let no_memory = Answered {
+        end: End::Memory,
+        is_whole: true,
+    };
+    let Ok(reader) = BufReader::new(rt.alloc(), source) else {
+        return no_memory;
     };
     let Ok(mut writer) = BufWriter::new(rt.alloc(), Report::new(&screen)) else {
-        return End::Memory;
+        return no_memory;
     };
-    let end = match size {
-        None => report(&mut reader, &mut writer, ledger, &mut Prompt),
+    let answered = match size {
+        None => answer(reader, &mut writer, ledger, Prompt),
         Some(total) if rt.stderr().is_terminal() => {
-            let mut meter = Meter::new(&screen, total);
-            report(&mut Counted::new(reader), &mut writer, ledger, &mut meter)
+            answer(reader, &mut writer, ledger, Meter::new(&screen, total))
         }
-        Some(_) => report(&mut reader, &mut writer, ledger, &mut Gathering),
+        Some(_) => answer(reader, &mut writer, ledger, Gathering),
     };
     screen.erase();
-    end
+    answered
+}
+
+/// Answers the records that a reader gives, and does what is wanted after each.
+fn answer<R: Read + Drop, W: Write + Drop, A: AfterRecord<Counted<R>, BufWriter<W>> + Drop>(
+    reader: R,
+    writer: &mut BufWriter<W>,
+    ledger: &mut Ledger,
+    after: A,
+) -> Answered {
+    let mut counted = Counted::new(reader);
+    let mut after = Whole::new(after);
+    let end = report(&mut counted, writer, ledger, &mut after);
+    Answered {
+        end,
+        is_whole: counted.given() == after.answered_bytes(),
+    }
 }
 
 /// Prints a certificate for the module of a file, or why there is none.
-fn prove(rt: &HostRuntime, path: &str) -> End {
-    match File::open(rt, path) {
-        Ok(module) => prove_module(rt.alloc(), module, &mut io::writer(rt)),
-        Err(_) => End::Read,
+fn prove(rt: &HostRuntime, path: &str) -> Told {
+    if path == STANDARD_INPUT {
+        return told(
+            rt,
+            prove_module(rt.alloc(), rt.stdin(), &mut io::writer(rt)),
+            path,
+        );
+    }
+    match open(rt, path) {
+        Ok(module) => {
+            let end = prove_module(rt.alloc(), module, &mut io::writer(rt));
+            advised(rt, told(rt, end, path), path, Kind::Module)
+        }
+        Err(told) => told,
     }
 }
 
 /// Checks the module of a file with the text of a certificate in another, and prints what comes of it.
-fn check(rt: &HostRuntime, path: &str, certificate: &str) -> End {
-    let (Ok(module), Ok(text)) = (File::open(rt, path), File::open(rt, certificate)) else {
-        return End::Read;
-    };
-    check_module(rt.alloc(), module, text, &mut io::writer(rt))
+fn check(rt: &HostRuntime, path: &str, certificate: &str) -> Told {
+    if path == STANDARD_INPUT {
+        return match open(rt, certificate) {
+            Ok(text) => {
+                let end = check_module(rt.alloc(), rt.stdin(), text, &mut io::writer(rt));
+                told(rt, end, path)
+            }
+            Err(told) => told,
+        };
+    }
+    match (open(rt, path), open(rt, certificate)) {
+        (Ok(module), Ok(text)) => {
+            let end = check_module(rt.alloc(), module, text, &mut io::writer(rt));
+            advised(rt, told(rt, end, path), path, Kind::Module)
+        }
+        (Err(told), _) => told,
+        (_, Err(told)) => told,
+    }
 }

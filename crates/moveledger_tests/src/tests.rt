@@ -184,26 +184,50 @@ fn goes_on(
     Ok(())
 }
 
-// Whether the first records of a row have left a ledger that reports so on the row, and have the written bytes as a prefix of
-// their report, with all lines of those before the last, which stand in `before`: afterwards all lines do. It is true where an
-// allocation fails again.
+// What was seen of an engine that memory ran out for: what it wrote, then, once memory was back, the text of its ledger, and what
+// the row's whole input wrote on it.
+#[derive(Clone, Copy)]
+struct Told<'a> {
+    written: &'a [u8],
+    saved: &'a [u8],
+    again: &'a [u8],
+}
+
+// The text of the ledger that an input leaves; none where an allocation fails.
+fn text_left_by(alloc: Global, bytes: &[u8], writer: &mut Room) -> Option<Vec<u8>> {
+    let mut ledger = Ledger::new(alloc);
+    match answered(&mut whole(bytes), writer, &mut ledger) {
+        Ok(_) => ledger.save().ok(),
+        Err(_) => None,
+    }
+}
+
+// Whether the first records of a row have left a ledger of that text, that reports so on the row, and have the written bytes as a
+// prefix of their report, with all lines of those before the last, which stand in `before`: afterwards all lines do. It is true
+// where an allocation fails again.
 fn is_left_by(
     alloc: Global,
     (first, bytes): (&[u8], &[u8]),
-    (written, again): (&[u8], &[u8]),
+    told: &Told<'_>,
     before: &mut Vec<u8>,
 ) -> bool {
     let (mut writer, mut next_writer) = (room(alloc), room(alloc));
-    let reader = (&mut whole(first), &mut writer);
+    let Some(text) = text_left_by(alloc, first, &mut writer) else {
+        return true;
+    };
+    let nothing = &mut room(alloc);
+    let reader = (&mut whole(first), nothing);
     let answers = in_turn(alloc, reader, (&mut whole(bytes), &mut next_writer));
-    let is_written = written.starts_with(before) && writer.taken.starts_with(written);
+    let is_written = told.written.starts_with(before) && writer.taken.starts_with(told.written);
     mem::swap(before, &mut writer.taken);
-    let is_left = is_written && next_writer.taken.as_slice() == again;
-    is_left || answers.0.is_err() || answers.1.is_err()
+    let is_left = is_written && text.as_slice() == told.saved;
+    is_left && next_writer.taken.as_slice() == told.again
+        || answers.0.is_err()
+        || answers.1.is_err()
 }
 
 // Whether some first records of a row have left a ledger so.
-fn is_left_by_some(alloc: Global, row: &Row, bytes: &[u8], told: (&[u8], &[u8])) -> bool {
+fn is_left_by_some(alloc: Global, row: &Row, bytes: &[u8], told: &Told<'_>) -> bool {
     let mut before = Vec::new(alloc);
     for count in 0..=row.count() {
         let Ok(first) = row.first(alloc, count) else {
@@ -217,31 +241,45 @@ fn is_left_by_some(alloc: Global, row: &Row, bytes: &[u8], told: (&[u8], &[u8]))
 }
 
 // What the rows show whose requests for memory are refused.
-const STARVED: [&str; 6] = [
+const STARVED: [&str; 8] = [
     "a coin is minted: mint(s: signer, v: u64) stores it",
     "a coin is counted and shown",
     "a coin is burnt once, and its module published again: burn(a: address) takes it out of the storage and apart",
     "a loop writes through a reference to a local: g(n: u64) keeps it n times round",
     "256 calls are within one another at most, and an input is cut: down(n: u64) calls itself with the number before, to 0",
     "coins within a vault are counted: put(s: signer) stores a vault with coins of 1 and 2",
+    "a coin is stored before a run asks for more memory: put(s: signer, n: u64) stores it, and calls n functions within one another",
+    "a coin stays counted where a bundle of 8 modules joins",
 ];
 
-// What comes of an input on a new ledger, and where memory ran out, of the input again once it is back.
+// Where an input wasn't answered: the text of the ledger once memory is back, and what comes of the input on it then.
+fn again(
+    rt: &HostRuntime,
+    answer: Answer,
+    bytes: &[u8],
+    writer: &mut Room,
+    ledger: &mut Ledger,
+) -> (Option<Vec<u8>>, Answer) {
+    if answer.is_ok() {
+        return (None, answer);
+    }
+    // What refuses requests ends with this.
+    let _ = rt.eprintln("memory is back");
+    let text = ledger.save().ok();
+    (text, answered(&mut whole(bytes), writer, ledger))
+}
+
+// What comes of an input on a new ledger, and of the input again where memory ran out, with the text of the ledger between.
 fn once_or_again(
     rt: &HostRuntime,
     bytes: &[u8],
     writer: &mut Room,
     next_writer: &mut Room,
-) -> (Answer, Answer) {
+) -> (Answer, Answer, Option<Vec<u8>>) {
     let mut ledger = Ledger::new(rt.alloc());
     let answer = answered(&mut whole(bytes), writer, &mut ledger);
-    let mut next_answer = answer;
-    if answer.is_err() {
-        // What refuses requests ends with this.
-        let _ = rt.eprintln("memory is back");
-        next_answer = answered(&mut whole(bytes), next_writer, &mut ledger);
-    }
-    (answer, next_answer)
+    let (text, next_answer) = again(rt, answer, bytes, next_writer, &mut ledger);
+    (answer, next_answer, text)
 }
 
 // Whether an input has its report, or a ledger stands where memory ran out. It is true where that was before the engine.
@@ -252,11 +290,15 @@ fn is_told_or_stands(rt: &HostRuntime, row: &Row, bytes: &[u8], report: &[u8]) -
     let Some(mut next_writer) = roomy(rt.alloc()) else {
         return true;
     };
-    let answers = once_or_again(rt, bytes, &mut writer, &mut next_writer);
-    let told = (writer.taken.as_slice(), next_writer.taken.as_slice());
-    match answers {
-        (Ok(_), _) => told.0 == report,
-        (Err(EngineError::Memory), Ok(_)) => is_left_by_some(rt.alloc(), row, bytes, told),
+    let (answer, next_answer, text) = once_or_again(rt, bytes, &mut writer, &mut next_writer);
+    let told = Told {
+        written: &writer.taken,
+        saved: text.as_deref().unwrap_or(&[]),
+        again: &next_writer.taken,
+    };
+    match (answer, next_answer) {
+        (Ok(_), _) => told.written == report,
+        (Err(EngineError::Memory), Ok(_)) => is_left_by_some(rt.alloc(), row, bytes, &told),
         (Err(error), _) => error == EngineError::Memory,
     }
 }
@@ -272,7 +314,7 @@ fn is_row_told_or_stands(rt: &HostRuntime, row: &Row) -> bool {
 }
 
 // With any one request for memory refused, which scripts/refuse-each-growth tries for each: what was written is a prefix
-// of the report, and the ledger is as the records whose lines were written left it, or one more.
+// of the report, and the ledger is as the records whose lines were written left it, or one more, by its text and by what it answers.
 #[test]
 fn ledgers_stand_where_memory_runs_out(rt: HostRuntime) -> Result<(), Fail> {
     for shows in STARVED {

@@ -1,0 +1,22 @@
+"""The ledger as a library: over the C calls of moveledger.h, of the same proved code as the program.
+
+    import moveledger
+
+    with moveledger.Ledger() as ledger:
+        for line in ledger.apply(records):
+            print(line)
+        text = ledger.save()
+
+docs/EMBEDDING.md says what is promised at this border. `moveledger.assemble` makes records of text where movetext is installed."""
+
+from .errors import LedgerError, LoadRefused, NoLibrary, OutOfMemory, Refused, TooComplex, Unfinished
+from .ledger import Ledger, check, migrate, prove
+from .report import (Aborted, Count, End, Exhausted, Json, Line, Published, Refusal, Rejected, Report, Returned, Stored,
+                     Unknown)
+from .text import assemble
+
+__all__ = [
+    "Aborted", "Count", "End", "Exhausted", "Json", "Ledger", "LedgerError", "Line", "LoadRefused", "NoLibrary", "OutOfMemory",
+    "Published", "Refusal", "Refused", "Rejected", "Report", "Returned", "Stored", "TooComplex", "Unfinished", "Unknown",
+    "assemble", "check", "migrate", "prove",
+]

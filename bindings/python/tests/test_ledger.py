@@ -1,0 +1,151 @@
+"""The library through Python: the examples, what is refused, threads, and lines.
+usage: python3 -m unittest discover -s bindings/python/tests    from the repository's top, with bindings/python on PYTHONPATH"""
+
+import importlib.util
+import threading
+import unittest
+from pathlib import Path
+from typing import Dict
+
+import moveledger
+from moveledger.report import read_line
+
+EXAMPLES = Path(__file__).resolve().parents[3] / "examples"
+FIRST = (EXAMPLES / "first-coin.stream").read_bytes()
+# Where the module stands in it, and where the record that mints begins.
+MODULE, MINT = FIRST[20:119], FIRST[124:]
+PUBLISH = FIRST[:124]
+
+
+def mint(sender: int) -> bytes:
+    """The record by which an address mints a coin."""
+    return MINT[:2] + sender.to_bytes(16, "big") + MINT[18:]
+
+
+class Answers(unittest.TestCase):
+    def test_examples_are_answered(self) -> None:
+        reports = sorted(EXAMPLES.glob("*.report"))
+        self.assertTrue(reports)
+        for report in reports:
+            kept = report.with_suffix(".ledger")
+            with self.subTest(report.stem), moveledger.Ledger(kept.read_bytes() if kept.exists() else None) as ledger:
+                answer = ledger.apply(report.with_suffix(".stream").read_bytes())
+                self.assertEqual(answer.text, report.read_text(encoding="ascii"))
+                self.assertFalse(any(isinstance(line, moveledger.Unknown) for line in answer))
+
+    def test_a_ledger_is_saved_asked_and_loaded(self) -> None:
+        with moveledger.Ledger() as ledger:
+            self.assertEqual(list(ledger.apply(FIRST)), [moveledger.Published(1, 1), moveledger.Returned(2, 5)])
+            saved = ledger.save()
+            self.assertEqual(saved, (EXAMPLES / "kept.ledger").read_bytes())
+            coin = "00000000000000000000000000000001::M::Coin"
+            self.assertEqual(ledger.show(), [moveledger.Stored(0, f"{1:032x}", coin, "{7}")])
+            self.assertEqual(ledger.audit(), [moveledger.Count(0, coin, 1, 1, 0)])
+            self.assertEqual(ledger.show_text(json=True)[:15], 'json {"show":[{')
+        again = moveledger.Ledger(saved, answered=2)
+        self.assertEqual(again.apply(mint(2)).text, "3 returned 5\n")
+        self.assertEqual(again.answered, 3)
+
+    def test_an_old_ledger_is_migrated(self) -> None:
+        self.assertEqual(moveledger.migrate((EXAMPLES / "old.ledger").read_bytes()), (EXAMPLES / "kept.ledger").read_bytes())
+
+
+class Refusals(unittest.TestCase):
+    def test_modules_are_proved_and_checked(self) -> None:
+        certificate = moveledger.prove(MODULE)
+        self.assertEqual(certificate.hex(), "01010100")
+        moveledger.check(MODULE, certificate)
+        with self.assertRaises(moveledger.Refused) as refused:
+            moveledger.check(MODULE, b"")
+        self.assertEqual(refused.exception.phase, 9)
+        with self.assertRaises(moveledger.Refused) as refused:
+            moveledger.prove(b"")
+        self.assertEqual(refused.exception.phase, 2)
+
+    def test_bytes_that_are_no_ledger_are_refused(self) -> None:
+        for saved, reason in (b"", 1), (b"MVL2\0\0\0", 4):
+            with self.assertRaises(moveledger.LoadRefused) as refused:
+                moveledger.Ledger(saved)
+            self.assertEqual(refused.exception.reason, reason)
+
+    def test_a_closed_ledger_answers_nothing(self) -> None:
+        ledger = moveledger.Ledger()
+        ledger.close()
+        ledger.close()
+        for call in (lambda: ledger.apply(b""), ledger.save, ledger.show):
+            self.assertRaises(ValueError, call)
+
+
+    def test_what_is_no_bytes_is_refused(self) -> None:
+        with moveledger.Ledger() as ledger:
+            self.assertEqual(ledger.apply(bytearray(FIRST)).text, "1 published 1\n2 returned 5\n")
+            for wrong in "text", 5, None:
+                self.assertRaises(TypeError, ledger.apply, wrong)
+            self.assertEqual(ledger.answered, 2)
+
+
+class Texts(unittest.TestCase):
+    def setUp(self) -> None:
+        if not importlib.util.find_spec("movetext"):
+            self.skipTest("movetext isn't installed")
+
+    def test_a_text_becomes_records(self) -> None:
+        text = (EXAMPLES / "faucet.text").read_text(encoding="utf-8")
+        self.assertEqual(moveledger.assemble(text, "faucet.text"), (EXAMPLES / "faucet.stream").read_bytes())
+
+    def test_a_text_with_errors_is_told(self) -> None:
+        from movetext.errors import TextErrors
+
+        with self.assertRaises(TextErrors):
+            moveledger.assemble("publish by 0x1 {")
+
+
+class Threads(unittest.TestCase):
+    def test_each_thread_has_its_ledger(self) -> None:
+        saved: Dict[int, bytes] = {}
+
+        def work(count: int) -> None:
+            with moveledger.Ledger() as ledger:
+                ledger.apply(PUBLISH)
+                for sender in range(count):
+                    ledger.apply(mint(sender))
+                saved[count] = ledger.save()
+
+        threads = [threading.Thread(target=work, args=(count,)) for count in (40, 50)]
+        for thread in threads:
+            thread.start()
+        for thread in threads:
+            thread.join()
+        for count, text in list(saved.items()):
+            work(count)
+            self.assertEqual(saved[count], text)
+
+    def test_threads_share_a_ledger(self) -> None:
+        with moveledger.Ledger() as ledger:
+            ledger.apply(PUBLISH)
+            threads = [threading.Thread(target=ledger.apply, args=(mint(sender),)) for sender in range(20)]
+            for thread in threads:
+                thread.start()
+            for thread in threads:
+                thread.join()
+            self.assertEqual((len(ledger.show()), ledger.answered), (20, 21))
+
+
+class Lines(unittest.TestCase):
+    def test_lines_are_read(self) -> None:
+        for text, line in {
+            "7 refused 13": moveledger.Refusal(7, 13),
+            "7 rejected 6": moveledger.Rejected(7, 6),
+            "7 aborted code 9 3": moveledger.Aborted(7, "code", 9, 3),
+            "7 exhausted frames 9": moveledger.Exhausted(7, "frames", 9),
+            "7 end 2": moveledger.End(7, 2),
+            "7 publ": moveledger.Unknown(7, "publ"),
+            "7 published": moveledger.Unknown(7, "published"),
+            "7 published x": moveledger.Unknown(7, "published x"),
+            "": moveledger.Unknown(0, ""),
+        }.items():
+            self.assertEqual(read_line(text), line)
+
+
+if __name__ == "__main__":
+    unittest.main()

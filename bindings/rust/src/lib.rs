@@ -1,0 +1,51 @@
+//! The moveledger of this repository as a library: a ledger of Move resources in memory, and the verifier of Move bytecode that
+//! stands before it. Every function of the library is proved against its contract; this crate is a thin layer over the C calls of
+//! `moveledger.h`, and is tested, not proved. docs/EMBEDDING.md says what is promised at this border.
+//!
+//! ```
+//! use moveledger::{prove, record, Address, Entry, Form, Ledger, Line};
+//!
+//! # fn main() -> Result<(), Box<dyn std::error::Error>> {
+//! # let first = std::fs::read(concat!(env!("CARGO_MANIFEST_DIR"), "/../../examples/first-coin.stream"))?;
+//! # let module = &first[20..119];
+//! // `module` is the bytes of 0x1::M with a struct Coin and a function mint: tools/moveasm makes them of a text.
+//! let certificate = prove(module)?;
+//! let mut ledger = Ledger::new()?;
+//! let mut block = record::publish(Address::from(1), &[(module, &certificate.to_bytes())]);
+//! block.extend(record::run(&record::Run {
+//!     sender: Address::from(1),
+//!     address: Address::from(1),
+//!     module: "M",
+//!     function: "mint",
+//!     budget: 100,
+//!     arguments: &[record::Argument::U64(7)],
+//! }));
+//! let report = ledger.apply(&block)?;
+//! assert_eq!(report.as_str(), "1 published 1\n2 returned 5\n");
+//! assert!(matches!(report.parsed().next(), Some(Ok(Line::Published { record: 1, modules: 1 }))));
+//!
+//! // What is stored is asked for without a record, and a ledger that is saved is loaded as what it was.
+//! let again = Ledger::load(&ledger.save()?)?;
+//! let entries = again.show(Form::Text)?;
+//! assert!(matches!(entries.parsed().next(), Some(Ok(Entry::At { value: "{7}", .. }))));
+//! # Ok(())
+//! # }
+//! ```
+
+mod address;
+mod author;
+mod error;
+mod ledger;
+mod line;
+pub mod record;
+mod report;
+mod sys;
+mod text;
+
+pub use address::{Address, NoAddress};
+pub use author::{check, migrate, prove};
+pub use error::Error;
+pub use ledger::{Form, Ledger};
+pub use line::{Abort, Entry, Exhausted, Line, Struct, UnknownLine};
+pub use report::{Entries, Report};
+pub use text::{Certificate, Saved};

@@ -1,0 +1,55 @@
+//! The calls of `moveledger.h`, as C has them. The rest of the crate is what makes them safe.
+
+use std::ffi::c_void;
+
+/// What holds a ledger of the library's, or none where it is null. Each call takes it as its own while it runs.
+#[repr(C)]
+pub struct RawLedger {
+    pub own: *mut c_void,
+}
+
+/// Bytes that the library gives, to be freed by `moveledger_bytes_free`.
+#[repr(C)]
+pub struct RawBytes {
+    pub bytes: *mut u8,
+    pub length: usize,
+    pub own: *mut c_void,
+}
+
+// What a call answers.
+pub const DONE: i32 = 0;
+pub const REFUSED: i32 = 1;
+pub const LOAD_REFUSED: i32 = 2;
+pub const TOO_COMPLEX: i32 = 3;
+pub const MEMORY: i32 = 4;
+
+extern "C" {
+    pub fn moveledger_new(ledger: *mut RawLedger) -> i32;
+    pub fn moveledger_load(saved: *const u8, length: usize, ledger: *mut RawLedger, why: *mut u8) -> i32;
+    pub fn moveledger_free(ledger: *mut RawLedger);
+    pub fn moveledger_apply(
+        ledger: *mut RawLedger,
+        records: *const u8,
+        length: usize,
+        answered: *mut u64,
+        report: *mut RawBytes,
+    ) -> i32;
+    pub fn moveledger_save(ledger: *mut RawLedger, saved: *mut RawBytes) -> i32;
+    pub fn moveledger_show(ledger: *mut RawLedger, form: u32, lines: *mut RawBytes) -> i32;
+    pub fn moveledger_audit(ledger: *mut RawLedger, form: u32, lines: *mut RawBytes) -> i32;
+    pub fn moveledger_prove(
+        module: *const u8,
+        length: usize,
+        certificate: *mut RawBytes,
+        why: *mut u8,
+    ) -> i32;
+    pub fn moveledger_check(
+        module: *const u8,
+        length: usize,
+        certificate: *const u8,
+        certificate_length: usize,
+        why: *mut u8,
+    ) -> i32;
+    pub fn moveledger_migrate(saved: *const u8, length: usize, migrated: *mut RawBytes, why: *mut u8) -> i32;
+    pub fn moveledger_bytes_free(bytes: *mut RawBytes);
+}

@@ -1,0 +1,184 @@
+//! The worked rows, the examples and saved ledgers through the library: byte for byte what the program prints.
+
+mod rows;
+
+use moveledger::{check, migrate, prove, Entry, Error, Form, Ledger, Line, Report};
+use rows::{decoded, of_repository, rows, Row};
+use std::fs;
+
+/// The report of one call for each of these texts of records, with its lines read.
+fn report(ledger: &mut Ledger, texts: &[Vec<u8>]) -> String {
+    let mut report = Report::new();
+    for text in texts {
+        ledger.apply_into(text, &mut report).expect("there is memory");
+    }
+    for line in report.parsed() {
+        line.expect("each line is known");
+    }
+    report.to_string()
+}
+
+/// All records in one call, and a call for each, give the same report and the same ledger; what is asked without a record is what
+/// records are told.
+fn answers_as_wanted(first: impl Fn() -> Ledger, row: &Row, records: &[Vec<u8>]) {
+    let (mut at_once, mut one_by_one) = (first(), first());
+    assert_eq!(report(&mut at_once, &[records.concat()]), row.report(), "{}", row.shows);
+    assert_eq!(report(&mut one_by_one, records), row.report(), "{}", row.shows);
+    let saved = at_once.save().expect("there is memory");
+    assert_eq!(*saved, *one_by_one.save().expect("there is memory"), "{}", row.shows);
+    is_asked_as_told(&mut at_once);
+    let again = Ledger::load(&saved).expect("what was saved is loaded");
+    assert_eq!(*saved, *again.save().expect("there is memory"), "{}", row.shows);
+}
+
+/// A show and an audit without a record have the lines of those with one, but for the number.
+fn is_asked_as_told(ledger: &mut Ledger) {
+    for form in [Form::Text, Form::Json] {
+        let asked = [ledger.show(form), ledger.audit(form)].map(|lines| lines.expect("there is memory"));
+        for (kind, lines) in [3, 4].into_iter().zip(asked) {
+            let record = [kind, form as u8, 1];
+            let told = ledger.apply(&record[..2 + form as usize]).expect("there is memory");
+            let number = format!("{} ", ledger.answered());
+            let bare: Vec<&str> =
+                told.lines().map(|line| line.strip_prefix(&number).expect("its number")).collect();
+            assert_eq!(bare.join("\n") + "\n", lines.as_str());
+            assert!(lines.parsed().all(|entry| entry.is_ok()));
+        }
+    }
+}
+
+fn empty() -> Ledger {
+    Ledger::new().expect("there is memory")
+}
+
+#[test]
+fn rows_are_answered() {
+    for row in rows("rows.rt", "ROWS") {
+        answers_as_wanted(empty, &row, &row.records());
+    }
+}
+
+#[test]
+fn loaded_ledgers_go_on() {
+    for row in rows("saved.rt", "LOADED") {
+        let (text, records) = row.given.split_once(' ').expect("a ledger and records");
+        let load = || Ledger::load(&decoded(text)).expect("it is loaded");
+        answers_as_wanted(load, &row, &[decoded(records)]);
+    }
+}
+
+#[test]
+fn saved_ledgers_are_migrated_or_refused() {
+    for row in rows("saved.rt", "MIGRATED") {
+        let text = decoded(&row.given);
+        match row.wanted.strip_prefix("load refused ") {
+            None => {
+                assert_eq!(*migrate(&text).expect("it is loaded"), *decoded(&row.wanted), "{}", row.shows);
+                let ledger = Ledger::load(&text).expect("it is loaded");
+                assert_eq!(*ledger.save().expect("there is memory"), *decoded(&row.wanted), "{}", row.shows);
+            }
+            Some(reason) => {
+                let is_it = |error| matches!(error, Error::LoadRefused(found) if found.to_string() == reason);
+                assert!(migrate(&text).err().is_some_and(is_it), "{}", row.shows);
+                assert!(Ledger::load(&text).err().is_some_and(is_it), "{}", row.shows);
+            }
+        }
+    }
+}
+
+#[test]
+fn examples_are_answered() {
+    let files = fs::read_dir(of_repository("examples")).expect("the examples are there");
+    let mut count = 0;
+    for report_file in files.map(|file| file.expect("a file").path()) {
+        if report_file.extension().is_some_and(|it| it == "report") {
+            let wanted = fs::read_to_string(&report_file).expect("a report");
+            let records = fs::read(report_file.with_extension("stream")).expect("a stream");
+            let mut ledger = match fs::read(report_file.with_extension("ledger")) {
+                Ok(text) => Ledger::load(&text).expect("it is loaded"),
+                Err(_) => empty(),
+            };
+            assert_eq!(report(&mut ledger, &[records]), wanted, "{}", report_file.display());
+            count += 1;
+        }
+    }
+    assert!(count > 5);
+}
+
+/// What the program prints of a module.
+fn line_of(error: Error) -> String {
+    match error {
+        Error::Refused(phase) => format!("refused {phase}"),
+        Error::TooComplex => "too complex".to_owned(),
+        other => other.to_string(),
+    }
+}
+
+#[test]
+fn modules_are_proved_and_checked() {
+    for row in rows("authoring.rt", "PROVED") {
+        let module = decoded(&row.given);
+        let printed = match prove(&module) {
+            Ok(certificate) => {
+                check(&module, certificate.as_str()).expect("what is proved is accepted");
+                assert_eq!(certificate.to_bytes(), decoded(certificate.as_str()));
+                certificate.as_str().to_owned()
+            }
+            Err(error) => line_of(error),
+        };
+        assert_eq!(printed, row.wanted, "{}", row.shows);
+    }
+}
+
+#[test]
+fn texts_of_certificates_are_checked() {
+    for row in rows("authoring.rt", "CHECKED") {
+        let (text, answer) = row.wanted.split_once(": ").expect("a text and an answer");
+        let text = text.replace("\\r", "\r").replace("\\n", "\n");
+        let printed = check(&decoded(&row.given), &text).map_or_else(line_of, |()| "accepted".to_owned());
+        assert_eq!(printed, answer, "{}", row.shows);
+    }
+}
+
+#[test]
+fn lines_are_read() {
+    for (text, wanted) in [
+        ("7 published 2", "Published { record: 7, modules: 2 }"),
+        ("7 refused 13", "Refused { record: 7, phase: 13 }"),
+        ("7 rejected 6", "Rejected { record: 7, reason: 6 }"),
+        ("7 returned 5", "Returned { record: 7, steps: 5 }"),
+        (
+            "7 aborted code 18446744073709551615 3",
+            "Aborted { record: 7, abort: Code(18446744073709551615), steps: 3 }",
+        ),
+        ("7 aborted arith 0 3", "Aborted { record: 7, abort: Arithmetic, steps: 3 }"),
+        ("7 exhausted frames 9", "Exhausted { record: 7, what: Frames, steps: 9 }"),
+        ("7 end 1", "Entry { record: 7, entry: End { count: 1 } }"),
+        ("7 json {\"show\":[]}", "Entry { record: 7, entry: Json(\"{\\\"show\\\":[]}\") }"),
+    ] {
+        let line = Line::parse(text).expect("it is a line");
+        assert_eq!((line.record(), format!("{line:?}").as_str()), (7, wanted));
+    }
+    let stored =
+        Entry::parse("at 0000000000000000000000000000000a 00000000000000000000000000000001::M::Coin {7}");
+    match stored {
+        Ok(Entry::At { address, structure, value }) => {
+            assert_eq!((address, structure.module, structure.name, value), (10.into(), "M", "Coin", "{7}"));
+            assert_eq!(structure.to_string(), "00000000000000000000000000000001::M::Coin");
+        }
+        other => panic!("{other:?}"),
+    }
+    for cut in [
+        "",
+        "7",
+        "7 ",
+        "7 publ",
+        "7 published",
+        "+7 published 1",
+        "7 published -1",
+        "7 published 1 ",
+        "7 aborted exists 0",
+    ] {
+        assert!(Line::parse(cut).is_err(), "{cut:?}");
+    }
+}

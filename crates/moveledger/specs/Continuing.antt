@@ -1,0 +1,37 @@
+-- What an input comes to whose records are numbered on from those that were answered before.
+use Rattle.std.specs.Prelude.{◌≡◌, ℕ, ◌+◌, ◌-◌, ◌^◌, List, [], ◌++◌, length, Option, ◌⊎◌}
+use Rattle.std.specs.Io.KnownBytes.{Appends, Consumes}
+use Rattle.mv_ledger.specs.View.{LedgerView}
+use Rattle.moveledger.specs.Records.{Record, AreRecords, AreWhole}
+use Rattle.moveledger.specs.Headline.{Reports, Tells}
+use Rattle.moveledger.specs.Outcome.{left_of, Stays, Begun}
+
+-- So many records were answered before, and n are now: all records that the input begins with, up to its end or to the last number.
+-- Their report, by numbers that go on, is written.
+pub record GoesOn (before : ℕ) (given held holds : Option (List ℕ)) (old new : LedgerView) (n : ℕ) : Type 0 where
+  pub input : List ℕ
+  pub records : List Record
+  pub rest : List ℕ
+  pub text : List ℕ
+  pub told : Tells given input
+  pub read : AreRecords input records rest
+  pub all : (rest ≡ []) ⊎ (n ≡ 2 ^ 64 - 1)
+  pub answered : n ≡ before + length records
+  pub report : Reports (before + 1) old records text new
+  pub written : Appends held holds text
+
+-- So many were answered before, and n are now: whole records, all lines of which were written. Of one more at most a prefix of its
+-- lines was, and the ledger is as these records left it.
+pub record StopsAfter (before : ℕ) (given gives held holds : Option (List ℕ)) (old new : LedgerView) (n : ℕ) : Type 0 where
+  pub whole : List ℕ
+  pub took : List ℕ
+  pub records : List Record
+  pub text : List ℕ
+  pub part : List ℕ
+  pub mid : LedgerView
+  pub taken : Consumes given gives (whole ++ took)
+  pub read : AreWhole whole records
+  pub answered : n ≡ before + length records
+  pub report : Reports (before + 1) old records text mid
+  pub last : Stays took (left_of gives) mid new part ⊎ Begun (n + 1) took (left_of gives) mid new part
+  pub written : Appends held holds (text ++ part)

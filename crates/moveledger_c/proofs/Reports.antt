@@ -1,0 +1,62 @@
+-- What is given to C, by what was made for it.
+use Rattle.std.proofs.Common.{◌≡◌, ◌≢◌, ℕ, zero, suc, ℤ, List, [], ◌∷◌, ◌++◌, Some, None, Ok, refl, sym, ap, ◌∙◌, subst, arith, inl, inr, append-nil, append_assoc, w32, to_z, of_z}
+use Rattle.std.proofs.lemmas.Grind.{flat_map-append}
+use Rattle.std.proofs.KnownBytes.{Consumes-nil, Appends-nil}
+use Rattle.std.specs.Io.KnownBytes.{Appends}
+use Rattle.std.specs.Global.{Vec}
+use Rattle.mv_ledger.specs.View.{LedgerView}
+use Rattle.moveledger.specs.Continuing.{StopsAfter}
+use Rattle.moveledger.specs.Proving.{IsAcceptedBack, IsProvedBy}
+use Rattle.moveledger.specs.Reading.{at_kind}
+use Rattle.moveledger_c.specs.Calls.{ended, payload_of, IsProved}
+use Rattle.moveledger_c.specs.Giving.{IsGiven}
+
+-- lines
+
+-- those of all these lines that are not left stand in the text
+abbrev pub HasEnded : List (List ℕ) → List (List ℕ) → List ℕ → Type 0
+HasEnded all left text = (first : List (List ℕ)) × ((all ≡ first ++ left) × (text ≡ ended first))
+
+pub HasEnded-start : (all : List (List ℕ)) → HasEnded all all []
+HasEnded-start all = ([], (refl, refl))
+
+pub HasEnded-next : (all left rest : List (List ℕ)) (line text more : List ℕ) → HasEnded all left text → left ≡ line ∷ rest → more ≡ (text ++ line) ++ 10 ∷ [] → HasEnded all rest more
+HasEnded-next all left rest line text more h e said =
+    let both : ended (h.0 ++ line ∷ []) ≡ ended h.0 ++ (line ++ 10 ∷ []) = flat_map-append (λ l. l ++ 10 ∷ []) h.0 (line ∷ []) ∙ ap (λ l. ended h.0 ++ l) (append-nil (line ++ 10 ∷ [])) in
+    (h.0 ++ line ∷ [], (h.1.0 ∙ ap (λ l. h.0 ++ l) e ∙ sym (append_assoc h.0 (line ∷ []) rest), said ∙ append_assoc text line (10 ∷ []) ∙ ap (λ l. l ++ (line ++ 10 ∷ [])) h.1.1 ∙ sym both))
+
+pub HasEnded-end : (all left : List (List ℕ)) (text : List ℕ) → HasEnded all left text → left ≡ [] → text ≡ ended all
+HasEnded-end all left text h e = h.1.1 ∙ ap ended (sym (h.1.0 ∙ ap (λ l. h.0 ++ l) e ∙ append-nil h.0))
+
+-- a form that is neither of the two
+
+pub payload_of-none : (form : ℕ) → (form ≢ 0) → (form ≢ 1) → payload_of form ≡ None
+payload_of-none zero a b = absurd (a refl)
+payload_of-none (suc zero) a b = absurd (b refl)
+payload_of-none (suc (suc n)) a b = refl
+
+-- no record was answered
+
+pub StopsAfter-none : (before : ℕ) (records had has : List ℕ) (l : LedgerView) → had ≡ [] → has ≡ [] → StopsAfter before (Some records) (Some records) (Some had) (Some has) l l before
+StopsAfter-none before records had has l a b = record {
+  whole = [];
+  took = [];
+  records = [];
+  text = [];
+  part = [];
+  mid = l;
+  taken = Consumes-nil (Some records);
+  read = λ more. refl;
+  answered = omega arith;
+  report = (refl, refl);
+  last = inl (inl at_kind, refl, refl);
+  written = subst (λ (x : List ℕ). Appends (Some had) (Some x) []) (a ∙ sym b) (Appends-nil (Some had));
+}
+
+-- a certificate's text
+
+pub IsProved-given : (m digits text : List ℕ) (status : ℤ) (v : Vec ℕ) → IsGiven (Ok v) status text → v.items ≡ digits → IsProvedBy m digits → IsAcceptedBack m digits
+    → IsProved m (to_z w32 (of_z w32 status)) 0 text
+IsProved-given m digits text status v (inl h) e p a =
+    inl (ap (λ s. to_z w32 (of_z w32 s)) h.0, refl, subst (IsProvedBy m) (sym (h.1 ∙ e)) p, subst (IsAcceptedBack m) (sym (h.1 ∙ e)) a)
+IsProved-given m digits text status v (inr h) e p a = inr (inr (inr (ap (λ s. to_z w32 (of_z w32 s)) h.0, refl, h.1)))

@@ -1,0 +1,70 @@
+-- What the calls of C come to, by their status.
+use Rattle.std.specs.Prelude.{◌≡◌, ℕ, zero, suc, ℤ, List, [], ◌∷◌, ◌++◌, Option, Some, None, ◌⊎◌, flat_map}
+use Rattle.mv_move_types.specs.declared.refusal.Refusal.TheVariants.{Phase}
+use Rattle.mv_machine.specs.Lines.{Told}
+use Rattle.mv_ledger.specs.Answering.{Replies}
+use Rattle.mv_ledger.specs.Loading.{FailsLoad, IsLoaded}
+use Rattle.mv_ledger.specs.View.{LedgerView, empty_view, state_of}
+use Rattle.moveledger.specs.Checking.{IsAccepted, IsRefusedText}
+use Rattle.moveledger.specs.Continuing.{GoesOn, StopsAfter}
+use Rattle.moveledger.specs.Proving.{FailsProof, IsAcceptedBack, IsComplexText, IsProvedBy}
+use Rattle.moveledger.specs.Saved.{IsMigrated}
+use Rattle.moveledger_c.specs.Statuses.{done, refused, load_refused, too_complex, memory, arguments}
+
+-- an empty ledger is held, or memory ran out and none is
+abbrev pub IsNew : ℤ → Option LedgerView → Type 0
+IsNew status held = ((status ≡ done) × (held ≡ Some empty_view)) ⊎ ((status ≡ memory) × (held ≡ None))
+
+-- the ledger that bytes save is held; or they are none, for this reason; or memory ran out
+abbrev pub IsLoadedAs : List ℕ → ℤ → ℕ → Option LedgerView → Type 0
+IsLoadedAs bytes status why held = ((status ≡ done) × (why ≡ 0) × (l : LedgerView) × (held ≡ Some l) × IsLoaded bytes (state_of l))
+    ⊎ (((status ≡ load_refused) × FailsLoad bytes why × (held ≡ None)) ⊎ ((status ≡ memory) × (why ≡ 0) × (held ≡ None)))
+
+-- Records that are numbered from before + 1 on are answered, and their lines stand behind what the report had; or memory ran out,
+-- and the report is a beginning of theirs. With no ledger nothing is done.
+abbrev pub IsApplied : List ℕ → ℤ → (before after : ℕ) → (old new : Option LedgerView) → (had has : List ℕ) → Type 0
+IsApplied records status before after None new had has = (status ≡ arguments) × (after ≡ before) × (new ≡ None) × (has ≡ had)
+IsApplied records status before after (Some l) new had has = (m : LedgerView) × (new ≡ Some m)
+    × (((status ≡ done) × GoesOn before (Some records) (Some had) (Some has) l m after)
+    ⊎ ((status ≡ memory) × (left : List ℕ) × StopsAfter before (Some records) (Some left) (Some had) (Some has) l m after))
+
+-- a text of the ledger that is held is given, or memory ran out; with no ledger nothing is
+abbrev pub IsOfHeld : (LedgerView → List ℕ → Type 0) → Option LedgerView → ℤ → List ℕ → Type 0
+IsOfHeld Is None status text = (status ≡ arguments) × (text ≡ [])
+IsOfHeld Is (Some l) status text = ((status ≡ done) × Is l text) ⊎ ((status ≡ memory) × (text ≡ []))
+
+-- the payload of a show or an audit record in this form: 0, in lines, or 1, in JSON
+abbrev pub payload_of : ℕ → Option (List ℕ)
+payload_of zero = Some []
+payload_of (suc zero) = Some (1 ∷ [])
+payload_of (suc (suc n)) = None
+
+-- the lines one after the other, each with a line feed after it
+abbrev pub ended : List (List ℕ) → List ℕ
+ended = flat_map (λ line. line ++ 10 ∷ [])
+
+-- the lines that answer a record of this kind with this payload
+abbrev pub IsReport : ℕ → List ℕ → LedgerView → List ℕ → Type 0
+IsReport kind payload l text = (lines : List (List ℕ)) × Replies kind payload (Some (Told lines)) l l × (text ≡ ended lines)
+
+-- the report in this form is given; with a form that there is not nothing is
+abbrev pub IsReported : ℕ → Option (List ℕ) → Option LedgerView → ℤ → List ℕ → Type 0
+IsReported kind None held status text = (status ≡ arguments) × (text ≡ [])
+IsReported kind (Some payload) held status text = IsOfHeld (IsReport kind payload) held status text
+
+-- the text of a certificate is given, with which the module passes; or the phase that refuses it; or the search met its limits; or
+-- memory ran out
+abbrev pub IsProved : List ℕ → ℤ → ℕ → List ℕ → Type 0
+IsProved module' status why text = ((status ≡ done) × (why ≡ 0) × IsProvedBy module' text × IsAcceptedBack module' text)
+    ⊎ (((status ≡ refused) × (text ≡ []) × FailsProof module' why)
+    ⊎ (((status ≡ too_complex) × (why ≡ 0) × (text ≡ []) × IsComplexText module') ⊎ ((status ≡ memory) × (why ≡ 0) × (text ≡ []))))
+
+-- the module passes with the certificate of the text; or a phase refuses it; or memory ran out
+abbrev pub IsChecked : List ℕ → List ℕ → ℤ → ℕ → Type 0
+IsChecked module' text status why = ((status ≡ done) × (why ≡ 0) × IsAccepted module' text)
+    ⊎ (((status ≡ refused) × IsRefusedText module' text (Phase why)) ⊎ ((status ≡ memory) × (why ≡ 0)))
+
+-- the text of today of the ledger that bytes save is given; or they are none, for this reason; or memory ran out
+abbrev pub IsMigratedAs : List ℕ → ℤ → ℕ → List ℕ → Type 0
+IsMigratedAs bytes status why text = ((status ≡ done) × (why ≡ 0) × IsMigrated bytes text)
+    ⊎ (((status ≡ load_refused) × FailsLoad bytes why × (text ≡ [])) ⊎ ((status ≡ memory) × (why ≡ 0) × (text ≡ [])))

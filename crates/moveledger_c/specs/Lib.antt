@@ -1,0 +1,4 @@
+pub mod Owning
+pub mod Statuses
+pub mod Calls
+pub mod Giving

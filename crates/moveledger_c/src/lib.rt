@@ -1,0 +1,16 @@
+//! The ledger as a static library for C: `bindings/c/moveledger.h` declares its calls.
+//!
+//! Each call tests its arguments, makes one call of the libraries below, and states the clauses of that call again. What owns
+//! memory goes to C as a pointer in a struct of C's own: a ledger in a `Holder`, bytes in a `Bytes`.
+#![tactic(auto)]
+
+mod bytes;
+mod holder;
+mod ledgers;
+mod modules;
+mod parts;
+mod status;
+mod texts;
+
+pub use bytes::Bytes;
+pub use holder::Holder;
