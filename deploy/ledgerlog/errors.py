@@ -9,18 +9,34 @@ class Unreachable(LogError):
     """No node of the log answered for as long as was waited. What was asked may be done yet."""
 
 
+class Full(LogError):
+    """The log has no room left: etcd puts nothing any more."""
+
+
+class Refused(LogError):
+    """The log isn't given what was offered: a submitter's quota or the log's room would be exceeded."""
+
+
 class NotWhole(Exception):
-    """Why bytes aren't one whole record."""
+    """Why bytes aren't one whole record, or aren't put into the log."""
 
 
-class Differs(Exception):
-    """What was made of a record isn't what stands in the log under its number."""
+class NeedsPerson(Exception):
+    """Why a replica stops until a person has looked."""
+
+
+class Differs(NeedsPerson):
+    """A majority of replicas has put something else than this one made."""
+
+
+class OtherHistory(NeedsPerson):
+    """The log isn't the one that the ledger was made of, or is behind it."""
 
 
 class ProgramEnded(Exception):
-    """The program ended while answers were awaited."""
+    """The program ended while answers were awaited. The status is below 0 where a signal ended it."""
 
-    def __init__(self, status: int, words: str):
+    def __init__(self, status: int, words: str) -> None:
         super().__init__(f"the program ended with the status {status}" + (f": {words}" if words else ""))
         self.status = status
         self.words = words

@@ -11,19 +11,29 @@ sys.path.append(os.path.join(TOP, "tools"))
 from movetext.commandline import (DONE, FAULT, REFUSED, WORDS, Argument, CommandLine, Option, WordsError,  # noqa: E402,F401
                                   read_input, understood_or_exit)
 
-from .etcd import Etcd  # noqa: E402
+from .etcd import Access, Etcd  # noqa: E402
 from .log import Log  # noqa: E402
 
-PROGRAM = os.path.join(TOP, "moveledger")
+BUILT = os.path.join(TOP, "crates", "moveledger_program", "out", "moveledger_program")
+# Beside the program's and the tools' own: a replica stops until a person has looked.
+LOOK = 4
 LOG = Option("--log", "ADDRESSES", "The log's nodes, as HOST:PORT,..; those that deploy/node starts if it isn't given")
 LEDGER = Option("--ledger", "NAME", "The ledger, of several in one log: letters, digits and -; `moveledger` if it isn't given")
-MOVELEDGER = Option("--moveledger", "PROGRAM", "The program; ./moveledger of this repository if it isn't given")
+MOVELEDGER = Option("--moveledger", "PROGRAM", "The program; MOVELEDGER of the environment, or what this repository has "
+                    "built, if it isn't given")
+CA = Option("--ca", "AUTHORITY", "A file with the authority's certificate that vouches for the nodes: TLS is spoken with them")
+CERTIFICATE = Option("--certificate", "CERTIFICATE", "A file with this side's own certificate")
+KEY = Option("--key", "KEY", "A file with that certificate's key")
+USER = Option("--user", "USER", "The user of the log as which to log in")
+PASSWORD = Option("--password", "PASSWORD", "A file with that user's password")
+REACHED_BY = [LOG, LEDGER, CA, CERTIFICATE, KEY, USER, PASSWORD]
 FIRST_PORT = 23_791
 NODES = 3
 NAME = re.compile(r"[A-Za-z0-9-]{1,64}")
 ADDRESSES = ",".join(f"127.0.0.1:{FIRST_PORT + at}" for at in range(NODES))
 
 Value = TypeVar("Value")
+Given = Dict[str, Optional[str]]
 
 
 def refuse(line: CommandLine, message: str) -> NoReturn:
@@ -32,7 +42,7 @@ def refuse(line: CommandLine, message: str) -> NoReturn:
     sys.exit(WORDS)
 
 
-def value_of(line: CommandLine, given: Dict[str, Optional[str]], option: Option, default: Value,
+def value_of(line: CommandLine, given: Given, option: Option, default: Value,
              read: Callable[[str], Value]) -> Value:
     """The value of an option. Ends the program where it isn't read."""
     text = given[option.value]
@@ -75,7 +85,37 @@ def addresses(text: str) -> List[str]:
     return told
 
 
-def log_of(line: CommandLine, given: Dict[str, Optional[str]], patience: float) -> Log:
-    """The log that the words name."""
+def file_in(given: Given, name: str) -> str:
+    """A file or a folder that has to be given, and was."""
+    value = given[name]
+    assert value is not None
+    return value
+
+
+def access_of(given: Given) -> Access:
+    """How the log is reached, by the words. OSError where a file can't be read."""
+    password = None
+    if given[PASSWORD.value] is not None:
+        with open(file_in(given, PASSWORD.value), encoding="utf-8") as file:
+            password = file.read().rstrip("\n")
+    return Access(given[CA.value], given[CERTIFICATE.value], given[KEY.value], given[USER.value], password)
+
+
+def log_of(line: CommandLine, given: Given, patience: float) -> Log:
+    """The log that the words name. Ends the program where a file that it takes can't be read."""
     nodes = value_of(line, given, LOG, addresses(ADDRESSES), addresses)
-    return Log(Etcd(nodes, patience), value_of(line, given, LEDGER, "moveledger", name))
+    try:
+        etcd = Etcd(nodes, patience, access_of(given))
+    except OSError as why:
+        sys.stderr.write(f"{line.name}: a certificate, a key or a password can't be read: {why}\n")
+        sys.exit(FAULT)
+    return Log(etcd, value_of(line, given, LEDGER, "moveledger", name))
+
+
+def program_of(line: CommandLine, given: Given) -> str:
+    """The program that is to answer. Ends where there is none: nothing is built here."""
+    found = given[MOVELEDGER.value] or os.environ.get("MOVELEDGER") or BUILT
+    if not os.access(found, os.X_OK):
+        sys.stderr.write(f"{line.name}: there is no program {found}: build it (./moveledger does), or name one by --moveledger\n")
+        sys.exit(FAULT)
+    return found

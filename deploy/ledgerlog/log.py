@@ -1,19 +1,21 @@
-"""The log: records under their numbers, from 1 on and without a gap, and what answers them under the same numbers."""
+"""The log: records under their numbers, from 1 on and without a gap, with an id for each and a quota for each submitter."""
 
-from typing import Callable, Dict, Iterator, List, NamedTuple, Optional, Tuple
+from typing import Dict, Iterator, List, NamedTuple, Optional, Tuple
 
-from .errors import Differs, LogError
-from .etcd import Etcd, Found, absent, after, equal, get, put
-from .values import Values, told
+from .errors import LogError, OtherHistory, Refused
+from .etcd import Etcd
+from .keys import Keys, number_in, numbered, size_in
+from .requests import Body, Entry, absent, after, equal, get, get_range, put, some_under, value_of
+from .settings import Settings, settings_of
+from .written import MISSING, PIECES, Taken, count_of_pieces, counted_size, put_pieces, taken, written
 
 # A record takes two keys, and a transaction 128; 60 records with what stands under their keys are also within MOST_BYTES.
 MOST_APPENDED = 60
-MOST_PUBLISHED = 100
 MOST_READ = 100
-# etcd takes requests of up to 1.5 MiB.
-MOST_BYTES = 1 << 20
 # No more records are taken at once when these have so many bytes.
 ENOUGH_BYTES = 8 << 20
+# Above these parts of its room a log is nearly full, and is given no more records.
+NEARLY_FULL, NO_MORE = 0.75, 0.9
 
 
 class Offer(NamedTuple):
@@ -24,156 +26,207 @@ class Offer(NamedTuple):
 
 
 class Read(NamedTuple):
-    """Records that follow each other, and the number of the store's last change when they were read."""
+    """What follows each other in the log, the number of the last record, what the log says of itself, the number of the store's
+    last change, all at one moment, and the id of the nodes that answered."""
 
-    records: List[bytes]
+    taken: List[Taken]
+    last: int
+    settings: Settings
     revision: int
+    cluster: str
+
+
+class Room(NamedTuple):
+    """How many bytes a log takes, and may take; 0 where that isn't limited."""
+
+    used: int
+    most: int
+
+    def part(self) -> float:
+        return self.used / self.most if self.most else 0.0
 
 
 class Log:
     """A ledger's part of the store."""
 
-    def __init__(self, etcd: Etcd, ledger: str):
+    def __init__(self, etcd: Etcd, ledger: str) -> None:
         self.etcd = etcd
-        self.ledger = ledger
-        self.values = Values(etcd, ledger)
+        self.keys = Keys(ledger)
 
-    def key(self, kind: str, name: str = "") -> bytes:
-        return f"{self.ledger}/{kind}/{name}".encode()
+    def settings(self) -> Settings:
+        """What the log says of itself. LogError where it says nothing."""
+        return self.understood(self.etcd.get(self.keys.log))
 
-    def numbered(self, kind: str, number: int) -> bytes:
-        return self.key(kind, f"{number:016x}")
+    def understood(self, text: Optional[bytes]) -> Settings:
+        if text is None:
+            raise LogError(f"there is no log of the ledger {self.keys.ledger}: deploy/log make makes one")
+        return settings_of(text)
 
     def last(self) -> int:
         """The number of the last record; 0 where there is none."""
-        return number_in(self.etcd.get(self.key("last")))
+        return self.last_of(self.etcd.get(self.keys.last))
 
-    def append(self, offers: List[Offer]) -> Iterator[int]:
+    def last_of(self, text: Optional[bytes]) -> int:
+        number = 0 if text is None else number_in(text)
+        if number is None:
+            raise LogError(f"under {self.keys.last.decode()} stands no number: {text!r}")
+        return number
+
+    def cleared(self) -> int:
+        """Up to which record the log was cleared."""
+        text = self.etcd.get(self.keys.cleared)
+        return int(text) if text else 0
+
+    def room(self, settings: Settings) -> Room:
+        """How much of the log's room is used, as etcd counts it: what was cleared counts until the log is defragmented."""
+        return Room(int(self.etcd.ask("/v3/maintenance/status", {}).get("dbSize", 0)), settings.room)
+
+    def append(self, offers: List[Offer], submitter: str, settings: Settings) -> Iterator[int]:
         """Puts records at the end, in this order, and gives their numbers, each when it is durable. A record whose id stands
-        in the log already keeps the number that it has there. LogError where another record has the id."""
+        in the log already keeps the number that it has there. LogError where another record has the id, Refused at a quota."""
         last = self.last()
         for at in range(0, len(offers), MOST_APPENDED):
-            part = [(offer.id, self.values.stored(offer.record)) for offer in offers[at:at + MOST_APPENDED]]
-            numbers = self.append_part(part, last)
+            part = Appending(self, offers[at:at + MOST_APPENDED], submitter, settings.quota_of(submitter))
+            numbers = part.put_after(last)
             last = max(last, *numbers)
             yield from numbers
 
-    def append_part(self, part: List[Tuple[str, bytes]], last: int) -> List[int]:
-        """Puts a few records, each given by its id and its value, after the one that is taken for the last, or after the one
-        that is."""
-        numbers: Dict[str, int] = {}
-        while True:
-            left = [(name, value) for name, value in part if name not in numbers]
-            if not left:
-                return [numbers[name] for name, _ in part]
-            ids = [self.key("id", name) for name, _ in left]
-            texts = [f"{last + 1 + at:016x}".encode() for at in range(len(left))]
-            puts = [put(self.key("record", text.decode()), value) for text, (_, value) in zip(texts, left)]
-            puts += [*map(put, ids, texts), put(self.key("last"), texts[-1])]
-            free = [*map(absent, ids), self.is_last(last)]
-            is_done, found = self.etcd.transact(free, puts, [*map(get, ids), get(self.key("last"))])
-            if is_done:
-                numbers.update((name, number_in(text)) for (name, _), text in zip(left, texts))
-                continue
-            for (name, value), entries in zip(left, found):
-                if entries:
-                    numbers[name] = self.number_of(name, number_in(entries[0].value), value)
-            last = number_in(found[-1][0].value) if found[-1] else 0
-
-    def is_last(self, number: int):
-        """A comparison: the last record has this number."""
-        key = self.key("last")
-        return equal(key, f"{number:016x}".encode()) if number else absent(key)
-
-    def number_of(self, name: str, number: int, value: bytes) -> int:
-        """The number that an id has. LogError where that is another record's."""
-        if self.etcd.get(self.numbered("record", number)) != value:
-            raise LogError(f"the id {name} is that of record {number}, which is another one or isn't kept any more")
-        return number
-
     def read(self, first: int) -> Read:
-        """The records from this number on, as many as are taken at once. LogError where the log begins behind it."""
-        found = self.found_from("record", first, MOST_READ)
-        records: List[bytes] = []
+        """What the log has from this number on, as much as is taken at once. OtherHistory where that was cleared, or the log
+        says nothing of itself any more."""
+        keys = self.keys
+        asked = [get(keys.last), get(keys.log), get(keys.cleared),
+                 get_range(keys.record(first), keys.record(first + MOST_READ), MOST_READ)]
+        _, found, revision = self.etcd.transacted([], asked, [])
+        cluster = self.etcd.cluster
+        last, told, cleared = (value_of(part) for part in found[:3])
+        if told is None:
+            raise OtherHistory(f"the log says nothing of the ledger {keys.ledger} any more: it was made anew, or lost")
+        self.check_behind(first, int(cleared or b"0"))
+        entries = {entry.key: entry for entry in found[3]}
+        end = min(self.last_of(last), first + MOST_READ - 1)
+        made: List[Taken] = []
         size = 0
-        for entry in found.entries:
-            if number_in(entry.key) != first + len(records):
-                raise LogError(f"record {first + len(records)} isn't in the log any more: begin with a newer saved ledger")
+        for number in range(first, end + 1):
+            entry = entries.get(keys.record(number))
+            if entry is None and len(found[3]) == MOST_READ:
+                entry = self.etcd.entry(keys.record(number))
+            made.append(taken(self.etcd, keys, entry))
+            size += len(made[-1].record)
             if size >= ENOUGH_BYTES:
                 break
-            records.append(self.values.content(entry.value))
-            size += len(records[-1])
-        return Read(records, found.revision)
+        if any(one.why in (MISSING, PIECES) for one in made):
+            self.check_kept(first)
+        return Read(made, self.last_of(last), self.understood(told), revision, cluster)
 
-    def found_from(self, kind: str, first: int, limit: int) -> Found:
-        return self.etcd.range(self.numbered(kind, first), after(self.key(kind)), limit)
+    def check_behind(self, first: int, cleared: int) -> None:
+        """OtherHistory where a record was cleared."""
+        if first <= cleared:
+            raise OtherHistory(f"record {first} isn't in the log any more: begin with a newer save (deploy/snapshot)")
 
-    def wait(self, revision: int, seconds: float):
-        """Waits for a record that was put after a revision, at most for so long."""
-        prefix = self.key("record")
-        self.etcd.wait(prefix, after(prefix), revision, seconds)
+    def check_kept(self, first: int) -> None:
+        """OtherHistory where the log was cleared while it was read, so that what wasn't found may have been there."""
+        self.check_behind(first, self.cleared())
 
-    def publish(self, first: int, answers: List[bytes]):
-        """Puts the lines that answer records, the first of which has this number. Differs where others stand there."""
-        keyed = [(self.numbered("lines", first + at), self.values.stored(lines)) for at, lines in enumerate(answers)]
-        for part in parts(keyed, MOST_PUBLISHED):
-            self.settle(part, lambda key: f"the lines of record {number_in(key)}")
+    def wait(self, revision: int, seconds: float) -> None:
+        """Waits until the last record is another one than at a revision, at most for so long."""
+        self.etcd.wait(self.keys.last, self.keys.last + b"\0", revision, seconds)
 
-    def publish_saved(self, number: int, digest: str):
-        """Puts the digest of the ledger that was saved after a record. Differs where another one stands there."""
-        keyed = [(self.numbered("saved", number), self.values.stored(digest.encode()))]
-        self.settle(keyed, lambda key: f"the ledger saved after record {number}")
-
-    def settle(self, keyed: List[Tuple[bytes, bytes]], what: Callable[[bytes], str]):
-        """Compares each value with what stands under its key, and puts it where nothing does. Differs where another one stands.
-        Keys ascend. What stands is read first, since a replica is mostly not the first one, and a read costs the log less."""
-        is_done = False
-        while not is_done:
-            there = dict(self.etcd.range(keyed[0][0], keyed[-1][0] + b"\0", len(keyed)).entries)
-            for key, value in keyed:
-                if there.get(key, value) != value:
-                    raise Differs(f"{what(key)}: {told(there[key])} stands in the log, and {told(value)} was made")
-            left = [(key, value) for key, value in keyed if key not in there]
-            is_done = not left or self.etcd.transact([absent(key) for key, _ in left], [put(*one) for one in left], [])[0]
-
-    def lines(self, number: int) -> Optional[bytes]:
-        """The lines that answer a record, where a replica has published them."""
-        value = self.etcd.get(self.numbered("lines", number))
-        return None if value is None else self.values.content(value)
-
-    def wait_for_lines(self, number: int, seconds: float):
-        """Waits until a record may be answered, at most for so long."""
-        key = self.numbered("lines", number)
-        found = self.etcd.range(key, key + b"\0", 1)
-        if not found.entries:
-            self.etcd.wait(key, key + b"\0", found.revision, seconds)
-
-    def all_lines(self) -> List[bytes]:
-        """All lines that stand in the log, from the first record on. LogError where those of one are missing."""
-        answers: List[bytes] = []
-        while True:
-            entries = self.found_from("lines", len(answers) + 1, MOST_READ).entries
-            if not entries:
-                return answers
-            for entry in entries:
-                if number_in(entry.key) != len(answers) + 1:
-                    raise LogError(f"the lines of record {len(answers) + 1} aren't in the log")
-                answers.append(self.values.content(entry.value))
+    def wait_for_replicas(self, revision: int, seconds: float) -> None:
+        """Waits until a replica has put something after a revision, at most for so long."""
+        self.etcd.wait(self.keys.by_replicas, after(self.keys.by_replicas), revision, seconds)
 
 
-def number_in(text: Optional[bytes]) -> int:
-    """The number that a key or a value ends in; 0 where there is none."""
-    return int(text[-16:], 16) if text else 0
+class Appending:
+    """A few records on their way into the log, put in one transaction."""
 
+    def __init__(self, log: Log, offers: List[Offer], submitter: str, quota: int) -> None:
+        self.log = log
+        self.etcd = log.etcd
+        self.keys = log.keys
+        self.submitter = submitter
+        self.quota = quota
+        self.numbers: Dict[str, int] = {}
+        self.left = [(offer, written(offer.id, submitter, offer.record)) for offer in offers]
+        self.ids = [offer.id for offer in offers]
+        self.last = 0
+        self.used: Optional[bytes] = None
 
-def parts(keyed: List[Tuple], most: int) -> List[List[Tuple]]:
-    """Pairs in parts that a transaction takes."""
-    cut: List[List[Tuple]] = []
-    size = 0
-    for key, value in keyed:
-        if not cut or len(cut[-1]) == most or size + len(value) > MOST_BYTES:
-            cut.append([])
-            size = 0
-        cut[-1].append((key, value))
-        size += len(value)
-    return cut
+    def put_after(self, last: int) -> List[int]:
+        """Puts them after the record that is taken for the last, or after the one that is."""
+        self.last = last
+        self.used = self.etcd.get(self.keys.used(self.submitter))
+        self.put_pieces()
+        while self.left:
+            self.put_left()
+        return [self.numbers[name] for name in self.ids]
+
+    def put_pieces(self) -> None:
+        """Puts the pieces of those that have any, where the quota has room for them."""
+        for offer, _ in self.left:
+            if count_of_pieces(offer.record) and self.etcd.get(self.keys.id(offer.id)) is None:
+                self.check_quota()
+                put_pieces(self.etcd, self.keys, offer.id, offer.record)
+
+    def used_then(self) -> int:
+        """How many bytes the submitter has in the log with these."""
+        return size_in(self.used) + sum(counted_size(offer.record) for offer, _ in self.left)
+
+    def is_above_quota(self) -> bool:
+        return 0 < self.quota < self.used_then()
+
+    def check_quota(self) -> None:
+        """Refused where the submitter would have too many bytes in the log."""
+        if self.is_above_quota():
+            raise Refused(f"{self.submitter} has {size_in(self.used)} bytes in the log, and may have {self.quota}")
+
+    def put_left(self) -> None:
+        """Tries to put those that aren't there. What is found, where that fails, is what the next try begins with. What is there
+        already is found at the quota too."""
+        ids = [self.keys.id(offer.id) for offer, _ in self.left]
+        asked = [*map(get, ids), get(self.keys.last), get(self.keys.used(self.submitter))]
+        if self.is_above_quota():
+            found = self.etcd.transact([], asked, [])[1]
+        else:
+            is_done, found = self.etcd.transact(self.conditions(ids), self.puts(ids), asked)
+            if is_done:
+                self.numbers.update((offer.id, self.last + at) for at, (offer, _) in enumerate(self.left, 1))
+                self.left = []
+                return
+        self.take_over(found)
+
+    def conditions(self, ids: List[bytes]) -> List[Body]:
+        pieces = [some_under(self.keys.pieces(offer.id)) for offer, _ in self.left if count_of_pieces(offer.record)]
+        last = numbered(self.last) if self.last else None
+        return [*map(absent, ids), equal(self.keys.last, last), equal(self.keys.used(self.submitter), self.used), *pieces]
+
+    def puts(self, ids: List[bytes]) -> List[Body]:
+        numbers = range(self.last + 1, self.last + 1 + len(self.left))
+        puts = [put(self.keys.record(number), value) for number, (_, value) in zip(numbers, self.left)]
+        puts += [put(key, numbered(number)) for key, number in zip(ids, numbers)]
+        used = str(self.used_then()).encode()
+        return [*puts, put(self.keys.last, numbered(numbers[-1])), put(self.keys.used(self.submitter), used)]
+
+    def take_over(self, found: List[List[Entry]]) -> None:
+        """Takes over what stands in the log by now."""
+        known: List[Tuple[Offer, bytes]] = []
+        before = (self.last, self.used)
+        for (offer, value), entries in zip(self.left, found):
+            text = value_of(entries)
+            if text is None:
+                known.append((offer, value))
+            else:
+                self.numbers[offer.id] = self.number_of(offer.id, text, value)
+        is_none_known = len(known) == len(self.left)
+        self.left = known
+        self.last, self.used = self.log.last_of(value_of(found[-2])), value_of(found[-1])
+        if is_none_known and before == (self.last, self.used):
+            self.check_quota()
+            self.put_pieces()
+
+    def number_of(self, name: str, text: bytes, value: bytes) -> int:
+        """The number that an id has. LogError where that is another record's."""
+        number = number_in(text)
+        if number is None or self.etcd.get(self.keys.record(number)) != value:
+            raise LogError(f"the id {name} is that of record {number}, which is another one or isn't kept any more")
+        return number

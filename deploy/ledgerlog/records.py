@@ -7,6 +7,10 @@ from .errors import NotWhole
 MOST_BYTES = 33_554_432
 # So many bits have the bytes that a length may take, seven each.
 LENGTH_BITS = 28
+# The kinds that change nothing: show and audit.
+QUESTIONS = (3, 4)
+# The records by the words that a replica is asked them by.
+ASKED = {"show": b"\3\0", "show json": b"\3\1\1", "audit": b"\4\0", "audit json": b"\4\1\1"}
 
 
 def end_of_record(data: bytes, at: int) -> int:
@@ -31,7 +35,7 @@ def end_of_record(data: bytes, at: int) -> int:
     return place + length
 
 
-def check_one(data: bytes):
+def check_one(data: bytes) -> None:
     """NotWhole where bytes aren't exactly one whole record."""
     end = end_of_record(data, 0)
     if end < len(data):
@@ -48,3 +52,15 @@ def records_of(data: bytes) -> Iterator[bytes]:
             raise NotWhole(f"at the byte {at}: {why}") from None
         yield data[at:end]
         at = end
+
+
+def is_question(record: bytes) -> bool:
+    """Whether a whole record is a show or an audit, whose answer nothing after it depends on."""
+    return record[0] in QUESTIONS
+
+
+def check_put(data: bytes) -> None:
+    """NotWhole where bytes aren't exactly one whole record that is put into a log."""
+    check_one(data)
+    if is_question(data):
+        raise NotWhole("shows and audits are asked of a replica (deploy/ask) and not put into the log")

@@ -1,4 +1,4 @@
-"""The saved ledgers of a replica: files of one folder, each named by the number of the last record in it."""
+"""The saved ledgers of a replica: files of one folder, each named by the last record in it and by the log that this is of."""
 
 import fcntl
 import glob
@@ -7,41 +7,56 @@ import os
 import re
 import secrets
 import shutil
+import time
 from typing import List, NamedTuple, Optional
 
-SAVED = re.compile(r"ledger-(\d{16})")
+NAME = re.compile(r"ledger-(\d{16})-([0-9a-f]{32})")
 REFUSED = ".refused"
-# How many saved ledgers are kept.
+# So many of the newest saves are kept, and so many of those that all replicas make.
 KEPT = 2
+# So many files that were set aside are kept.
+KEPT_REFUSED = 2
 UNNUMBERED = "unnumbered-"
+STOPPED = "STOPPED"
+SOCKET = "socket"
+MARK_BYTES = 4
+LOCK_SECONDS = 5.0
 
 
 class Save(NamedTuple):
-    """A saved ledger, and the number of the last record in it."""
+    """A saved ledger, the number of the last record in it, and the id of the log that it was made of."""
 
     number: int
+    log_id: str
     path: str
 
-    def digest(self) -> str:
-        """The SHA-256 of its bytes."""
-        sha = hashlib.sha256()
-        with open(self.path, "rb") as file:
-            for part in iter(lambda: file.read(1 << 20), b""):
-                sha.update(part)
-        return sha.hexdigest()
+    def vote(self) -> bytes:
+        return vote_on(self.path)
 
 
-def name_of(number: int) -> str:
-    return f"ledger-{number:016d}"
+def vote_on(path: str) -> bytes:
+    """What is put for a saved ledger: its form, which its first bytes tell, and its SHA-256. OSError where it can't be read."""
+    sha = hashlib.sha256()
+    mark = b""
+    with open(path, "rb") as file:
+        for part in iter(lambda: file.read(1 << 20), b""):
+            mark = mark or part[:MARK_BYTES]
+            sha.update(part)
+    form = mark if mark.isalnum() else mark.hex().encode() or b"-"
+    return form + b" " + sha.hexdigest().encode()
+
+
+def name_of(number: int, log_id: str) -> str:
+    return f"ledger-{number:016d}-{log_id}"
 
 
 def saves_in(folder: str) -> List[Save]:
     """The saved ledgers of a folder, the newest first."""
-    found = [(SAVED.fullmatch(name), name) for name in os.listdir(folder)]
-    return sorted((Save(int(at.group(1)), os.path.join(folder, name)) for at, name in found if at), reverse=True)
+    found = [(NAME.fullmatch(name), name) for name in os.listdir(folder)]
+    return sorted((Save(int(at.group(1)), at.group(2), os.path.join(folder, name)) for at, name in found if at), reverse=True)
 
 
-def sync_folder(folder: str):
+def sync_folder(folder: str) -> None:
     """Waits until the disk has a folder's names."""
     number = os.open(folder, os.O_RDONLY)
     try:
@@ -50,44 +65,101 @@ def sync_folder(folder: str):
         os.close(number)
 
 
+def sync_file(path: str) -> None:
+    """Waits until the disk has what a file holds."""
+    with open(path, "rb") as file:
+        os.fsync(file.fileno())
+
+
+def locked(folder: str) -> int:
+    """A lock on a folder, which lasts until this is closed. OSError where another replica has it. It is waited for a little: a
+    program that a killed replica was just starting may have it still."""
+    number = os.open(folder, os.O_RDONLY)
+    ends = time.monotonic() + LOCK_SECONDS
+    while True:
+        try:
+            fcntl.flock(number, fcntl.LOCK_EX | fcntl.LOCK_NB)
+            return number
+        except OSError:
+            if time.monotonic() > ends:
+                os.close(number)
+                raise
+        time.sleep(0.05)
+
+
 class Saves:
     """The folder of one replica. OSError where it can't be made or written, or another replica has it."""
 
-    def __init__(self, folder: str):
+    def __init__(self, folder: str) -> None:
         os.makedirs(folder, exist_ok=True)
         self.folder = folder
-        self.lock = os.open(folder, os.O_RDONLY)
-        fcntl.flock(self.lock, fcntl.LOCK_EX | fcntl.LOCK_NB)
+        self.lock = locked(folder)
         for left in glob.glob(os.path.join(glob.escape(folder), UNNUMBERED + "*")):
             os.remove(left) if os.path.isfile(left) else shutil.rmtree(left, ignore_errors=True)
         # A name of its own, since a program that a killed replica left behind may still be saving.
         self.unnumbered = os.path.join(folder, UNNUMBERED + secrets.token_hex(8))
         os.mkdir(self.unnumbered)
 
-    def newest(self) -> Optional[Save]:
-        return next(iter(saves_in(self.folder)), None)
+    def path(self, name: str) -> str:
+        return os.path.join(self.folder, name)
+
+    def all(self) -> List[Save]:
+        """Those that are there, the newest first."""
+        return saves_in(self.folder)
 
     def new(self) -> str:
         """Where the program is to save: the number isn't known yet."""
         return os.path.join(self.unnumbered, "ledger")
 
-    def keep(self, number: int) -> Save:
-        """Gives the ledger that was saved its number, and forgets those that are too old, when the disk has the new one."""
-        save = Save(number, os.path.join(self.folder, name_of(number)))
-        with open(self.new(), "rb") as file:
-            os.fsync(file.fileno())
+    def keep(self, number: int, log_id: str, every: int) -> Save:
+        """Gives the ledger that was saved its name, and forgets those that are too old, when the disk has the new one. `every` is
+        that of the log."""
+        save = Save(number, log_id, self.path(name_of(number, log_id)))
+        sync_file(self.new())
         os.rename(self.new(), save.path)
         sync_folder(self.folder)
-        for old in saves_in(self.folder)[KEPT:]:
-            os.remove(old.path)
+        there = self.all()
+        common = [one for one in there if one.number % every == 0]
+        for old in there:
+            if old not in there[:KEPT] and old not in common[:KEPT]:
+                os.remove(old.path)
         return save
 
-    def set_aside(self, save: Save):
-        """Takes a saved ledger away that isn't loaded."""
+    def forget_new(self) -> None:
+        """Removes what was saved and has no name yet."""
+        if os.path.exists(self.new()):
+            os.remove(self.new())
+
+    def set_aside(self, save: Save) -> None:
+        """Takes a saved ledger away that isn't believed, and removes those that were set aside long ago."""
         os.rename(save.path, save.path + REFUSED)
+        found = [self.path(name) for name in os.listdir(self.folder) if name.endswith(REFUSED)]
+        for old in sorted(found, key=os.path.getmtime)[:-KEPT_REFUSED]:
+            os.remove(old)
         sync_folder(self.folder)
 
-    def close(self):
+    def stopped(self) -> Optional[str]:
+        """What this replica said when it differed, where nobody has looked since."""
+        try:
+            with open(self.path(STOPPED), encoding="utf-8") as file:
+                return file.read().strip()
+        except FileNotFoundError:
+            return None
+
+    def stop(self, text: str) -> None:
+        """Notes that the replica differs: it isn't started here again without a word."""
+        with open(self.path(STOPPED), "w", encoding="utf-8") as file:
+            file.write(text + "\n")
+            file.flush()
+            os.fsync(file.fileno())
+        sync_folder(self.folder)
+
+    def start_again(self) -> None:
+        """Forgets that the replica differed."""
+        os.remove(self.path(STOPPED))
+        sync_folder(self.folder)
+
+    def close(self) -> None:
         """Leaves the folder to another replica."""
         shutil.rmtree(self.unnumbered, ignore_errors=True)
         os.close(self.lock)

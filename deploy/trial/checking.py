@@ -1,33 +1,30 @@
 """Compares what the log and the replicas have in the end with one run of the program over the same records."""
 
-import os
-import re
 import subprocess
 from pathlib import Path
-from typing import Dict, List
+from typing import Dict, List, Tuple
 
-from ledgerlog.etcd import Etcd, put
+from ledgerlog.keys import LINES
 from ledgerlog.log import Log
-from ledgerlog.values import INLINE
+from ledgerlog.votes import MOST_COMPARED, Votes, majority
+from ledgerlog.written import Taken
 
 from .processes import Failed, ReplicaProcess, until
 
-NUMBER = re.compile(rb"(\d+) ")
 SAVE_SECONDS = 60.0
-STOP_SECONDS = 60.0
 
 
-def records_in(log: Log) -> List[bytes]:
-    """All records of a log."""
-    told: List[bytes] = []
+def taken_from(log: Log, first: int = 1) -> List[Taken]:
+    """All that a log has, from a number on."""
+    told: List[Taken] = []
     while True:
-        records = log.read(len(told) + 1).records
-        if not records:
+        read = log.read(first + len(told)).taken
+        if not read:
             return told
-        told += records
+        told += read
 
 
-def check_durable(records: List[bytes], durable: Dict[int, bytes]):
+def check_durable(records: List[bytes], durable: Dict[int, bytes]) -> None:
     """Failed where a record that was said to be durable isn't under its number, or the log has another one."""
     if len(records) != len(durable):
         raise Failed(f"the log has {len(records)} records, and {len(durable)} were said to be durable")
@@ -36,40 +33,50 @@ def check_durable(records: List[bytes], durable: Dict[int, bytes]):
         raise Failed(f"record {min(wrong)} isn't the one that was said to be durable")
 
 
-def applied(program: str, records: List[bytes], folder: Path) -> Path:
-    """Runs the program over the records: its report is put into a file beside the saved ledger, whose name this is."""
+def applied(program: str, records: List[bytes], folder: Path) -> Tuple[Path, List[bytes]]:
+    """Runs the program over the records: the name of the saved ledger, and the report line by line."""
     stream, saved, report = folder / "whole.stream", folder / "whole.ledger", folder / "whole.report"
     stream.write_bytes(b"".join(records))
     with open(report, "wb") as out:
         subprocess.run([program, "apply", "--save", str(saved), str(stream)], stdout=out, check=True)
+    return saved, report.read_bytes().splitlines(keepends=True)
+
+
+def final_lines(log: Log, last: int) -> List[bytes]:
+    """What is final for the records from 1 on. Failed where something isn't."""
+    votes = Votes(log.etcd, log.keys, log.settings().replicas)
+    lines: List[bytes] = []
+    while len(lines) < last:
+        first = len(lines) + 1
+        end = min(last, first + MOST_COMPARED - 1)
+        found = votes.since([(name, LINES, first, end) for name in votes.replicas])
+        there = [{vote.number: vote.value for vote in one} for one in found]
+        for number in range(first, end + 1):
+            given = {name: one[number] for name, one in zip(votes.replicas, there) if number in one}
+            value = majority(LINES, given, len(votes.replicas))
+            if value is None:
+                raise Failed(f"record {number} isn't answered by a majority: {given}")
+            lines.append(value)
+    return lines
+
+
+def check_whole(log: Log, program: str, folder: Path, last: int) -> Path:
+    """Failed where the final lines aren't those of one run of the program over the records that aren't skipped, with the log's
+    numbers. Where that run saves its ledger."""
+    taken = taken_from(log)
+    saved, report = applied(program, [one.record for one in taken if one.why is None], folder)
+    answers = iter(report)
+    for number, (one, lines) in enumerate(zip(taken, final_lines(log, last)), 1):
+        wanted = b"skipped %s\n" % one.why.encode() if one.why else next(answers, b"0 \n").split(b" ", 1)[1]
+        if lines != b"%d %s" % (number, wanted):
+            raise Failed(f"record {number} is answered {lines!r}, and one run of the program says {wanted!r}")
     return saved
 
 
-def check_lines(answers: List[bytes], report: bytes):
-    """Failed where the lines in the log aren't the report, byte by byte."""
-    together = b"".join(answers)
-    if together != report:
-        at = len(os.path.commonprefix([together, report]))
-        number = NUMBER.match(report, report.rfind(b"\n", 0, at) + 1)
-        raise Failed(f"the lines in the log differ from the report at the byte {at}, record {number and number.group(1)}")
-
-
-def check_saves(replicas: List[ReplicaProcess], number: int, saved: Path):
+def check_saves(replicas: List[ReplicaProcess], number: int, saved: Path) -> None:
     """Failed where a replica doesn't save the whole ledger, or another one than the program."""
     for replica in replicas:
         newest = lambda: replica.saves() and replica.saves()[0].number == number and replica.saves()[0]  # noqa: E731
         save = until(newest, SAVE_SECONDS, f"{replica.name} has saved record {number}")
         if Path(save.path).read_bytes() != saved.read_bytes():
             raise Failed(f"{save.path} isn't the ledger that the program saves")
-
-
-def check_that_it_differs(log: Log, replica: ReplicaProcess, number: int):
-    """Alters the lines of a record, one byte of them, and wants a new replica to stop."""
-    lines = log.lines(number)
-    other = INLINE + lines[:-2] + bytes([lines[-2] ^ 1]) + lines[-1:]
-    Etcd.put(log.etcd, log.numbered("lines", number), other)
-    replica.start()
-    until(lambda: not replica.is_running(), STOP_SECONDS, "a replica that makes other lines stops")
-    log.etcd.transact([], [put(log.numbered("lines", number), log.values.stored(lines))], [])
-    if replica.process.wait() != 1 or f"REPLICAS DIFFER: the lines of record {number}:" not in replica.told():
-        raise Failed(f"a replica that makes other lines ends with the status {replica.process.wait()}: {replica.told()}")

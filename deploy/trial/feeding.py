@@ -1,15 +1,14 @@
 """Puts the records of the trial into the log, from several threads at once, and keeps what was said to be durable."""
 
 import random
-import subprocess
 import threading
 import time
-from typing import Dict, List
+from typing import Dict, Iterable, List, Tuple
 
 from ledgerlog.etcd import Etcd
 from ledgerlog.log import Log, Offer
 
-from .processes import DEPLOY, Failed
+from .processes import Failed, command
 
 THREADS = 3
 PATIENCE = 120.0
@@ -20,7 +19,7 @@ SLOW_SECONDS = 1.0
 class Feeding:
     """Records on their way into a log. `durable` has the records by the number that the log gave to each."""
 
-    def __init__(self, addresses: List[str], ledger: str, seed: int):
+    def __init__(self, addresses: List[str], ledger: str, seed: int) -> None:
         self.addresses = addresses
         self.ledger = ledger
         self.random = random.Random(seed)
@@ -52,7 +51,7 @@ class Feeding:
             taken, self.left = self.left[:most], self.left[most:]
         return taken
 
-    def work(self, seed: int):
+    def work(self, seed: int) -> None:
         draw = random.Random(seed)
         try:
             log = self.log()
@@ -64,32 +63,32 @@ class Feeding:
         except Exception as error:  # noqa: BLE001
             self.errors.append(error)
 
-    def put(self, log: Log, offers: List[Offer], draw: random.Random):
+    def put(self, log: Log, offers: List[Offer], draw: random.Random) -> None:
         """Puts a few records; some are put again, and have to stay where they are."""
-        numbers = list(log.append(offers))
-        if draw.random() < 0.1 and list(log.append(offers)) != numbers:
+        settings = log.settings()
+        numbers = list(log.append(offers, "trial", settings))
+        if draw.random() < 0.1 and list(log.append(offers, "trial", settings)) != numbers:
             raise Failed("a record that is put again has another number")
         self.keep(zip(numbers, (offer.record for offer in offers)))
 
-    def keep(self, pairs):
+    def keep(self, pairs: Iterable[Tuple[int, bytes]]) -> None:
         with self.lock:
             for number, record in pairs:
                 if number in self.durable:
                     raise Failed(f"two records have the number {number}")
                 self.durable[number] = record
 
-    def submit(self, record: bytes):
+    def submit(self, record: bytes) -> None:
         """Puts a record by the command, which waits for its lines."""
-        words = [str(DEPLOY / "submit"), "--wait", "--seconds", str(PATIENCE), "--log", ",".join(self.addresses), "--ledger",
-                 self.ledger, "-"]
-        done = subprocess.run(words, input=record, stdout=subprocess.PIPE, stderr=subprocess.PIPE)
-        number, _, lines = done.stdout.partition(b"\n")
-        if done.returncode != 0 or not lines.startswith(number + b" "):
-            raise Failed(f"submit ended with the status {done.returncode}: {done.stdout} {done.stderr}")
+        words = ["--wait", "--seconds", PATIENCE, "--log", ",".join(self.addresses), "--ledger", self.ledger, "-"]
+        it = command("submit", *words, given=record)
+        number, _, lines = it.stdout.partition(b"\n")
+        if it.returncode != 0 or not lines.startswith(number + b" "):
+            raise Failed(f"submit ended with the status {it.returncode}: {it.stdout!r} {it.stderr!r}")
         self.keep([(int(number), record)])
         self.by_command += 1
 
-    def done(self, threads: List[threading.Thread]):
+    def done(self, threads: List[threading.Thread]) -> None:
         """Waits until all is put."""
         for thread in threads:
             thread.join()

@@ -1,4 +1,4 @@
-"""The records of the trial: publishes, runs, refused ones, shows and audits, made at random from a seed."""
+"""The records of the trial: publishes, runs, and refused ones, made at random from a seed."""
 
 import random
 from typing import List
@@ -52,34 +52,44 @@ def address(number: int) -> bytes:
 def published(place: int, sender: int, certificate: str) -> bytes:
     """A record that publishes a coin's module at an address."""
     text = COIN % {"place": place, "sender": sender, "certificate": certificate}
-    return TextAssembler(Source("coin", text), "", Prover()).bytes()
+    return bytes(TextAssembler(Source("coin", text), "", Prover()).bytes())
 
 
-def run(module: int, function: str, sender: int, arguments, budget: int = 100) -> bytes:
-    return write_record(model.Run(address(sender), address(module), "M", function, budget, arguments))
+def run(module: int, function: str, sender: int, arguments: List[Value], budget: int = 100) -> bytes:
+    return bytes(write_record(model.Run(address(sender), address(module), "M", function, budget, arguments)))
+
+
+def sized(kind: int, payload: bytes) -> bytes:
+    return bytes([kind]) + bytes(write_sized(payload))
 
 
 class Given:
     """Makes records."""
 
-    def __init__(self, seed: int):
+    def __init__(self, seed: int) -> None:
         self.random = random.Random(seed)
+        self.fresh = 0
         self.coins = [published(place, place, CERTIFICATE) for place in range(1, MODULES + 1)]
         self.other_coins = [published(place, sender, certificate) for place in range(1, MODULES // 2)
                             for sender, certificate in ((place, "01000100010100"), (MODULES + 1, CERTIFICATE))]
-        self.kinds = {self.mint: 55, self.burn: 15, self.rejected: 8, self.refused: 5, self.unknown: 6, self.misshapen: 4,
-                      self.audit: 6, self.show: 1}
+        self.kinds = {self.mint: 55, self.burn: 15, self.rejected: 8, self.refused: 5, self.unknown: 6, self.misshapen: 4}
 
     def records(self, count: int) -> List[bytes]:
         """So many records; the modules are published within the first half."""
         kinds, weights = list(self.kinds), list(self.kinds.values())
         made = [make() for make in self.random.choices(kinds, weights, k=count)]
+        if count < 4 * MODULES:
+            return [*self.coins, *made][:count]
         for place, coin in enumerate(self.coins):
             made[place * count // (2 * MODULES)] = coin
-        made[count // 3] = bytes([UNKNOWN_KIND]) + write_sized(bytes(LARGE_BYTES))
+        made[count // 3] = sized(UNKNOWN_KIND, bytes(LARGE_BYTES))
         if count >= LARGEST_FROM:
-            made[count // 2 + 1] = bytes([UNKNOWN_KIND]) + write_sized(bytes(LARGEST_BYTES))
+            made[count // 2 + 1] = sized(UNKNOWN_KIND, bytes(LARGEST_BYTES))
         return made
+
+    def next(self) -> bytes:
+        """One more record."""
+        return bytes(self.random.choices(list(self.kinds), list(self.kinds.values()))[0]())
 
     def module(self) -> int:
         return self.random.randrange(1, MODULES + 1)
@@ -87,12 +97,17 @@ class Given:
     def sender(self) -> int:
         return self.random.randrange(1, SENDERS + 1)
 
-    def bytes(self) -> bytes:
+    def some_bytes(self) -> bytes:
         return bytes(self.random.choices(range(256), k=self.random.randrange(40)))
 
     def mint(self) -> bytes:
         """A mint, which is given up where the sender has such a coin."""
         return run(self.module(), "mint", self.sender(), [Value(model.U64, self.random.getrandbits(64))])
+
+    def fresh_mint(self) -> bytes:
+        """A mint by a sender who has no coin yet, which returns."""
+        self.fresh += 1
+        return run(1, "mint", SENDERS + self.fresh, [Value(model.U64, 7)])
 
     def burn(self) -> bytes:
         """A burn, which is given up where there is no such coin."""
@@ -109,15 +124,9 @@ class Given:
         return self.random.choice([*self.coins, *self.other_coins])
 
     def unknown(self) -> bytes:
-        return bytes([UNKNOWN_KIND]) + write_sized(self.bytes())
+        return sized(UNKNOWN_KIND, self.some_bytes())
 
     def misshapen(self) -> bytes:
         """A record whose payload isn't of its kind's shape."""
-        kind = self.random.randrange(1, 5)
-        return bytes([kind]) + write_sized(b"\x02" + self.bytes())
-
-    def audit(self) -> bytes:
-        return write_record(model.Audit(self.random.random() < 0.5))
-
-    def show(self) -> bytes:
-        return write_record(model.Show(self.random.random() < 0.5))
+        kind = self.random.randrange(1, 3)
+        return sized(kind, b"\x02" + self.some_bytes())

@@ -2,12 +2,13 @@
 
 import ctypes
 import os
+import random
 import re
 import socket
 import subprocess
 import time
 from pathlib import Path
-from typing import Callable, List, Optional
+from typing import Any, Callable, Dict, List, Optional, Sequence
 
 from ledgerlog.saves import Save, saves_in
 
@@ -21,7 +22,7 @@ class Failed(Exception):
     """What isn't as it has to be."""
 
 
-def until(condition: Callable, seconds: float, what: str):
+def until(condition: Callable[[], Any], seconds: float, what: str) -> Any:
     """Waits until something holds, and gives it. Failed where it doesn't within so many seconds."""
     ends = time.monotonic() + seconds
     while True:
@@ -33,14 +34,31 @@ def until(condition: Callable, seconds: float, what: str):
         time.sleep(0.02)
 
 
-def adopt():
+def command(name: str, *words: object, given: bytes = b"") -> "subprocess.CompletedProcess[bytes]":
+    """Runs one of the commands to its end."""
+    asked = [str(DEPLOY / name), *map(str, words)]
+    return subprocess.run(asked, input=given, stdout=subprocess.PIPE, stderr=subprocess.PIPE)
+
+
+def done(name: str, *words: object, given: bytes = b"", status: int = 0, says: str = "") -> str:
+    """As `command`, and Failed where it doesn't end with this status, or doesn't say this. What it printed."""
+    it = command(name, *words, given=given)
+    if it.returncode != status or says not in (it.stdout + it.stderr).decode("utf-8", "replace"):
+        raise Failed(f"deploy/{name} {' '.join(map(str, words))} ends with the status {it.returncode}: {it.stdout!r} "
+                     f"{it.stderr!r}")
+    return it.stdout.decode("utf-8", "replace").strip()
+
+
+def adopt() -> None:
     """Makes this process the parent of what a killed replica leaves, so that it can wait for that too."""
     ctypes.CDLL(None).prctl(SUBREAPER, 1, 0, 0, 0)
 
 
 def free_ports() -> int:
-    """The first of six ports that nothing listens at."""
-    for first in range(24_000, 32_000, 10):
+    """The first of six ports that nothing listens at; any of them, since another trial may run whose nodes are down just now."""
+    places = list(range(24_000, 32_000, 10))
+    random.SystemRandom().shuffle(places)
+    for first in places:
         try:
             for port in range(first, first + 2 * NODES):
                 with socket.socket() as one:
@@ -54,22 +72,24 @@ def free_ports() -> int:
 class Started:
     """One program of the trial, which may be started again; what it says on standard error is kept."""
 
-    def __init__(self, words: List[str], errors: Path):
+    def __init__(self, words: Sequence[object], errors: Path) -> None:
         self.words = [str(word) for word in words]
         self.errors = errors
-        self.process: Optional[subprocess.Popen] = None
+        self.process: Optional["subprocess.Popen[bytes]"] = None
 
-    def start(self):
+    def start(self) -> None:
         with open(self.errors, "ab") as errors:
             self.process = subprocess.Popen(self.words, stdin=subprocess.DEVNULL, stdout=errors, stderr=errors)
 
-    def kill(self):
+    def kill(self) -> None:
         """kill -9."""
+        assert self.process is not None
         self.process.kill()
         self.process.wait()
 
     def stop(self) -> int:
         """Asks it to end, and gives its status."""
+        assert self.process is not None
         self.process.terminate()
         return self.process.wait(END_SECONDS)
 
@@ -83,9 +103,17 @@ class Started:
 class Node(Started):
     """A node of the log."""
 
-    def __init__(self, folder: Path, number: int, port: int):
-        words = [DEPLOY / "node", "--folder", folder / "log", "--port", port, number]
-        super().__init__(words, folder / f"node{number}.errors")
+    def __init__(self, folder: Path, number: int, port: int, *options: object) -> None:
+        self.base: List[object] = [DEPLOY / "node", "--folder", folder / "log", "--port", port, *options]
+        self.number = number
+        self.folder = folder / "log" / f"node{number}"
+        super().__init__([*self.base, number], folder / f"node{number}.errors")
+
+    def start_in_place(self) -> None:
+        """Starts it as one that takes the place of a lost one; it is what it is from then on."""
+        before, self.words = self.words, [str(word) for word in [*self.base, "--existing", self.number]]
+        self.start()
+        self.words = before
 
 
 class ReplicaProcess(Started):
@@ -93,8 +121,8 @@ class ReplicaProcess(Started):
 
     END = re.compile(r"up to its end, record (\d+)")
 
-    def __init__(self, words: List[str], name: str, saves: Path, errors: Path):
-        super().__init__([DEPLOY / "replica", *words, saves], errors)
+    def __init__(self, words: Sequence[object], name: str, saves: Path, errors: Path) -> None:
+        super().__init__([DEPLOY / "replica", *words, "--name", name, saves], errors)
         self.name = name
         self.folder = saves
 
@@ -108,24 +136,47 @@ class ReplicaProcess(Started):
         began = time.monotonic()
         self.start()
 
-        def is_back():
+        def is_back() -> bool:
             self.check()
             return any(int(at) >= number for at in self.END.findall(self.told()[before:]))
 
         until(is_back, seconds, f"{self.name} has answered record {number}")
         return time.monotonic() - began
 
-    def check(self):
+    def ends(self, status: int, text: str, seconds: float = 60.0) -> str:
+        """Waits until it has ended with this status and has said this text, and gives the line."""
+        until(lambda: not self.is_running(), seconds, f"{self.name} ends: it has said {self.told()[-400:]}")
+        assert self.process is not None
+        lines = [line for line in self.told().splitlines() if text in line]
+        if self.process.returncode != status or not lines:
+            raise Failed(f"{self.name} ends with the status {self.process.returncode}: {self.told()[-400:]}")
+        return lines[-1]
+
+    def says(self, text: str, before: int = 0, seconds: float = 60.0) -> str:
+        """Waits until it has said this, behind so much that it has said before, and gives the line."""
+        found = lambda: [line for line in self.told()[before:].splitlines() if text in line]  # noqa: E731
+        return str(until(found, seconds, f"{self.name} says `{text}`; it has said {self.told()[before:][-400:]}")[-1])
+
+    def status(self) -> Dict[str, str]:
+        """What it says of itself."""
+        done = command("replica", "--status", self.folder)
+        return dict(line.split(": ", 1) for line in done.stdout.decode().splitlines())
+
+    def check(self) -> None:
         """Failed where it has ended."""
         if not self.is_running():
             raise Failed(f"{self.name} has ended: {self.told()[-400:]}")
 
 
-def end_all(started: List[Started]):
-    """Ends everything, and waits for what killed replicas left."""
+def end_all(started: Sequence[Started]) -> None:
+    """Ends these."""
     for one in started:
         if one.is_running():
             one.kill()
+
+
+def wait_for_left() -> None:
+    """Waits for what killed replicas left, when all that was started has ended."""
     ends = time.monotonic() + END_SECONDS
     while time.monotonic() < ends:
         try:

@@ -1,11 +1,11 @@
 """What `submit` has to refuse: bytes that aren't exactly one whole record."""
 
-import subprocess
-from typing import List
+from typing import Sequence
 
-from .processes import DEPLOY, Failed
+from .processes import Failed, command
 
 REFUSED = 3
+QUESTIONS = {"a show": b"\3\0", "a show as JSON": b"\3\1\1", "an audit": b"\4\0", "an audit as JSON": b"\4\1\1"}
 # By what they show.
 NOT_WHOLE = {
     "nothing": b"",
@@ -20,10 +20,9 @@ NOT_WHOLE = {
 }
 
 
-def check_refusals(options: List[str]):
-    """Failed where `submit` takes one of them."""
-    for what, data in NOT_WHOLE.items():
-        words = [str(DEPLOY / "submit"), *options, "-"]
-        done = subprocess.run(words, input=data, stdout=subprocess.PIPE, stderr=subprocess.PIPE)
-        if done.returncode != REFUSED or done.stdout or b"isn't one whole record" not in done.stderr:
-            raise Failed(f"submit ends with the status {done.returncode} for {what}: {done.stdout} {done.stderr}")
+def check_refusals(options: Sequence[object]) -> None:
+    """Failed where `submit` takes one of them, or a question."""
+    for what, data in {**NOT_WHOLE, **QUESTIONS}.items():
+        it = command("submit", *options, "-", given=data)
+        if it.returncode != REFUSED or it.stdout or b"isn't one whole record" not in it.stderr:
+            raise Failed(f"submit ends with the status {it.returncode} for {what}: {it.stdout!r} {it.stderr!r}")

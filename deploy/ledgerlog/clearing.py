@@ -1,0 +1,166 @@
+"""What removes from a log what is no longer needed, and gives its room back."""
+
+from typing import Dict, List, NamedTuple, Optional, Set
+
+from .errors import LogError, Unreachable
+from .etcd import Etcd
+from .keys import LINES, PROGRAM, SAVED, number_in, size_in
+from .log import Log
+from .requests import Body, Entry, absent, after, delete, delete_range, equal, get, put, value_of
+from .votes import Votes
+from .written import Head, head_of
+
+# So many records are removed in one transaction: each with its id and its pieces, and what their submitters have.
+MOST_REMOVED = 30
+# So many of a replica's lines are removed at once.
+MOST_DELETED = 10_000
+# So long may a node take to compact or to defragment what it has.
+LONG_SECONDS = 1_800.0
+
+
+class Cleared(NamedTuple):
+    """Up to which record a log was cleared, how many of what were removed now, and which replicas haven't answered so far: they
+    need a save of another one."""
+
+    upto: int
+    records: int
+    orphans: int
+    behind: List[str]
+
+
+class Clearing:
+    """One clearing of a log, behind the newest save that a majority has put."""
+
+    def __init__(self, log: Log, keep: int) -> None:
+        self.log = log
+        self.etcd = log.etcd
+        self.keys = log.keys
+        self.settings = log.settings()
+        self.votes = Votes(log.etcd, log.keys, self.settings.replicas)
+        self.keep = keep
+
+    def run(self) -> Cleared:
+        """Clears the log. LogError where no majority has put the digest of a save."""
+        last = self.log.last()
+        agreed = self.votes.newest_agreed_save(last)
+        if agreed is None:
+            raise LogError("no majority of the replicas has put the digest of one save: nothing can be cleared")
+        before = self.etcd.entry(self.keys.cleared)
+        upto = max(int(before.value) if before else 0, min(agreed.number, last - self.keep))
+        self.etcd.put(self.keys.cleared, str(upto).encode())
+        behind = [name for name in self.votes.replicas if not self.has_answered(name, upto)]
+        removed = 0
+        entries = self.oldest(upto)
+        while entries:
+            self.remove(entries)
+            removed += len(entries)
+            entries = self.oldest(upto)
+        self.remove_votes(upto, agreed.number)
+        return Cleared(upto, removed, self.remove_orphans(before.changed if before else 0), behind)
+
+    def has_answered(self, name: str, number: int) -> bool:
+        newest = [*self.votes.newest(name, LINES), *self.votes.newest(name, SAVED)]
+        return number == 0 or any(vote.number >= number for vote in newest)
+
+    def oldest(self, upto: int) -> List[Entry]:
+        """The oldest keys of records up to one, those that are no number with them."""
+        return self.etcd.range(self.keys.records, self.keys.record(upto + 1), MOST_REMOVED).entries
+
+    def owned(self, entries: List[Entry]) -> List[Head]:
+        """What stands before those records whose ids are their own: what was put by hand may name another one's."""
+        heads = [(entry, head_of(entry.value)) for entry in entries]
+        told = [(entry, head) for entry, head in heads if head is not None]
+        ids = map(value_of, self.etcd.transact([], [get(self.keys.id(head.id)) for _, head in told], [])[1])
+        return [head for (entry, head), text in zip(told, ids) if text and number_in(text) == number_in(entry.key)]
+
+    def remove(self, entries: List[Entry]) -> None:
+        """Removes records, their ids and pieces, and takes their bytes off what their submitters have."""
+        heads = self.owned(entries)
+        while True:
+            used = {self.keys.used(head.submitter): self.etcd.get(self.keys.used(head.submitter)) for head in heads}
+            compare = [equal(key, value) for key, value in used.items()]
+            done: List[Body] = [delete(entry.key) for entry in entries]
+            for head in heads:
+                done.append(delete(self.keys.id(head.id)))
+                if head.is_in_pieces:
+                    done.append(delete_range(self.keys.pieces(head.id), after(self.keys.pieces(head.id))))
+            if self.etcd.transact(compare, done + self.given_back(heads, used), [])[0]:
+                return
+
+    def given_back(self, heads: List[Head], used: Dict[bytes, Optional[bytes]]) -> List[Body]:
+        """What submitters have in the log without these records."""
+        left = {key: size_in(value) for key, value in used.items()}
+        for head in heads:
+            left[self.keys.used(head.submitter)] -= head.size()
+        return [put(key, str(size).encode()) if size > 0 else delete(key) for key, size in left.items()]
+
+    def remove_votes(self, upto: int, saved: int) -> None:
+        """Removes the lines of the cleared records, digests of saves before the one that counts, and programs before the last."""
+        for name in self.votes.replicas:
+            for kind, end in ((LINES, upto + 1), (SAVED, saved)):
+                self.delete_up_to(name, kind, end)
+            programs = self.votes.newest(name, PROGRAM)
+            if programs:
+                self.delete_up_to(name, PROGRAM, min(programs[0].number, upto))
+
+    def delete_up_to(self, name: str, kind: str, end: int) -> None:
+        """Removes what a replica has put for the numbers before one, some at a time, so that no node is busy with it for long."""
+        first, last = self.keys.by(name, kind), self.keys.vote(name, kind, end)
+        while True:
+            there = self.etcd.range(first, last, 1, keys_only=True).entries
+            if not there:
+                return
+            number = number_in(there[0].key)
+            self.etcd.delete(first, last if number is None else min(last, self.keys.vote(name, kind, number + MOST_DELETED)))
+
+    def remove_orphans(self, since: int) -> int:
+        """Removes pieces that were put for a record which then wasn't, and were there when the log was last cleared, at this
+        change. Those that came since may belong to a record that is being put."""
+        before = len(self.keys.all_pieces)
+        there = self.etcd.range(self.keys.all_pieces, after(self.keys.all_pieces), 0, keys_only=True).entries
+        names: Set[bytes] = {entry.key[before:].partition(b"/")[0] for entry in there if entry.created < since}
+        count = 0
+        for name in sorted(names):
+            prefix = self.keys.all_pieces + name + b"/"
+            count += self.etcd.transact([absent(self.keys.ids + name)], [delete_range(prefix, after(prefix))], [])[0]
+        return count
+
+
+def patient(etcd: Etcd, addresses: List[str]) -> Etcd:
+    """A client of some nodes that waits for what takes a node long."""
+    made = Etcd(addresses, etcd.patience, etcd.access)
+    made.answer_seconds = LONG_SECONDS
+    return made
+
+
+def compact(etcd: Etcd, revision: int) -> None:
+    """Has etcd forget what was replaced and deleted up to a change, where it hasn't yet."""
+    try:
+        etcd.ask("/v3/kv/compaction", {"revision": str(revision), "physical": True})
+    except LogError as why:
+        if "compacted" not in str(why):
+            raise
+
+
+def defragment(node: Etcd) -> str:
+    """Has one node give back the room of what it forgot. What became of it; a node that is down is left out."""
+    address = node.addresses[0]
+    try:
+        before = int(node.ask("/v3/maintenance/status", {}).get("dbSize", 0))
+        node.ask("/v3/maintenance/defragment", {})
+        return f"{address} has {node.ask('/v3/maintenance/status', {}).get('dbSize', 0)} bytes, and had {before}"
+    except Unreachable:
+        return f"{address} doesn't answer"
+    finally:
+        node.close()
+
+
+def make_room(log: Log) -> str:
+    """Compacts the log, defragments one node after the other, and disarms the alarm that it is full. What it did."""
+    etcd = log.etcd
+    compact(patient(etcd, list(etcd.addresses)), etcd.range(log.keys.log, log.keys.log + b"\0", 1).revision)
+    told = [defragment(patient(etcd, [address])) for address in sorted(etcd.addresses)]
+    alarms = etcd.ask("/v3/maintenance/alarm", {"action": "GET"}).get("alarms", [])
+    for one in alarms:
+        etcd.ask("/v3/maintenance/alarm", {"action": "DEACTIVATE", "memberID": one.get("memberID", "0"), "alarm": one["alarm"]})
+    return "; ".join(told) + (f"; {len(alarms)} alarms are disarmed" if alarms else "")

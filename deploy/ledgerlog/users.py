@@ -1,0 +1,77 @@
+"""Makes the users of a log, each with a role of its own, and has etcd ask for their passwords from then on."""
+
+import os
+import secrets
+from typing import Dict, List, Tuple
+
+from .errors import LogError
+from .etcd import Etcd
+from .keys import Keys
+from .requests import after, coded
+
+ROOT = "root"
+READ, WRITE = "READ", "READWRITE"
+Grant = Tuple[str, bytes, bytes]
+
+
+def under(kind: str, prefix: bytes) -> Grant:
+    """A right to all keys that begin so."""
+    return kind, prefix, after(prefix)
+
+
+def roles_of(keys: Keys, replicas: List[str]) -> Dict[str, List[Grant]]:
+    """The rights of each role, by its name."""
+    name, reading = keys.ledger, under(READ, keys.all)
+    submitting = [under(WRITE, prefix) for prefix in (keys.records, keys.ids, keys.all_pieces, keys.used(""))]
+    roles = {
+        f"{name}-keeper": [under(WRITE, keys.all)],
+        f"{name}-submitter": [reading, *submitting, (WRITE, keys.last, b"")],
+        f"{name}-reader": [reading]}
+    for replica in replicas:
+        roles[f"{name}-by-{replica}"] = [reading, under(WRITE, keys.by_replicas + f"{replica}/".encode())]
+    return roles
+
+
+def unless_there(etcd: Etcd, path: str, body: Dict[str, object]) -> None:
+    """Asks for something to be made that may be there already."""
+    try:
+        etcd.ask(path, body)
+    except LogError as why:
+        if "already exists" not in str(why):
+            raise
+
+
+def make_role(etcd: Etcd, role: str, grants: List[Grant]) -> None:
+    unless_there(etcd, "/v3/auth/role/add", {"name": role})
+    for kind, first, end in grants:
+        allowed = {"permType": kind, "key": coded(first), "range_end": coded(end)}
+        etcd.ask("/v3/auth/role/grant", {"name": role, "perm": allowed})
+
+
+def new_password(folder: str, user: str) -> str:
+    """Makes a password, and writes it into a file that its owner alone may read. FileExistsError where there is one."""
+    password = secrets.token_urlsafe(24)
+    number = os.open(os.path.join(folder, f"{user}.password"), os.O_WRONLY | os.O_CREAT | os.O_EXCL, 0o600)
+    with os.fdopen(number, "w", encoding="ascii") as file:
+        file.write(password + "\n")
+        file.flush()
+        os.fsync(file.fileno())
+    return password
+
+
+def make_users(etcd: Etcd, keys: Keys, replicas: List[str], folder: str) -> List[str]:
+    """Makes what isn't there: a role and a user of the same name for each, and root. The users that were made. A user whose
+    password is in the folder already is left as it is."""
+    os.makedirs(folder, mode=0o700, exist_ok=True)
+    roles: Dict[str, List[Grant]] = {ROOT: [], **roles_of(keys, replicas)}
+    made: List[str] = []
+    for role, grants in roles.items():
+        make_role(etcd, role, grants)
+        if os.path.exists(os.path.join(folder, f"{role}.password")):
+            continue
+        password = new_password(folder, role)
+        etcd.ask("/v3/auth/user/add", {"name": role, "password": password})
+        etcd.ask("/v3/auth/user/grant", {"user": role, "role": role})
+        made.append(role)
+    etcd.ask("/v3/auth/enable", {})
+    return made

@@ -1,0 +1,130 @@
+"""What each replica has put under its own name for a number, and which of it is final: docs/REPLICAS.md has the rules."""
+
+from collections import Counter
+from typing import Dict, List, NamedTuple, Optional, Sequence, Tuple
+
+from .etcd import Etcd
+from .keys import PROGRAM, SAVED, Keys, number_in
+from .requests import Body, absent, after, equal, get, get_range, none_between, put, value_of
+
+# A transaction takes 128 operations.
+MOST_PUT = 100
+MOST_COMPARED = 100
+
+
+class Vote(NamedTuple):
+    """What a replica has put for a number."""
+
+    number: int
+    value: bytes
+
+
+def form_of(kind: str, value: bytes) -> bytes:
+    """What has to be equal for two values to be compared: saves of two forms differ, though the ledger is the same."""
+    return value.partition(b" ")[0] if kind == SAVED else b""
+
+
+def majority(kind: str, votes: Dict[str, bytes], size: int) -> Optional[bytes]:
+    """What more than half of a set of this size has put; None where there is no such value."""
+    for value, count in Counter(votes.values()).most_common(1):
+        if 2 * count > size:
+            return value
+    return None
+
+
+def decided_against(kind: str, votes: Dict[str, bytes], size: int, made: bytes) -> Optional[bytes]:
+    """What a majority has put in place of what was made; None where none has, or it can't be compared."""
+    value = majority(kind, votes, size)
+    return value if value not in (None, made) and form_of(kind, value or b"") == form_of(kind, made) else None
+
+
+class Votes:
+    """What the replicas of a set have put, as one of them or a reader sees it."""
+
+    def __init__(self, etcd: Etcd, keys: Keys, replicas: Sequence[str], own: Optional[str] = None) -> None:
+        self.etcd = etcd
+        self.keys = keys
+        self.replicas = tuple(replicas)
+        self.own = own if own in self.replicas else None
+
+    def others(self) -> List[str]:
+        return [name for name in self.replicas if name != self.own]
+
+    def of(self, kind: str, number: int) -> Dict[str, bytes]:
+        """What stands under a number, by the replicas of the set that have put anything."""
+        return self.of_at(kind, number)[0]
+
+    def of_at(self, kind: str, number: int) -> Tuple[Dict[str, bytes], int]:
+        """As `of`, and the number of the store's last change then."""
+        asked = [get(self.keys.vote(name, kind, number)) for name in self.replicas]
+        _, found, revision = self.etcd.transacted([], asked, [])
+        values = map(value_of, found)
+        return {name: value for name, value in zip(self.replicas, values) if value is not None}, revision
+
+    def final(self, kind: str, number: int) -> Optional[bytes]:
+        """What a majority of the set has put under a number."""
+        return majority(kind, self.of(kind, number), len(self.replicas))
+
+    def put(self, kind: str, made: List[Vote]) -> List[Vote]:
+        """Puts what this replica made, and gives those under whose numbers something else stands in its name already."""
+        left_out: List[Vote] = []
+        if self.own is None:
+            return left_out
+        for at in range(0, len(made), MOST_PUT):
+            part = [(self.keys.vote(self.own, kind, vote.number), vote) for vote in made[at:at + MOST_PUT]]
+            # One comparison for all of them, and one for each where that doesn't hold.
+            free = [none_between(part[0][0], part[-1][0] + b"\0")]
+            while not self.etcd.transact(free, [put(key, vote.value) for key, vote in part], [])[0]:
+                there = self.etcd.transact([], [get(key) for key, _ in part], [])[1]
+                values = list(zip(part, map(value_of, there)))
+                left_out += [vote for (_, vote), value in values if value not in (None, vote.value)]
+                part = [one for one, value in values if value is None]
+                free = [absent(key) for key, _ in part]
+        return left_out
+
+    def replace(self, kind: str, made: Vote) -> Tuple[bool, Dict[str, bytes]]:
+        """Puts what this replica made in place of something else in its own name, where a majority of the others has put the
+        same; whether that is done, and what all have put."""
+        assert self.own is not None
+        votes = self.of(kind, made.number)
+        others = {name: value for name, value in votes.items() if name != self.own}
+        if majority(kind, others, len(self.replicas)) != made.value:
+            return False, votes
+        compare: List[Body] = [equal(self.keys.vote(name, kind, made.number), votes.get(name)) for name in self.replicas]
+        done = self.etcd.transact(compare, [put(self.keys.vote(self.own, kind, made.number), made.value)], [])[0]
+        return done, votes
+
+    def since(self, asked: List[Tuple[str, str, int, int]]) -> List[List[Vote]]:
+        """What replicas have put, each question a name, a kind, and the first and the last number."""
+        bodies = [get_range(self.keys.vote(name, kind, first), self.keys.vote(name, kind, last + 1), MOST_COMPARED)
+                  for name, kind, first, last in asked]
+        found = self.etcd.transact([], bodies, [])[1]
+        return [[Vote(number, entry.value) for entry in entries for number in [number_in(entry.key)] if number is not None]
+                for entries in found]
+
+    def newest(self, name: str, kind: str, count: int = 1) -> List[Vote]:
+        """The last numbers for which a replica has put something, the highest first."""
+        prefix = self.keys.by(name, kind)
+        entries = self.etcd.range(prefix, after(prefix), count, last_first=True).entries
+        return [Vote(number, entry.value) for entry in entries for number in [number_in(entry.key)] if number is not None]
+
+    def newest_agreed_save(self, most: int) -> Optional[Vote]:
+        """The newest save up to a number that a majority has put."""
+        counted: Dict[int, Dict[str, bytes]] = {}
+        for name in self.replicas:
+            for vote in self.newest(name, SAVED, MOST_COMPARED):
+                counted.setdefault(vote.number, {})[name] = vote.value
+        for number in sorted((number for number in counted if number <= most), reverse=True):
+            value = majority(SAVED, counted[number], len(self.replicas))
+            if value is not None:
+                return Vote(number, value)
+        return None
+
+    def put_program(self, number: int, identity: bytes) -> None:
+        """Says with which program this replica answers the records after a number, where that is another one than before."""
+        if self.own is None:
+            return
+        before = self.newest(self.own, PROGRAM)
+        if not before or before[0].value != identity:
+            since = max(number, before[0].number) if before else number
+            self.etcd.put(self.keys.vote(self.own, PROGRAM, since), identity)

@@ -1,0 +1,143 @@
+"""A store in memory that answers what the client of etcd asks, so that what stands on it is tried without a node."""
+
+import base64
+import json
+import os
+import threading
+import time
+from typing import Any, Dict, List, Tuple
+
+from ledgerlog.errors import Full
+from ledgerlog.etcd import Etcd
+from ledgerlog.keys import Keys
+from ledgerlog.log import Log, Offer
+from ledgerlog.requests import Body
+from ledgerlog.settings import Settings
+from ledgerlog.votes import Vote, Votes
+
+HERE = os.path.dirname(os.path.realpath(__file__))
+STAND_IN = os.path.join(HERE, "stand_in.py")
+LOG_ID = "0123456789abcdef" * 2
+SET = ("a", "b", "c")
+MOST_OPERATIONS = 128
+
+
+def decoded(text: str) -> bytes:
+    return base64.b64decode(text)
+
+
+def coded(data: bytes) -> str:
+    return base64.b64encode(data).decode()
+
+
+class Store(Etcd):
+    """Keys and values, each with the change that made it and the last one that put it."""
+
+    def __init__(self) -> None:
+        super().__init__(["nowhere:1"], 1.0)
+        self.there: Dict[bytes, Tuple[bytes, int, int]] = {}
+        self.revision = 1
+        self.used = 0
+        self.is_full = False
+        self.lock = threading.RLock()
+
+    def ask(self, path: str, body: Body) -> Body:
+        json.dumps(body)
+        with self.lock:
+            return self.answered(path, body)
+
+    def answered(self, path: str, body: Body) -> Body:
+        answer = {"/v3/kv/range": self.ranged, "/v3/kv/put": self.asked_put, "/v3/kv/deleterange": self.deleted,
+                  "/v3/kv/txn": self.done, "/v3/maintenance/status": lambda _: {"dbSize": str(self.used)}}[path](body)
+        return {"header": {"revision": str(self.revision)}, **answer}
+
+    def wait(self, first: bytes, end: bytes, revision: int, seconds: float) -> None:
+        ends = time.monotonic() + min(seconds, 0.05)
+        while time.monotonic() < ends and not any(first <= key < end and one[2] > revision for key, one in
+                                                  list(self.there.items())):
+            time.sleep(0.005)
+
+    def keys_of(self, body: Body) -> List[bytes]:
+        first = decoded(body["key"])
+        if not body.get("range_end"):
+            return [first] if first in self.there else []
+        return sorted(key for key in self.there if first <= key < decoded(body["range_end"]))
+
+    def ranged(self, body: Body) -> Body:
+        keys = self.keys_of(body)
+        if body.get("sort_order") == "DESCEND":
+            keys.reverse()
+        limit = int(body.get("limit", 0)) or len(keys)
+        kvs = [{"key": coded(key), "value": "" if body.get("keys_only") else coded(self.there[key][0]),
+                "create_revision": str(self.there[key][1]), "mod_revision": str(self.there[key][2])} for key in keys[:limit]]
+        return {"kvs": kvs, "count": str(len(keys))}
+
+    def asked_put(self, body: Body) -> Body:
+        if self.is_full:
+            raise Full("mvcc: database space exceeded")
+        self.revision += 1
+        key = decoded(body["key"])
+        created = self.there[key][1] if key in self.there else self.revision
+        self.there[key] = (decoded(body["value"]), created, self.revision)
+        return {}
+
+    def deleted(self, body: Body) -> Body:
+        for key in self.keys_of(body):
+            del self.there[key]
+        self.revision += 1
+        return {}
+
+    def holds(self, one: Body) -> bool:
+        keys = self.keys_of(one) or [decoded(one["key"])]
+        value, created, changed = self.there.get(keys[0], (None, 0, 0))
+        if one["target"] == "VALUE":
+            return value is not None and value == decoded(one["value"])
+        if one["target"] == "MOD":
+            return changed == int(one["mod_revision"])
+        wanted = int(one["create_revision"])
+        return created > wanted if one["result"] == "GREATER" else created == wanted
+
+    def done(self, body: Body) -> Body:
+        assert all(len(body[part]) <= MOST_OPERATIONS for part in ("compare", "success", "failure"))
+        is_done = all(map(self.holds, body["compare"]))
+        before = self.revision
+        responses: List[Any] = []
+        for one in body["success" if is_done else "failure"]:
+            (kind, words), = one.items()
+            responses.append({"response_range": self.ranged(words)} if kind == "request_range" else {})
+            if kind == "request_put":
+                self.asked_put(words)
+            elif kind == "request_delete_range":
+                self.deleted(words)
+        self.revision = min(self.revision, before + 1)
+        return {"succeeded": is_done, "responses": responses}
+
+
+def made_log(store: Store, **given: Any) -> Log:
+    """A log with a set of three."""
+    log = Log(store, "L")
+    store.put(log.keys.log, Settings(LOG_ID, SET, 4)._replace(**given).text())
+    return log
+
+
+def run(number: int) -> bytes:
+    """A record of which no other has the bytes."""
+    return b"\2\2" + number.to_bytes(2, "big")
+
+
+def fill(log: Log, count: int, submitter: str = "anyone") -> List[int]:
+    """Puts so many records behind those that are there."""
+    first = log.last() + 1
+    offers = [Offer(f"id-{number}", run(number)) for number in range(first, first + count)]
+    return list(log.append(offers, submitter, log.settings()))
+
+
+def votes_of(log: Log, name: str) -> Votes:
+    return Votes(log.etcd, log.keys, log.settings().replicas, name)
+
+
+def put_vote(log: Log, name: str, kind: str, number: int, value: bytes) -> None:
+    votes_of(log, name).put(kind, [Vote(number, value)])
+
+
+__all__ = ["Keys", "Store", "made_log", "run", "fill", "votes_of", "put_vote", "STAND_IN", "LOG_ID", "SET"]

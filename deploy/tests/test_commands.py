@@ -1,0 +1,76 @@
+import os
+import signal
+import socket
+import subprocess
+import tempfile
+import unittest
+from typing import List
+
+DEPLOY = os.path.dirname(os.path.dirname(os.path.realpath(__file__)))
+COMMANDS = ("ask", "log", "node", "replica", "snapshot", "submit")
+# Nothing listens there.
+NOWHERE = ["--log", "127.0.0.1:9"]
+
+
+def done(words: List[str], given: bytes = b"") -> "subprocess.CompletedProcess[bytes]":
+    asked = [os.path.join(DEPLOY, words[0]), *words[1:]]
+    return subprocess.run(asked, input=given, stdout=subprocess.PIPE, stderr=subprocess.PIPE)
+
+
+class Commands(unittest.TestCase):
+    def test_each_lists_its_options(self) -> None:
+        for command in COMMANDS:
+            with self.subTest(command):
+                told = done([command, "--help"])
+                self.assertEqual(told.returncode, 2)
+                self.assertIn(b"Usage: deploy/" + command.encode(), told.stderr)
+
+    def test_words_that_are_not_understood(self) -> None:
+        for words in (["log", "unmake"], ["ask", "x", "why"], ["node", "4"], ["replica"], ["submit", "--seconds", "0", "-"],
+                      ["log", "make"], ["log", "make", "--replicas", "a,a"], ["log", "set", "--quota", "x"],
+                      ["node", "--ca", "x", "1"], ["node", "--hosts", "a,b", "1"]):
+            with self.subTest(words):
+                told = done(words)
+                self.assertEqual((told.returncode, told.stdout), (2, b""))
+                self.assertIn(b"error: ", told.stderr)
+
+    def test_submit_refuses_what_is_no_record_for_the_log(self) -> None:
+        for data in (b"", b"\2\5a", b"\3\0", b"\2\0\2\0"):
+            told = done(["submit", *NOWHERE, "-"], data)
+            self.assertEqual((told.returncode, told.stdout), (3, b""))
+        told = done(["submit", "--stream", *NOWHERE, "-"], b"\2\0\4\0")
+        self.assertEqual(told.returncode, 3)
+        self.assertIn(b"record 2: shows and audits are asked of a replica", told.stderr)
+
+    def test_submit_tells_its_id_where_it_is_not_known_what_was_put(self) -> None:
+        told = done(["submit", "--seconds", "0.2", *NOWHERE, "--id", "mine", "-"], b"\2\0")
+        self.assertEqual(told.returncode, 1)
+        self.assertIn(b"try again with --id mine", told.stderr)
+
+    def test_an_interrupt_does_not_lose_the_id(self) -> None:
+        for number in (signal.SIGINT, signal.SIGTERM):
+            with tempfile.NamedTemporaryFile() as file, socket.create_server(("127.0.0.1", 0)) as node:
+                file.write(b"\2\0")
+                file.flush()
+                address = f"127.0.0.1:{node.getsockname()[1]}"
+                words = [os.path.join(DEPLOY, "submit"), "--log", address, file.name]
+                with subprocess.Popen(words, stdout=subprocess.PIPE, stderr=subprocess.PIPE) as process:
+                    # A node that never answers: it is interrupted when it asks.
+                    connection, _ = node.accept()
+                    process.send_signal(number)
+                    _, errors = process.communicate(timeout=20)
+                connection.close()
+                self.assertEqual(process.returncode, 1)
+                self.assertRegex(errors, rb"interrupted; it isn't known what was put: try again with --id [0-9a-f]{32}\n")
+
+    def test_no_command_builds_a_program(self) -> None:
+        told = done(["replica", *NOWHERE, "--moveledger", "/nowhere", "/tmp/nowhere"])
+        self.assertEqual(told.returncode, 1)
+        self.assertIn(b"there is no program /nowhere", told.stderr)
+
+    def test_nobody_answers_for_a_replica_that_does_not_run(self) -> None:
+        with tempfile.TemporaryDirectory() as folder:
+            for words in (["replica", "--status", folder], ["ask", folder, "show"]):
+                told = done(words)
+                self.assertEqual(told.returncode, 1)
+                self.assertIn(b"no replica that runs there answers", told.stderr)

@@ -1,0 +1,119 @@
+"""Scenes in which something differs: a save with a flipped bit, a program that answers wrongly, lines that someone else put."""
+
+import os
+from typing import List
+
+from ledgerlog.keys import LINES
+
+from .processes import DEPLOY, Failed, ReplicaProcess, done, until
+from .stage import PATIENCE, Stage
+
+WRONG = DEPLOY / "trial" / "wrong_program"
+LOOK = 4
+
+
+def flip(path: str, draw: int) -> int:
+    """Flips one bit of a file, and gives its place."""
+    place = draw % (8 * os.path.getsize(path))
+    with open(path, "r+b") as file:
+        file.seek(place // 8)
+        byte = file.read(1)[0]
+        file.seek(place // 8)
+        file.write(bytes([byte ^ 1 << place % 8]))
+    return place
+
+
+def flipped_save(stage: Stage, replica: ReplicaProcess) -> str:
+    """Flips a bit of a replica's newest save: it has to say so and to go on as the others do."""
+    last = stage.feed(60)
+    stage.saved(replica.name, last)
+    replica.kill()
+    before = len(replica.told())
+    newest = replica.saves()[0]
+    place = flip(newest.path, stage.random.getrandbits(60))
+    replica.start()
+    said = replica.says("isn't believed", before)
+    if newest.path not in said:
+        raise Failed(f"{replica.name} says {said}")
+    until(lambda: os.path.exists(newest.path + ".refused"), PATIENCE, f"{newest.path} is set aside")
+    stage.all_answered(stage.feed(20))
+    stage.check_running()
+    return f"bit {place} of {replica.name}'s save after record {newest.number} flipped: set aside, the one before taken"
+
+
+def wrong_program(stage: Stage, name: str) -> str:
+    """Has a replica answer wrongly: it has to stop, and to stay stopped until someone says so; the others go on."""
+    replica = stage.replicas[name]
+    if replica.stop() != 0:
+        raise Failed(f"{name} doesn't stop")
+    os.environ["WRONG_OF"] = stage.program
+    wrong = stage.again(name, program=str(WRONG))
+    number = 0
+    for _ in range(5):
+        number, _ = stage.submit(stage.given.fresh_mint())
+    said = wrong.ends(LOOK, "STOPS, SINCE IT DIFFERS")
+    stage.check_running(*[one for one in stage.replicas if one != name])
+    stage.again(name).ends(LOOK, "stopped here before")
+    before = len(wrong.told())
+    again = stage.again(name, "--again")
+    stage.all_answered(stage.feed(10))
+    votes = stage.votes()
+    until(lambda: len(set(votes.of(LINES, number).values())) == 1, PATIENCE, f"{name} has put what the others have put, too")
+    again.check()
+    if "set aside" not in again.told()[before:] and not again.saves():
+        raise Failed(f"{name} says {again.told()[before:]}")
+    return (f"a program that answers wrongly: `{said[:150]}..`; stopped with the status {LOOK}, also when it was started again, "
+            "back by --again")
+
+
+def forged_lines(stage: Stage, name: str) -> str:
+    """Puts wrong lines under the next numbers in a replica's name: the right ones have to be answered, and nobody to stop."""
+    first = stage.log.last() + 1
+    numbers = range(first, first + 5)
+    for number in numbers:
+        stage.log.etcd.put(stage.log.keys.vote(name, LINES, number), b"%d returned 999\n" % number)
+    answers: List[str] = [stage.submit(stage.given.fresh_mint())[1] for _ in numbers]
+    wrong = [lines for lines in answers if "999" in lines]
+    if wrong:
+        raise Failed(f"submit printed forged lines: {wrong}")
+    votes = stage.votes()
+    until(lambda: all(len(set(votes.of(LINES, number).values())) == 1 for number in numbers), PATIENCE,
+          f"{name} puts its own lines in the place of the forged ones")
+    stage.check_running()
+    return (f"wrong lines in {name}'s name under the next {len(answers)} numbers: submit printed the right ones, {name} replaced "
+            "them, nobody stopped")
+
+
+def verified(stage: Stage, name: str) -> str:
+    """Has the log answered again, before and after one line is altered in a replica's name."""
+    told = stage.verify()
+    number = stage.random.randrange(1, stage.log.last() + 1)
+    key = stage.log.keys.vote(name, LINES, number)
+    before = stage.log.etcd.get(key)
+    stage.log.etcd.put(key, b"%d returned 999\n" % number)
+    stage.verify(LOOK, f"{name} differs 1 times")
+    assert before is not None
+    stage.log.etcd.put(key, before)
+    return f"--verify: {told}; with one line altered under record {number} it names {name}"
+
+
+def newcomer(stage: Stage) -> str:
+    """A replica outside the set follows, and one that is handed a save is there at once."""
+    folder = stage.folder / "handed"
+    handed = int(done("snapshot", *stage.words("reader"), stage.replicas["first"].folder, folder))
+    one = stage.replica("handed", folder=folder)
+    took = one.comes_back(stage.log.last(), PATIENCE)
+    if "isn't in the log's set" not in one.told():
+        raise Failed(f"a replica outside the set says {one.told()}")
+    if one.stop() != 0:
+        raise Failed("a replica outside the set doesn't stop")
+    del stage.replicas["handed"]
+    return f"a replica that was handed the save after record {handed} is there after {took:.2f} s, and puts nothing"
+
+
+def differing(stage: Stage) -> List[str]:
+    """All of this on one ledger."""
+    stage.make()
+    first, _, _ = stage.start()
+    return [flipped_save(stage, first), wrong_program(stage, "second"), forged_lines(stage, "third"), verified(stage, "first"),
+            newcomer(stage)]

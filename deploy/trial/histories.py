@@ -1,0 +1,135 @@
+"""Scenes about which history a ledger is of: a log made anew, a lost node, a backup that is restored."""
+
+import shutil
+import subprocess
+import time
+from typing import Dict, List
+
+from .checking import check_whole
+from .processes import Failed, Node, done, until
+from .stage import PATIENCE, Place, Stage
+
+LOOK = 4
+MEMBER_SECONDS = 60.0
+
+
+def etcdctl(place: Place, *words: object) -> str:
+    """Runs etcd's own command on the place's nodes."""
+    asked = ["etcdctl", "--endpoints", ",".join(place.addresses), *map(str, words)]
+    it = subprocess.run(asked, stdout=subprocess.PIPE, stderr=subprocess.PIPE, env={"ETCDCTL_API": "3", "PATH": "/usr/bin:/bin"})
+    if it.returncode != 0:
+        raise Failed(f"{' '.join(asked)} ends with the status {it.returncode}: {it.stderr!r}")
+    return it.stdout.decode()
+
+
+def made_anew(stage: Stage) -> str:
+    """Takes a ledger's keys away and makes its log anew while replicas run: they have to stop, and not to start on
+    the old saves."""
+    stage.saved("first", stage.feed(80))
+    old = stage.log.settings().id
+    stage.log.etcd.delete(stage.log.keys.all, stage.log.keys.all[:-1] + b"0")
+    said = [one.ends(LOOK, "stops:") for one in stage.replicas.values()]
+    stage.put.clear()
+    stage.make()
+    stage.again("first").ends(LOOK, f"was made of the log {old}")
+    done("snapshot", *stage.words("reader"), stage.replicas["first"].folder, stage.folder / "none", status=1,
+         says="of another history")
+    for one in stage.replicas.values():
+        shutil.move(str(one.folder), str(one.folder) + ".old")
+    stage.start()
+    stage.given = type(stage.given)(stage.random.getrandbits(32))
+    stage.all_answered(stage.feed(80))
+    return (f"a log made anew: three replicas stopped with the status {LOOK} (`{said[0].split(': ', 1)[1][:70]}..`); on their "
+            "old saves they don't start, snapshot hands none out; with empty folders they follow the new one")
+
+
+def members(place: Place) -> Dict[str, str]:
+    """The ids of the nodes by their names."""
+    rows = [line.split(", ") for line in etcdctl(place, "member", "list").splitlines()]
+    return {row[2] or row[3]: row[0] for row in rows}
+
+
+def is_added(place: Place, node: Node, url: str) -> bool:
+    """Adds a node. etcd refuses that for some seconds behind a change of the nodes: the cluster isn't healthy yet."""
+    try:
+        etcdctl(place, "member", "add", f"node{node.number}", f"--peer-urls={url}")
+    except Failed as why:
+        if "unhealthy cluster" in str(why):
+            return False
+        raise
+    return True
+
+
+def lost_node(stage: Stage, place: Place, node: Node) -> str:
+    """A node and all of its files are lost: it is taken out and put in again with none."""
+    node.kill()
+    shutil.rmtree(node.folder)
+    stage.feed(30)
+    etcdctl(place, "member", "remove", members(place)[f"node{node.number}"])
+    port = int(place.addresses[0].rpartition(":")[2])
+    url = f"http://127.0.0.1:{port + 2 + node.number}"
+    until(lambda: is_added(place, node, url), MEMBER_SECONDS, "a node is added")
+    began = time.monotonic()
+    node.start_in_place()
+    alone = type(stage.log.etcd)([place.addresses[node.number - 1]], MEMBER_SECONDS)
+    last = stage.log.keys.last
+    until(lambda: alone.get(last) == stage.log.etcd.get(last), MEMBER_SECONDS, "the new node has the log")
+    took = time.monotonic() - began
+    node.kill()
+    node.start()
+    stage.all_answered(stage.feed(30))
+    stage.check_running()
+    return (f"node {node.number} lost with its files: records went on; removed, added and started with none, it had the log "
+            f"after {took:.1f} s")
+
+
+def restore(place: Place, backup: str) -> None:
+    """Makes each node anew from a backup."""
+    port = int(place.addresses[0].rpartition(":")[2])
+    peers = {f"node{node.number}": f"http://127.0.0.1:{port + 2 + node.number}" for node in place.nodes}
+    cluster = ",".join(f"{name}={url}" for name, url in peers.items())
+    for node in place.nodes:
+        shutil.move(str(node.folder), str(node.folder) + ".old")
+        name = f"node{node.number}"
+        etcdctl(place, "snapshot", "restore", backup, "--name", name, "--data-dir", node.folder, "--initial-cluster", cluster,
+                "--initial-cluster-token", "restored", "--initial-advertise-peer-urls", peers[name])
+
+
+def restored(stage: Stage, place: Place) -> str:
+    """Takes a backup, puts more records, and restores it: replicas have to say that they are ahead, and to go on from the
+    common past when they are told that it was restored."""
+    backed_up = stage.feed(50)
+    for name in stage.replicas:
+        stage.saved(name, backed_up)
+    backup = str(stage.folder / "backup.db")
+    one = Place(place.folder, place.nodes, place.addresses[:1])
+    etcdctl(one, "snapshot", "save", backup)
+    lost = stage.feed(70) - backed_up
+    for name in stage.replicas:
+        stage.saved(name, backed_up + 1)
+    for node in place.nodes:
+        node.kill()
+    restore(place, backup)
+    place.start()
+    said = [replica.ends(LOOK, "ahead of the log") for replica in stage.replicas.values()]
+    stage.again("first").ends(LOOK, "ahead of the log")
+    done("log", *stage.words("keeper"), "restored")
+    stage.put = stage.put[:backed_up]
+    for name in list(stage.replicas):
+        stage.again(name)
+    stage.replicas["first"].says("of a log that was restored since")
+    stage.all_answered(stage.feed(40))
+    stage.check_running()
+    check_whole(stage.log, stage.program, stage.folder, stage.log.last())
+    return (f"restored from a backup, {lost} records behind it lost: all three replicas stopped "
+            f"(`{said[0].split(': ', 1)[1][:90]}..`); after "
+            "`log restored` they set aside what they saved since, and go on behind the backup's last record")
+
+
+def histories(stage: Stage, place: Place) -> List[str]:
+    """All of this on one ledger. The nodes are taken down meanwhile."""
+    stage.make()
+    stage.start()
+    told = [made_anew(stage), lost_node(stage, place, stage.random.choice(place.nodes)), restored(stage, place)]
+    until(lambda: stage.verify(), PATIENCE, "the log verifies")
+    return told
