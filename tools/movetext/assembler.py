@@ -1,8 +1,8 @@
 """From a module's text to its tables: each name becomes the index of what it names."""
 
-from typing import Dict, List, Optional, Union
+from typing import Callable, Dict, Iterable, List, NamedTuple, Optional, Set, TypeVar, Union
 
-from . import model, syntax
+from . import habits, model, syntax
 from .coding import Coder
 from .errors import TextError, unknown
 from .handles import OWN, Names, checked_identifier, entry_text, path_text
@@ -10,6 +10,8 @@ from .model import MUTABLE, REFERENCE, STRUCT, Token
 from .numbers import SIGNATURE_TYPES, TABLE_BYTES
 from .pools import Pool
 from .writer import write_module
+
+T = TypeVar("T")
 
 LEAVES = {kind: Token(kind) for kind in model.LEAF_NAMES}
 
@@ -47,7 +49,18 @@ class Assembler:
             self.constants.entries, names.identifiers.entries, names.addresses.entries, self.definitions, self.bodies,
             self.fields.entries, names.own)
 
-    def each(self, items, act):
+    def starts(self) -> Dict[int, List[int]]:
+        """By the kind of each table the offsets of its entries in the text."""
+        names = self.names
+        return {
+            model.MODULE_HANDLES: names.modules.starts, model.STRUCT_HANDLES: self.structs.starts,
+            model.FUNCTION_HANDLES: self.functions.starts, model.SIGNATURES: self.signatures.starts,
+            model.CONSTANTS: self.constants.starts, model.IDENTIFIERS: names.identifiers.starts,
+            model.ADDRESSES: names.addresses.starts, model.STRUCTS: [one.at for one in self.tree.structs],
+            model.FUNCTIONS: [one.at for one in self.tree.functions], model.FIELD_HANDLES: self.fields.starts,
+        }
+
+    def each(self, items: Iterable[T], act: Callable[[T], object]) -> None:
         """Does something with each item, and collects the errors."""
         for item in items:
             try:
@@ -57,7 +70,7 @@ class Assembler:
 
     # Modules.
 
-    def add_modules(self):
+    def add_modules(self) -> None:
         """Adds the identifiers, addresses and module handles that are listed, and those of the own module and the imports."""
         names, at = self.names, self.tree.at
         self.each(self.listed.identifiers, lambda name: names.identifiers.add(checked_identifier(name), name.at))
@@ -66,15 +79,15 @@ class Assembler:
         self.each([self.tree.name], self.add_own)
         self.each(self.tree.imports, self.add_import)
 
-    def add_own(self, own: syntax.ModuleName):
+    def add_own(self, own: syntax.ModuleName) -> None:
         names = self.names
         if own.address is None:
-            names.own = own.name.number
+            names.own = own.name.number if isinstance(own.name, syntax.Index) else 0
         else:
             names.own = names.modules.place(names.handle(own), own.at)
         names.aliases[OWN] = names.own
 
-    def add_import(self, imported: syntax.Import):
+    def add_import(self, imported: syntax.Import) -> None:
         names = self.names
         place = names.modules.place(names.handle(imported.module), imported.module.at)
         if isinstance(imported.alias, syntax.Index):
@@ -85,7 +98,7 @@ class Assembler:
 
     # Structs.
 
-    def add_structs(self):
+    def add_structs(self) -> None:
         """Adds the struct handles that are listed, and those of the imports and the own structs."""
         self.each(self.listed.structs, lambda handle: self.add_struct(handle, is_listed=True))
         for imported in self.tree.imports:
@@ -107,7 +120,7 @@ class Assembler:
         self.struct_places[handle.module, handle.name] = place
         return place
 
-    def add_own_struct(self, struct: syntax.Struct):
+    def add_own_struct(self, struct: syntax.Struct) -> None:
         if isinstance(struct.name, syntax.Index):
             handle = struct.name.number
         else:
@@ -120,12 +133,16 @@ class Assembler:
         for place, one in reversed(list(enumerate(struct.fields))):
             self.field_places[-1][entry_text(one.name)] = place
 
-    def add_definitions(self):
+    def add_definitions(self) -> None:
         """Adds the fields of the own structs."""
         for struct, definition in zip(self.tree.structs, self.definitions):
-            self.each(struct.fields, lambda one, to=definition: to.fields.append(self.field(one)))
-            seen = set()
-            self.each(struct.fields, lambda one, seen=seen: check_field(one, seen))
+            self.add_fields(struct, definition)
+
+    def add_fields(self, struct: syntax.Struct, definition: model.StructDefinition) -> None:
+        """Adds the fields of an own struct."""
+        seen: Set[str] = set()
+        self.each(struct.fields, lambda one: definition.fields.append(self.field(one)))
+        self.each(struct.fields, lambda one: check_field(one, seen))
 
     def field(self, one: syntax.Variable) -> model.Field:
         return model.Field(self.names.identifier(one.name), self.token(one.type))
@@ -133,9 +150,10 @@ class Assembler:
     def token(self, kind: syntax.Type) -> Token:
         """A type."""
         if kind.kind in (REFERENCE, MUTABLE):
-            return Token(kind.kind, inner=self.token(kind.inner))
+            return Token(kind.kind, inner=self.token(model.known(kind.inner)))
         if kind.kind != STRUCT:
             return LEAVES[kind.kind]
+        assert kind.struct is not None
         return Token(STRUCT, struct=self.struct_handle(kind.struct))
 
     def struct_handle(self, struct: Union[syntax.Path, syntax.Index]) -> int:
@@ -152,6 +170,8 @@ class Assembler:
     def no_struct(self, module: int, struct: syntax.Path) -> str:
         """That there is no struct of a name, and which one was probably meant."""
         names = self.meant_names(module, struct, self.struct_places)
+        if struct.module is None and entry_text(struct.name) in habits.TYPES:
+            return habits.TYPES[entry_text(struct.name)]
         if struct.module is None:
             return unknown("type", path_text(struct), [*names, *model.LEAF_KINDS])
         return unknown("struct", path_text(struct), names)
@@ -160,7 +180,8 @@ class Assembler:
         """The names that might be meant by one that nothing has: the same one in another module, or any in this module."""
         name = entry_text(path.name)
         prefix = path_text(path)[:-len(name)]
-        own, others = [], []
+        own: List[str] = []
+        others: List[str] = []
         for other, identifier in places:
             text = self.identifier_text(identifier)
             if other == module:
@@ -182,12 +203,13 @@ class Assembler:
         path = struct if isinstance(struct, syntax.Path) else syntax.Path(None, struct, struct.at)
         place = self.definition_places.get(self.struct_handle(path))
         if place is None:
-            raise TextError(path.at, f"`{path_text(path)}` is no struct of this module")
+            raise TextError(path.at, f"`{path_text(path)}` is no struct of this module, and only the own module packs, unpacks, "
+                                     "stores and takes a struct, and borrows its fields")
         return place
 
     # Lists that name structs.
 
-    def add_lists(self):
+    def add_lists(self) -> None:
         """Adds the signatures, constants and field handles that are listed."""
         at = self.tree.at
         self.each(self.listed.signatures, lambda types: self.signatures.add(self.types(types, at), at))
@@ -219,7 +241,7 @@ class Assembler:
 
     # Functions.
 
-    def add_functions(self):
+    def add_functions(self) -> None:
         """Adds the function handles that are listed, and those of the imports and the own functions."""
         self.each(self.listed.functions, lambda handle: self.add_function(handle, is_listed=True))
         for imported in self.tree.imports:
@@ -239,14 +261,14 @@ class Assembler:
         self.function_places.setdefault((module, name), place)
         return place
 
-    def check_signatures(self, text: syntax.FunctionHandleText, handle: model.FunctionHandle):
+    def check_signatures(self, text: syntax.FunctionHandleText, handle: model.FunctionHandle) -> None:
         """Fails where a function that is named has other signatures than its handle."""
         for types, place in (text.parameters, handle.parameters), (text.results, handle.results):
             known = model.entry(self.signatures.entries, place)
-            if known is not None and self.types(types, text.path.at) != known:
+            if known is not None and not isinstance(types, syntax.Index) and self.types(types, text.path.at) != known:
                 raise TextError(text.path.name.at, f"a second function `{entry_text(text.path.name)}`, with other types")
 
-    def add_own_function(self, function: syntax.Function):
+    def add_own_function(self, function: syntax.Function) -> None:
         body = model.FunctionDefinition(0, function.is_public, function.is_entry)
         self.bodies.append(body)
         if isinstance(function.name, syntax.Index):
@@ -266,19 +288,61 @@ class Assembler:
         place = None if name is None else self.function_places.get((module, name))
         if place is None:
             names = self.meant_names(module, path, self.function_places)
-            raise TextError(path.at, unknown("function", path_text(path), names))
+            told = unknown("function", path_text(path), names)
+            if path.module is not None and module != self.names.own and "mean" not in told:
+                told += "; name it in the braces of the import, with its types, as `mint(signer, u64)`"
+            raise TextError(path.at, told)
         return place
 
-    def add_bodies(self):
+    def called(self, called: Union[syntax.Path, syntax.Called]) -> int:
+        """The index of the handle of a function that is called. TextError where other types stand behind it than it has."""
+        if isinstance(called, syntax.Path):
+            return self.function(called)
+        place = self.function(called.path)
+        handle = model.entry(self.functions.entries, place)
+        if handle is not None:
+            self.compare(called, called.parameters, handle.parameters, "takes")
+            if called.results is not None:
+                self.compare(called, called.results, handle.results, "gives")
+        return place
+
+    def compare(self, called: syntax.Called, types: List[syntax.Type], signature: int, verb: str) -> None:
+        """Fails where types that stand behind a called function aren't its own."""
+        known = model.entry(self.signatures.entries, signature)
+        try:
+            found = self.types(types, called.path.at)
+        except TextError as error:
+            raise TextError(error.at, f"{error.message}; in a Call's parentheses stand types, and its arguments are on the "
+                                      "stack") from None
+        if known is not None and found != known:
+            raise TextError(called.path.at, f"`{path_text(called.path)}` {verb} {self.types_text(known)}, and here stands "
+                                            f"{self.types_text(found)}")
+
+    def types_text(self, types: model.Signature) -> str:
+        return "(" + ", ".join(map(self.type_text, types)) + ")"
+
+    def type_text(self, token: Token) -> str:
+        """A type, as one writes it."""
+        if token.is_reference:
+            return ("&mut " if token.is_mutable else "&") + self.type_text(token.inner)
+        if token.kind != STRUCT:
+            return model.LEAF_NAMES[token.kind]
+        handle = model.entry(self.structs.entries, token.struct)
+        return f"#{token.struct}" if handle is None else self.identifier_text(handle.name)
+
+    def add_bodies(self) -> None:
         """Adds what the functions acquire, their other locals and their code."""
         for function, body in zip(self.tree.functions, self.bodies):
-            self.each(function.acquires, lambda struct, to=body: to.acquires.append(self.definition(struct)))
+            self.add_acquires(function, body)
             coder = Coder(self, function, body)
             self.each([function], coder.add_locals)
             coder.add_code()
 
+    def add_acquires(self, function: syntax.Function, body: model.FunctionDefinition) -> None:
+        self.each(function.acquires, lambda struct: body.acquires.append(self.definition(struct)))
 
-def check_field(one: syntax.Variable, seen: set):
+
+def check_field(one: syntax.Variable, seen: set) -> None:
     """Fails where a struct has two fields of a name."""
     name = entry_text(one.name)
     if name in seen and isinstance(one.name, syntax.Name):
@@ -286,14 +350,21 @@ def check_field(one: syntax.Variable, seen: set):
     seen.add(name)
 
 
-def assembled(tree: syntax.Module, errors: List[TextError]) -> bytes:
-    """A module's bytes. Its errors are put at the end of those that are given; with any, the bytes mean nothing."""
+class Assembled(NamedTuple):
+    """A module's bytes, and by the kind of each table the offsets of its entries in the text."""
+
+    data: bytes
+    entries: Dict[int, List[int]]
+
+
+def assembled(tree: syntax.Module, errors: List[TextError]) -> Assembled:
+    """What is made of a module's text. Its errors are put at the end of those that are given; with any, it means nothing."""
     assembler = Assembler(tree)
     module = assembler.module()
     if module is None:
         errors.extend(assembler.errors)
-        return b""
+        return Assembled(b"", {})
     data = write_module(module)
     if len(data) > TABLE_BYTES:
         errors.append(TextError(tree.at, f"the module has {len(data)} bytes, more than {TABLE_BYTES}"))
-    return data
+    return Assembled(data, assembler.starts())

@@ -1,25 +1,28 @@
 """A function's locals and code: names become indices."""
 
-from typing import Dict
+from typing import TYPE_CHECKING, Any, Callable, Dict
 
 from . import model, opcodes, syntax
 from .errors import TextError, unknown
+
+if TYPE_CHECKING:
+    from .assembler import Assembler
 
 
 class Coder:
     """A function's body in the making."""
 
-    def __init__(self, module, function: syntax.Function, body: model.FunctionDefinition):
+    def __init__(self, module: "Assembler", function: syntax.Function, body: model.FunctionDefinition):
         self.module = module
         self.function = function
         self.body = body
         self.locals: Dict[str, int] = {}
-        self.index_of = {
-            opcodes.TARGET: self.target, opcodes.LOCAL: self.local, opcodes.FUNCTION: module.function,
+        self.index_of: Dict[int, Callable[[Any], int]] = {
+            opcodes.TARGET: self.target, opcodes.LOCAL: self.local, opcodes.FUNCTION: module.called,
             opcodes.STRUCT: module.definition, opcodes.FIELD: self.field, opcodes.CONSTANT: self.constant,
         }
 
-    def add_locals(self, function: syntax.Function):
+    def add_locals(self, function: syntax.Function) -> None:
         """Numbers the parameters and the other locals, and finds the signature of the latter."""
         for one in function.parameters + function.locals:
             if one.name.text in self.locals:
@@ -28,7 +31,7 @@ class Coder:
         types = function.locals_index or [one.type for one in function.locals]
         self.body.locals = self.module.signature(types, function.at)
 
-    def add_code(self):
+    def add_code(self) -> None:
         """Adds the instructions; collects the errors."""
         add, index_of = self.body.code.append, self.index_of
         for opcode, operand, at in self.function.code:

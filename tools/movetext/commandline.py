@@ -1,8 +1,11 @@
 """The command lines of the tools: what they take, and the texts about words that aren't understood, as the program's."""
 
 import os
+import re
+import signal
 import sys
-from typing import Dict, List, NamedTuple, NoReturn, Optional
+from contextlib import contextmanager
+from typing import Dict, Iterator, List, NamedTuple, NoReturn, Optional, Sequence, Tuple
 
 # The exit statuses: as the program's.
 DONE, FAULT, WORDS, REFUSED = range(4)
@@ -29,6 +32,7 @@ class Option(NamedTuple):
 
 
 HELP = Option("-h, --help", "", "Print help")
+SECONDS = Option("--seconds", "SECONDS", "Give up after so many seconds, with the status 1: for who runs this for strangers")
 
 
 class WordsError(Exception):
@@ -81,7 +85,7 @@ class CommandLine:
         names = [it.name for it in self.arguments] + [option.value or option.flag for option in self.options.values()]
         return {name: found.get(name) for name in names}
 
-    def read_option(self, word: str, rest: List[str], found: Dict[str, Optional[str]]):
+    def read_option(self, word: str, rest: List[str], found: Dict[str, Optional[str]]) -> None:
         """Reads an option, and its value from the same word or from the next one."""
         if word in ("-h", "--help"):
             raise WordsError(self.help())
@@ -99,7 +103,7 @@ class CommandLine:
         found[key] = value
 
 
-def in_columns(rows) -> str:
+def in_columns(rows: Sequence[Tuple[str, str]]) -> str:
     """Rows of two columns."""
     width = max(len(first) for first, _ in rows)
     return "".join(f"  {first.ljust(width)}  {second}\n" for first, second in rows)
@@ -119,6 +123,34 @@ def understood_or_exit(line: CommandLine) -> Dict[str, Optional[str]]:
     sys.exit(WORDS)
 
 
+class TimeIsUp(Exception):
+    """Raised where the time is used up that was given."""
+
+
+@contextmanager
+def limited(line: CommandLine, given: Dict[str, Optional[str]]) -> Iterator[None]:
+    """Raises TimeIsUp in what is done within where it takes longer than the seconds that are given, if any are. Ends the program
+    where they are no number."""
+    seconds = given[SECONDS.value]
+    if seconds is None:
+        yield
+        return
+    if not re.fullmatch(r"[1-9][0-9]{0,6}", seconds):
+        sys.stderr.write(line.refusal(f"invalid value '{seconds}' for '{SECONDS.usage}': a whole number of at least 1"))
+        sys.exit(WORDS)
+
+    def give_up(_number: int, _frame: object) -> NoReturn:
+        raise TimeIsUp(f"not done within {seconds} second{'s' if seconds != '1' else ''}")
+
+    before = signal.signal(signal.SIGALRM, give_up)
+    signal.alarm(int(seconds))
+    try:
+        yield
+    finally:
+        signal.alarm(0)
+        signal.signal(signal.SIGALRM, before)
+
+
 def read_input(name: str) -> bytes:
     """The bytes of a file, or of standard input where the name is `-`. OSError where they can't be read."""
     if name == "-":
@@ -127,7 +159,7 @@ def read_input(name: str) -> bytes:
         return file.read()
 
 
-def write_output(name: Optional[str], data: bytes):
+def write_output(name: Optional[str], data: bytes) -> None:
     """Writes bytes to a file, or to standard output where there is no name or it is `-`. OSError where they can't be written."""
     if name is None or name == "-":
         sys.stdout.buffer.write(data)

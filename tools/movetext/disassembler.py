@@ -1,19 +1,23 @@
 """Bytes of any kind as text."""
 
+import os
 import re
 import sys
-from typing import List, NamedTuple
+from typing import Dict, List, NamedTuple, Optional
 
 from .certificates import read_certificate
-from .commandline import (DONE, REFUSED, WORDS, Argument, CommandLine, Option, WordsError, fault, read_input, understood_or_exit,
-                          write_output)
+from .commandline import (DONE, REFUSED, SECONDS, WORDS, Argument, CommandLine, Option, TimeIsUp, WordsError, fault, limited,
+                          read_input, understood_or_exit, write_output)
 from .cursor import Fault
-from .explain.telling import module_explained, stream_explained
+from .explain.pictures import NoPicture, borrow_graph, flow_graph, function_named
+from .explain.subject import Subject
+from .explain.telling import Explained, NoRecord, ledger_explained, module_explained, stream_explained
 from .ledgers import read_ledger
-from .model import LEDGER_MAGIC, MAGIC
+from .model import LEDGER_MAGIC, MAGIC, Publish
 from .printer import module_lines
 from .reader import read_module
 from .records import read_stream
+from .source_names import SUFFIX, NameTable, NamesError, read_names
 from .stream_printer import broken_module_lines, fault_lines, hex_lines, ledger_lines, stream_lines
 
 MODULE, STREAM, LEDGER = "module", "stream", "ledger"
@@ -26,11 +30,27 @@ COMMAND = CommandLine(
      Argument("CERTIFICATE", "A certificate of the module, as its bytes or as `moveledger prove` prints it: "
                              "what it states of blocks stands beside the code", is_required=False)],
     [Option("--explain", "", "Say why it is refused, and where, by the rules of docs/VERIFIER.md: of a module, without a "
-                             "certificate by the least states; of a stream's bundles. The verdict is moveledger's: nothing rests "
-                             "on what is said here"),
+                             "certificate by the least states; of a stream's records, with the lines of its report; of a saved "
+                             "ledger. The verdict is moveledger's: nothing rests on what is said here"),
      Option("--record", "N", "With --explain, of the stream's record N alone"),
+     Option("--load", "LEDGER", "With --explain, the saved ledger over which the stream's records are answered"),
+     Option("--json", "", "With --explain, an object of JSON a line, with the verdict by field"),
+     Option("--dot", "FUNCTION", "Draw the flow graph of a function, with what is stated of each block, for Graphviz"),
+     Option("--before", "INSTRUCTION", "With --dot, draw the borrow graph before the instruction of this number"),
+     Option("--names", "NAMES", "The names that `moveasm -g` kept; FILE.names where that is there and no other is given"),
      Option("--as", "KIND", "Take the bytes for a module, a stream or a ledger, whatever they begin with"),
+     SECONDS,
      Option("-o", "OUT", "Write the text to OUT, and not to standard output")])
+
+Given = Dict[str, Optional[str]]
+
+
+# How a module's or a stream's text begins, which nobody wants as bytes.
+TEXT = re.compile(rb"(?:\s|//[^\n]*\n|/\*[^*]*\*+(?:[^/*][^*]*\*+)*/)*(?:module|publish|run|show|audit|record|bytes)\b")
+
+
+class NoBytes(Exception):
+    """Raised for a text in the place of bytes."""
 
 
 class Disassembly(NamedTuple):
@@ -40,7 +60,7 @@ class Disassembly(NamedTuple):
     faults: List[Fault] = []
 
 
-def kind_of(data):
+def kind_of(data: bytes) -> str:
     """What bytes are taken for: what their first four say, or a stream. Two of a module's four are enough."""
     if data[:4] in LEDGER_MAGIC.values():
         return LEDGER
@@ -48,105 +68,194 @@ def kind_of(data):
     return MODULE if alike >= 2 or alike == len(data) > 0 else STREAM
 
 
-def text_of(lines):
+def text_of(lines: List[str]) -> str:
     return "\n".join(lines) + "\n" if lines else ""
 
 
-def disassemble(data, kind=None):
+def disassemble(data: bytes, kind: Optional[str] = None, names: Optional[NameTable] = None) -> Disassembly:
     """The text of bytes."""
     kind = kind or kind_of(data)
     if kind == MODULE:
-        return disassemble_module(data)
+        return disassemble_module(data, None, names)
     if kind == LEDGER:
-        return disassemble_ledger(data)
+        return disassemble_ledger(data, names)
     reading = read_stream(data)
-    return Disassembly(text_of(stream_lines(reading)), reading.faults)
+    return Disassembly(text_of(stream_lines(reading, names)), reading.faults)
 
 
-def disassemble_module(data, certificate=None):
+def disassemble_module(data: bytes, certificate: Optional[bytes] = None, names: Optional[NameTable] = None) -> Disassembly:
     """The text of a module, with what a certificate states of its blocks as comments."""
     reading = read_module(data)
     if not reading.is_module:
         lines = broken_module_lines(reading) + hex_lines("bytes", data)
         return Disassembly(text_of(lines), reading.faults)
+    source = names.of(data) if names else None
     if certificate is None:
-        return Disassembly(text_of(module_lines(reading)))
+        return Disassembly(text_of(module_lines(reading, source=source)))
     stated = read_certificate(certificate, reading.module)
-    lines = module_lines(reading, stated.certificate)
+    lines = module_lines(reading, stated.certificate, source=source)
     if stated.faults:
         lines += ["// No certificate of this module:"] + fault_lines(stated.faults)
     return Disassembly(text_of(lines), stated.faults)
 
 
-def disassemble_ledger(data):
+def disassemble_ledger(data: bytes, names: Optional[NameTable] = None) -> Disassembly:
     """The text of a saved ledger, which is for reading alone."""
     reading = read_ledger(data)
     if reading is None:
-        fault = Fault(0, "a saved ledger begins with the bytes 4D 56 4C 31 or 4D 56 4C 32")
-        return Disassembly(text_of(fault_lines([fault]) + hex_lines("bytes", data)), [fault])
-    return Disassembly(text_of(ledger_lines(reading)), reading.faults)
+        wrong = Fault(0, "a saved ledger begins with the bytes 4D 56 4C 31 or 4D 56 4C 32")
+        return Disassembly(text_of(fault_lines([wrong]) + hex_lines("bytes", data)), [wrong])
+    return Disassembly(text_of(ledger_lines(reading, names)), reading.faults)
 
 
-def certificate_of(data):
+def certificate_of(data: bytes) -> bytes:
     """A certificate's bytes, from themselves or from their text in hexadecimal."""
     if re.fullmatch(rb"(?:[0-9a-fA-F]{2})+(?:\r?\n)?", data):
         return bytes.fromhex(data.decode("ascii"))
     return b"" if data in (b"\n", b"\r\n") else data
 
 
-def checked_kind(given):
-    """What the bytes are to be taken for, or None. A certificate stands beside a module, and a record's number beside a stream
-    that is explained."""
+def wrong_words(message: str) -> WordsError:
+    return WordsError(f"error: {message}\n\n{COMMAND.usage()}\n\nFor more information, try '--help'.\n")
+
+
+def check_together(given: Given) -> None:
+    """Wants options that go together."""
+    for flag, value in (("--record <N>", given["N"]), ("--load <LEDGER>", given["LEDGER"]), ("--json", given["--json"])):
+        if value is not None and given["--explain"] is None:
+            raise wrong_words(f"'{flag}' is given with '--explain'")
+    if given["N"] is not None and not re.fullmatch(r"[1-9][0-9]{0,17}", given["N"]):
+        raise wrong_words(f"invalid value '{given['N']}' for '--record <N>': records are counted from 1")
+    if given["INSTRUCTION"] is not None:
+        if given["FUNCTION"] is None:
+            raise wrong_words("'--before <INSTRUCTION>' is given with '--dot <FUNCTION>'")
+        if not re.fullmatch(r"[0-9]{1,5}", given["INSTRUCTION"]):
+            raise wrong_words(f"invalid value '{given['INSTRUCTION']}' for '--before <INSTRUCTION>': instructions are counted "
+                              "from 0")
+    if given["FUNCTION"] is not None and given["--explain"] is not None:
+        raise wrong_words("'--dot <FUNCTION>' draws, and '--explain' says: give one of them")
+
+
+def checked_kind(given: Given) -> Optional[str]:
+    """What the bytes are to be taken for, or None. A certificate stands beside a module, a record's number and a saved ledger
+    beside a stream that is explained."""
+    check_together(given)
     kind = given["KIND"]
-    if given["N"] is not None:
-        if given["--explain"] is None or given["CERTIFICATE"] is not None or kind not in (None, STREAM):
-            raise WordsError(f"error: '--record <N>' says which bundle of a stream is explained\n\n{COMMAND.usage()}\n")
-        if not re.fullmatch(r"[1-9][0-9]*", given["N"]):
-            raise WordsError(f"error: invalid value '{given['N']}' for '--record <N>': records are counted from 1\n\n"
-                             "For more information, try '--help'.\n")
-        kind = STREAM
     if kind is not None and kind not in KINDS:
-        raise WordsError(f"error: invalid value '{kind}' for '--as <KIND>'\n  [possible values: {', '.join(KINDS)}]\n\n"
-                         "For more information, try '--help'.\n")
-    if given["CERTIFICATE"] is not None:
-        if kind not in (None, MODULE):
-            raise WordsError(f"error: a certificate stands beside a module, not a {kind}\n\n{COMMAND.usage()}\n")
-        return MODULE
-    return kind
+        raise wrong_words(f"invalid value '{kind}' for '--as <KIND>'\n  [possible values: {', '.join(KINDS)}]")
+    wanted = MODULE if given["CERTIFICATE"] is not None else kind
+    if given["N"] is not None or given["LEDGER"] is not None:
+        if given["CERTIFICATE"] is not None or kind not in (None, STREAM):
+            raise wrong_words("'--record <N>' and '--load <LEDGER>' are about a stream")
+        wanted = STREAM
+    if given["CERTIFICATE"] is not None and kind not in (None, MODULE):
+        raise wrong_words(f"a certificate stands beside a module, not a {kind}")
+    return wanted
 
 
-def explain(data, certificate, kind, number):
-    """What is said of why a module or a stream's bundles are refused: its lines, and whether nothing refuses them."""
-    kind = kind or kind_of(data)
-    if kind == LEDGER:
-        raise WordsError(f"error: a saved ledger can't be explained: give a module, or a stream\n\n{COMMAND.usage()}\n")
-    return module_explained(data, certificate) if kind == MODULE else stream_explained(data, number)
+class Inputs(NamedTuple):
+    """What the files have that are given: the bytes, what they are taken for, and a certificate, a saved ledger and names."""
+
+    data: bytes
+    kind: str
+    certificate: Optional[bytes]
+    loaded: Optional[bytes]
+    names: NameTable
 
 
-def printed(given, kind, data, certificate):
+def read_inputs(given: Given) -> Inputs:
+    """Reads the files that are given. OSError where one can't be read, WordsError where the words don't go together."""
+    kind = checked_kind(given)
+    data = read_input(str(given["FILE"]))
+    if kind is None and TEXT.match(data) and data.isascii():
+        raise NoBytes("this is a text: `tools/moveasm` makes its bytes")
+    certificate = None if given["CERTIFICATE"] is None else certificate_of(read_input(given["CERTIFICATE"]))
+    loaded = None if given["LEDGER"] is None else read_input(given["LEDGER"])
+    return Inputs(data, kind or kind_of(data), certificate, loaded, given_names(given))
+
+
+def given_names(given: Given) -> NameTable:
+    """The names that are given, or those that stand beside the bytes."""
+    beside = f"{given['FILE']}{SUFFIX}"
+    if given["NAMES"] is None and (given["FILE"] == "-" or not os.path.exists(beside)):
+        return NameTable()
+    name = given["NAMES"] or beside
+    try:
+        return read_names(read_input(name))
+    except NamesError as error:
+        raise NamesError(f"{name}: {error}") from None
+
+
+def explain(given: Given, inputs: Inputs) -> Explained:
+    """What is said of why a module or a stream's records are refused."""
+    if inputs.kind == LEDGER:
+        return ledger_explained(inputs.data, inputs.names)
+    if inputs.kind == MODULE:
+        return module_explained(inputs.data, inputs.certificate, inputs.names)
+    return stream_explained(inputs.data, int(given["N"]) if given["N"] else None, inputs.loaded, inputs.names)
+
+
+def picture(given: Given, inputs: Inputs) -> List[str]:
+    """The picture that is asked for."""
+    wanted = str(given["FUNCTION"])
+    subject, certificate = drawn_module(inputs, wanted)
+    function = function_named(subject, wanted.rpartition("::")[2])
+    if given["INSTRUCTION"] is None:
+        return flow_graph(subject, function, certificate)
+    return borrow_graph(subject, function, int(given["INSTRUCTION"]), certificate)
+
+
+def drawn_module(inputs: Inputs, wanted: str) -> "tuple[Subject, Optional[bytes]]":
+    """The module of a function that is drawn, with its certificate if any: of a stream the last one that has the function."""
+    if inputs.kind == MODULE:
+        return Subject(read_module(inputs.data), 0, inputs.names.of(inputs.data)), inputs.certificate
+    if inputs.kind == LEDGER:
+        raise wrong_words("the pictures are of a module, or of a stream's modules")
+    module, _, name = wanted.rpartition("::")
+    for record in reversed(read_stream(inputs.data).stream.records):
+        for offer in reversed(record.offers if isinstance(record, Publish) else []):
+            subject = Subject(read_module(offer.module), 0, inputs.names.of(offer.module))
+            named = subject.names.module_text(subject.module.own)
+            functions = [subject.module.function_name(one.handle) for one in subject.module.functions]
+            if name in functions and (not module or named == module or named.endswith(f"::{module}")):
+                return subject, offer.certificate
+    raise NoPicture(f"no module of the stream has the function `{wanted}`")
+
+
+def printed(given: Given, inputs: Inputs) -> "tuple[str, int, str]":
     """The text that is printed, the status, and what standard error says."""
     if given["--explain"] is not None:
-        lines, is_accepted = explain(data, certificate, kind, given["N"] and int(given["N"]))
-        return text_of(lines), DONE if is_accepted else REFUSED, ""
-    found = disassemble(data, kind) if certificate is None else disassemble_module(data, certificate)
+        said = explain(given, inputs)
+        lines = said.lines if given["--json"] is None else said.json_lines()
+        return text_of(lines), DONE if said.is_accepted else REFUSED, ""
+    if given["FUNCTION"] is not None:
+        return text_of(picture(given, inputs)), DONE, ""
+    found = disassemble(inputs.data, inputs.kind, inputs.names) if inputs.certificate is None \
+        else disassemble_module(inputs.data, inputs.certificate, inputs.names)
     if not found.faults:
         return found.text, DONE, ""
     first = found.faults[0]
     return found.text, REFUSED, f"{given['FILE']}: offset {first.offset}: {first.reason}\n"
 
 
-def main():
+def main() -> int:
     """The program movedis. Answers its status: 0, 1 for a fault, 2 for words that aren't understood, and 3 where the bytes
-    aren't to their end what the text says, or what is explained is refused."""
+    aren't to their end what the text says, what is explained is refused, or what is asked for isn't there."""
     given = understood_or_exit(COMMAND)
     try:
-        kind = checked_kind(given)
-        data = read_input(given["FILE"])
-        certificate = None if given["CERTIFICATE"] is None else certificate_of(read_input(given["CERTIFICATE"]))
-        text, status, told = printed(given, kind, data, certificate)
+        with limited(COMMAND, given):
+            text, status, told = printed(given, read_inputs(given))
     except WordsError as words:
         sys.stderr.write(str(words))
         return WORDS
+    except NamesError as error:
+        sys.stderr.write(f"{error}\n")
+        return REFUSED
+    except (NoRecord, NoPicture, NoBytes) as error:
+        sys.stderr.write(f"{given['FILE']}: {error}\n")
+        return REFUSED
+    except TimeIsUp as error:
+        return fault("time", error)
     except OSError as error:
         return fault("read", error)
     try:

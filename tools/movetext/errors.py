@@ -1,9 +1,14 @@
 """What is wrong with a text, and where; and the name that was meant."""
 
-from typing import Iterable, List, Optional
+import re
+from bisect import bisect_right
+from typing import Iterable, List, Optional, Tuple
 
 # No more errors than these are told of one text.
 MOST_ERRORS = 20
+
+# No more letters than these are shown before and behind the place of an error.
+MOST_BEFORE = 100
 
 
 class Source:
@@ -12,19 +17,41 @@ class Source:
     def __init__(self, name: str, text: str):
         self.name = name
         self.text = text
+        self.starts: List[int] = []
 
-    def place(self, at: int):
+    def line_starts(self) -> List[int]:
+        """Where each line begins."""
+        if not self.starts:
+            self.starts = [0] + [found.end() for found in re.finditer("\n", self.text)]
+        return self.starts
+
+    def place(self, at: int) -> Tuple[int, int]:
         """The line and the column of an offset, both counted from 1."""
-        return self.text.count("\n", 0, at) + 1, at - self.text.rfind("\n", 0, at)
+        line = bisect_right(self.line_starts(), at)
+        return line, at - self.starts[line - 1] + 1
+
+    def marked(self, at: int) -> List[str]:
+        """The line of an offset, and a line with a caret below it. No more of the line is shown than fits."""
+        start = self.text.rfind("\n", 0, at) + 1
+        end = self.text.find("\n", at)
+        line = self.text[start:] if end < 0 else self.text[start:end]
+        column = at - start
+        if column > MOST_BEFORE:
+            line, column = ".." + line[column - MOST_BEFORE:], MOST_BEFORE + 2
+        if len(line) > column + MOST_BEFORE:
+            line = line[:column + MOST_BEFORE] + ".."
+        return [line, "".join("\t" if letter == "\t" else " " for letter in line[:column]) + "^"]
 
 
 class TextError(Exception):
-    """Something wrong at an offset of a text."""
+    """Something wrong at an offset of a text. Where lines are given that say more, maybe none, the text's own line is shown before
+    them."""
 
-    def __init__(self, at: int, message: str):
+    def __init__(self, at: int, message: str, more: Optional[Iterable[str]] = None):
         super().__init__(message)
         self.at = at
         self.message = message
+        self.more = None if more is None else list(more)
 
 
 class TextErrors(Exception):
@@ -42,7 +69,10 @@ class TextErrors(Exception):
 
     def line(self, error: TextError) -> str:
         line, column = self.source.place(error.at)
-        return f"{self.source.name}:{line}:{column}: {error.message}"
+        first = f"{self.source.name}:{line}:{column}: {error.message}"
+        if error.more is None:
+            return first
+        return "\n    ".join([first, *self.source.marked(error.at), *error.more])
 
 
 def distance(one: str, other: str, most: int) -> int:

@@ -15,7 +15,7 @@ OWN = "Self"
 class Names:
     """Identifiers, addresses and module handles in the making, and the names that modules go by."""
 
-    def __init__(self):
+    def __init__(self) -> None:
         self.identifiers: Pool[str] = Pool("identifiers")
         self.addresses: Pool[bytes] = Pool("addresses")
         self.modules: Pool[model.ModuleHandle] = Pool("module handles")
@@ -34,6 +34,7 @@ class Names:
 
     def handle(self, module: syntax.ModuleName) -> model.ModuleHandle:
         """A module handle by its address and name."""
+        assert module.address is not None
         return model.ModuleHandle(self.address(module.address, module.at), self.identifier(module.name))
 
     def module(self, module: Optional[syntax.ModuleName]) -> int:
@@ -42,7 +43,8 @@ class Names:
             return self.own
         if module.address is None:
             return self.by_alias(module.name)
-        place = self.modules.places.get(self.known_handle(module))
+        handle = self.known_handle(module)
+        place = None if handle is None else self.modules.places.get(handle)
         if place is None:
             raise TextError(module.at, f"no import of the module `{module_text(module)}`")
         return place
@@ -57,8 +59,8 @@ class Names:
 
     def known_handle(self, module: syntax.ModuleName) -> Optional[model.ModuleHandle]:
         """A module handle by its address and name, where both are in their tables."""
-        address, name = module.address, self.known_identifier(module.name)
-        address = address.number if isinstance(address, syntax.Index) else self.addresses.places.get(address)
+        told, name = module.address, self.known_identifier(module.name)
+        address = told.number if isinstance(told, syntax.Index) else self.addresses.places.get(told or b"")
         return None if address is None or name is None else model.ModuleHandle(address, name)
 
     def known_identifier(self, name: syntax.Entry) -> Optional[int]:

@@ -4,13 +4,15 @@ A module keeps its tables as lists in their order, and what refers to an entry h
 from it again exactly. Indices may be out of bounds: what resolves them answers None there."""
 
 from dataclasses import dataclass, field
-from typing import List, Optional, Tuple
+from typing import List, Optional, Sequence, Tuple, TypeVar, Union
 
 from .opcodes import Opcode
 from .record_model import (AUDIT, LEDGER_MAGIC, PUBLISH, RUN, SHOW, Audit, Ledger, Offer, Publish, RawRecord,  # noqa: F401
                            Record, Run, Show, Stored, Stream, Tally)
 from .values import (ADDRESS, ADDRESS_BYTES, BOOL, LATE_KINDS, LEAF_KINDS, LEAF_NAMES, LEAF_WIDTHS, MUTABLE,  # noqa: F401
                      NUMBER_KINDS, REFERENCE, SIGNER, STRUCT, U8, U16, U32, U64, U128, Value, read_leaf, write_leaf)
+
+T = TypeVar("T")
 
 MAGIC = bytes.fromhex("a11ceb0b")
 VERSIONS = (5, 6)
@@ -32,27 +34,28 @@ ABILITIES = ((COPY, "copy"), (DROP, "drop"), (STORE, "store"), (KEY, "key"))
 
 @dataclass(frozen=True)
 class Token:
-    """A type. `inner` is what a reference refers to, `struct` the index of a struct's handle."""
+    """A type. `inner` is what a reference refers to, `struct` the index of a struct's handle; of any other type they are None,
+    and nobody asks."""
 
     kind: int
-    inner: Optional["Token"] = None
-    struct: Optional[int] = None
+    inner: "Token" = None  # type: ignore[assignment]
+    struct: int = None  # type: ignore[assignment]
 
     @property
-    def is_reference(self):
+    def is_reference(self) -> bool:
         return self.kind in (REFERENCE, MUTABLE)
 
     @property
-    def is_mutable(self):
+    def is_mutable(self) -> bool:
         """Whether it is a mutable reference."""
         return self.kind == MUTABLE
 
     @property
-    def is_number(self):
+    def is_number(self) -> bool:
         return self.kind in NUMBER_KINDS
 
     @property
-    def value_type(self):
+    def value_type(self) -> "Token":
         """What a reference refers to, and any other type itself."""
         return self.inner if self.is_reference else self
 
@@ -103,7 +106,7 @@ class Constant:
     data: bytes
 
     @property
-    def value(self):
+    def value(self) -> Union[bool, int, bytes, None]:
         """The value, as `read_leaf` gives it, or None where the bytes are no value of the type."""
         return read_leaf(self.type.kind, self.data)
 
@@ -126,15 +129,15 @@ class StructDefinition:
 
 @dataclass
 class Instruction:
-    """A row of the table of instructions with an operand: an index, a number, or None. `offset` is where it stands in the
+    """A row of the table of instructions with an operand: an index or a number, or None where the row has none. `offset` is where it stands in the
     bytes that it was read from."""
 
     opcode: Opcode
-    operand: Optional[int] = None
+    operand: int = None  # type: ignore[assignment]
     offset: Optional[int] = field(default=None, compare=False)
 
     @property
-    def name(self):
+    def name(self) -> str:
         return self.opcode.name
 
 
@@ -150,7 +153,7 @@ class FunctionDefinition:
     locals: int = 0
     code: List[Instruction] = field(default_factory=list)
 
-    def block_starts(self):
+    def block_starts(self) -> List[int]:
         """The first instructions of the blocks, in order."""
         size = len(self.code)
         starts = {0} if size else set()
@@ -162,9 +165,15 @@ class FunctionDefinition:
         return sorted(starts)
 
 
-def entry(table, index):
+def entry(table: Sequence[T], index: Optional[int]) -> Optional[T]:
     """The entry of a table at an index, or None where there is none."""
     return table[index] if index is not None and 0 <= index < len(table) else None
+
+
+def known(found: Optional[T]) -> T:
+    """What was found of a module that passed phase 3, in which all that is named is there."""
+    assert found is not None
+    return found
 
 
 @dataclass
@@ -184,73 +193,73 @@ class Module:
     field_handles: List[FieldHandle] = field(default_factory=list)
     own: int = 0
 
-    def table(self, kind):
+    def table(self, kind: int) -> list:
         """The entries of the table of a kind."""
         return getattr(self, TABLE_FIELDS[kind])
 
-    def identifier(self, index):
+    def identifier(self, index: Optional[int]) -> Optional[str]:
         return entry(self.identifiers, index)
 
-    def address_of(self, module_handle):
+    def address_of(self, module_handle: int) -> Optional[bytes]:
         """The address of the module that the handle at an index names."""
         handle = entry(self.module_handles, module_handle)
         return entry(self.addresses, handle.address) if handle else None
 
-    def module_name(self, module_handle):
+    def module_name(self, module_handle: int) -> Optional[str]:
         """The name of the module that the handle at an index names."""
         handle = entry(self.module_handles, module_handle)
         return entry(self.identifiers, handle.name) if handle else None
 
-    def struct_name(self, struct_handle):
+    def struct_name(self, struct_handle: Optional[int]) -> Optional[str]:
         """The name of the struct that the handle at an index names."""
         handle = entry(self.struct_handles, struct_handle)
         return entry(self.identifiers, handle.name) if handle else None
 
-    def function_name(self, function_handle):
+    def function_name(self, function_handle: int) -> Optional[str]:
         """The name of the function that the handle at an index names."""
         handle = entry(self.function_handles, function_handle)
         return entry(self.identifiers, handle.name) if handle else None
 
-    def definition_handle(self, struct):
+    def definition_handle(self, struct: int) -> Optional[StructHandle]:
         """The struct handle of the struct definition at an index."""
         definition = entry(self.structs, struct)
         return entry(self.struct_handles, definition.handle) if definition else None
 
-    def definition_name(self, struct):
+    def definition_name(self, struct: int) -> Optional[str]:
         """The name of the struct definition at an index."""
         definition = entry(self.structs, struct)
         return self.struct_name(definition.handle) if definition else None
 
-    def definition_of(self, struct_handle):
+    def definition_of(self, struct_handle: Optional[int]) -> Optional[int]:
         """The index of the first struct definition of the handle at an index."""
         return next((i for i, definition in enumerate(self.structs) if definition.handle == struct_handle), None)
 
-    def field_of(self, field_handle):
+    def field_of(self, field_handle: int) -> Optional[Field]:
         """The field that the field handle at an index names."""
         handle = entry(self.field_handles, field_handle)
         definition = entry(self.structs, handle.struct) if handle else None
-        return entry(definition.fields, handle.position) if definition else None
+        return entry(definition.fields, handle.position) if handle and definition else None
 
-    def signature(self, index):
+    def signature(self, index: Optional[int]) -> Optional[Signature]:
         """The types of a signature, or None."""
         return entry(self.signatures, index)
 
-    def parameters(self, function):
+    def parameters(self, function: FunctionDefinition) -> Optional[Signature]:
         """The types of a function definition's parameters, or None."""
         handle = entry(self.function_handles, function.handle)
         return entry(self.signatures, handle.parameters) if handle else None
 
-    def results(self, function):
+    def results(self, function: FunctionDefinition) -> Optional[Signature]:
         """The types of a function definition's results, or None."""
         handle = entry(self.function_handles, function.handle)
         return entry(self.signatures, handle.results) if handle else None
 
-    def local_types(self, function):
+    def local_types(self, function: FunctionDefinition) -> Optional[Signature]:
         """The types of a function definition's locals, its parameters first, or None."""
         parameters, others = self.parameters(function), entry(self.signatures, function.locals)
         return None if parameters is None or others is None else parameters + others
 
-    def is_own_struct(self, struct_handle):
+    def is_own_struct(self, struct_handle: Optional[int]) -> bool:
         """Whether the struct handle at an index names a struct of this module."""
         handle = entry(self.struct_handles, struct_handle)
         return handle is not None and handle.module == self.own

@@ -1,6 +1,8 @@
 """Modules: their imports, structs, functions and tables."""
 
-from . import scanner, syntax
+from typing import NoReturn
+
+from . import habits, scanner, syntax
 from .errors import one_of
 from .model import VERSIONS
 from .numbers import FUNCTION_COUNT, STRUCT_FIELDS
@@ -46,7 +48,7 @@ class ModuleParser(TableParser):
         """Whether the next word is a function's name, since its parameters follow."""
         return self.texts[self.at + 1] == "(" and self.kinds[self.at + 1] == scanner.MARK
 
-    def item(self, module: syntax.Module):
+    def item(self, module: syntax.Module) -> None:
         """An import, a struct, a function or tables."""
         if self.kind == scanner.NAME and not self.is_named():
             if self.is_word("import"):
@@ -83,7 +85,7 @@ class ModuleParser(TableParser):
             return True
         return False
 
-    def imported(self, imported: syntax.Import):
+    def imported(self, imported: syntax.Import) -> None:
         """A struct or a function of another module."""
         if self.is_word("struct") and not self.is_named():
             self.at += 1
@@ -96,12 +98,6 @@ class ModuleParser(TableParser):
         path = syntax.Path(imported.module, self.entry("a struct, a function"), self.start)
         parameters = self.in_parentheses(self.parameter_type)
         imported.functions.append(syntax.FunctionHandleText(path, parameters, self.results()))
-
-    def parameter_type(self) -> syntax.Type:
-        """A parameter's type, with or without a name."""
-        if self.kind in (scanner.NAME, scanner.QUOTED) and self.texts[self.at + 1] == ":":
-            self.at += 2
-        return self.type()
 
     def struct(self) -> syntax.Struct:
         """A struct definition."""
@@ -130,11 +126,11 @@ class ModuleParser(TableParser):
         self.expect(":")
         return syntax.Variable(name, self.type())
 
-    def local_variable(self) -> syntax.Variable:
+    def local_variable(self) -> syntax.Local:
         """The name and the type of a parameter or another local."""
         name = self.name("a local's name")
         self.expect(":")
-        return syntax.Variable(name, self.type())
+        return syntax.Local(name, self.type())
 
     def function(self, module: syntax.Module) -> syntax.Function:
         """A function definition."""
@@ -156,8 +152,9 @@ class ModuleParser(TableParser):
         self.code(function)
         return function
 
-    def modifiers(self, function: syntax.Function):
+    def modifiers(self, function: syntax.Function) -> None:
         """What stands before a function's name."""
+        self.check_friends()
         while not self.is_named():
             if not function.is_public and self.accept_word("public"):
                 function.is_public = True
@@ -167,21 +164,30 @@ class ModuleParser(TableParser):
                 self.accept_word("fun")
                 return
 
-    def shape(self, function: syntax.Function):
+    def check_friends(self) -> None:
+        """Fails at `public(friend)` and its like."""
+        inner = self.texts[self.at + 2:self.at + 4]
+        if self.is_word("public") and self.is_named() and inner[1:] == [")"] and inner[0] in ("friend", "package", "script"):
+            self.fail(f"there is no `public({inner[0]})`: a function is `public`, so that every module may call it, or private")
+
+    def shape(self, function: syntax.Function) -> None:
         """A function's parameters and results."""
         if not self.is_mark("("):
             self.no_item(function)
         function.parameters = self.in_parentheses(self.local_variable)
         function.results = self.results()
 
-    def no_item(self, function: syntax.Function):
+    def no_item(self, function: syntax.Function) -> NoReturn:
         """Fails at a name that is no function's, since no parenthesis follows it."""
+        before = self.texts[self.at - 1]
+        if before in habits.ITEMS:
+            self.fail(habits.ITEMS[before], self.starts[self.at - 1])
         if function.is_public or function.is_entry:
             self.wanted("`(`")
         self.at -= 1
         self.wanted(f"{one_of(ITEMS)}, or a function's name and `(`", ITEMS)
 
-    def declarations(self, function: syntax.Function):
+    def declarations(self, function: syntax.Function) -> None:
         """The locals beside the parameters."""
         self.skip_ends()
         while self.is_word("let") and self.texts[self.at + 1] != ":":
@@ -190,5 +196,7 @@ class ModuleParser(TableParser):
             if isinstance(function.name, syntax.Index):
                 self.fail("a function by the index of its handle has `locals` with the index of a signature, and no `let`")
             self.at += 1
+            if self.is_word("mut"):
+                self.fail("every local may be written: there is no `mut` behind `let`")
             function.locals.append(self.local_variable())
             self.expect_end()

@@ -1,5 +1,7 @@
 """ULEB128 numbers: seven bits a byte, the lowest group first, the high bit set on all bytes but the last."""
 
+from typing import Tuple
+
 # The greatest numbers that a text may hold at a place, by docs/FORMATS.md.
 INDEX = 65_535
 TABLE_COUNT = 255
@@ -29,13 +31,13 @@ SMALL = [bytes([value]) for value in range(128)]
 class NumberError(Exception):
     """Bytes at a place that are no number: `reason` says why, `offset` where the number begins."""
 
-    def __init__(self, offset, reason):
+    def __init__(self, offset: int, reason: str):
         super().__init__(reason)
         self.offset = offset
         self.reason = reason
 
 
-def write_number(value):
+def write_number(value: int) -> bytes:
     """The shortest ULEB128 bytes of a number."""
     if value < 128:
         return SMALL[value]
@@ -47,7 +49,7 @@ def write_number(value):
     return bytes(out)
 
 
-def read_number(data, offset, end, greatest):
+def read_number(data: bytes, offset: int, end: int, greatest: int) -> Tuple[int, int]:
     """The number at `offset` of the bytes before `end`, and the offset after it; NumberError where there is none."""
     value = shift = 0
     at = offset
@@ -65,5 +67,5 @@ def read_number(data, offset, end, greatest):
     if byte == 0 and shift:
         raise NumberError(offset, f"the number {value} is written in {at - offset} bytes, longer than its shortest form")
     if value > greatest:
-        raise NumberError(offset, f"the number {value} is greater than {greatest}")
+        raise NumberError(offset, f"{value}; it is at most {greatest}")
     return value, at

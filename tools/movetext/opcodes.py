@@ -22,17 +22,17 @@ class Opcode(NamedTuple):
     version: int = 5     # the first version that has it
 
     @property
-    def is_branch(self):
+    def is_branch(self) -> bool:
         """Whether control may go to a target."""
         return self.operand == TARGET
 
     @property
-    def leaves_or_jumps(self):
+    def leaves_or_jumps(self) -> bool:
         """Whether control never goes on to the next instruction."""
         return self.code in (0x02, 0x05, 0x27)
 
     @property
-    def ends_block(self):
+    def ends_block(self) -> bool:
         """Whether the instruction is the last of its block."""
         return self.operand == TARGET or self.code in (0x02, 0x27)
 

@@ -1,7 +1,7 @@
 """What all parts of the parser stand on: the next word of a text, and the names, numbers, types and values that it begins."""
 
 import re
-from typing import Callable, Iterable, List, NoReturn, Optional, Union
+from typing import Callable, Iterable, List, NoReturn, Optional, Tuple, Union
 
 from . import model, scanner, syntax
 from .errors import TextError, meant, one_of
@@ -63,7 +63,7 @@ class WordParser:
             return True
         return False
 
-    def expect(self, text: str):
+    def expect(self, text: str) -> None:
         if not self.accept(text):
             self.wanted(f"`{text}`")
 
@@ -77,33 +77,33 @@ class WordParser:
             return True
         return False
 
-    def expect_word(self, text: str):
+    def expect_word(self, text: str) -> None:
         if not self.accept_word(text):
             self.wanted(f"`{text}`", [text])
 
-    def skip_lines(self):
+    def skip_lines(self) -> None:
         """Reads line ends."""
         while self.kinds[self.at] == scanner.LINE_END:
             self.at += 1
 
-    def skip_ends(self):
+    def skip_ends(self) -> None:
         """Reads line ends and semicolons."""
         while self.kinds[self.at] == scanner.LINE_END or self.is_mark(";"):
             self.at += 1
 
-    def expect_end(self):
+    def expect_end(self) -> None:
         """Reads the end of an item: a line end or a semicolon, with any more of them, or what comes before a brace."""
         if self.kinds[self.at] == scanner.LINE_END or self.is_mark(";"):
             self.skip_ends()
         elif not (self.is_mark("}") or self.kinds[self.at] == scanner.END):
             self.wanted("the end of the line")
 
-    def open_brace(self):
+    def open_brace(self) -> None:
         self.skip_lines()
         self.expect("{")
         self.skip_ends()
 
-    def in_braces(self, item: Callable[[], object], wanted: str):
+    def in_braces(self, item: Callable[[], object], wanted: str) -> None:
         """Reads items in braces, each with its end."""
         self.open_brace()
         while not self.accept("}"):
@@ -178,7 +178,7 @@ class TermParser(WordParser):
         self.at += 1
         return value
 
-    def split_number(self, most: int):
+    def split_number(self, most: int) -> Tuple[int, str]:
         """The number that the next word is, and the type behind it or an empty text. Doesn't read the word."""
         text = self.text
         found = NUMBER_PATTERN.match(text)
@@ -193,11 +193,14 @@ class TermParser(WordParser):
     def address(self) -> bytes:
         """An address as `0x1`."""
         text = self.text
+        if self.kind == scanner.NUMBER and text.isdigit():
+            self.fail(f"an address is hexadecimal: write `0x{int(text[:MOST_LETTERS]):x}` for `{shortened(text)}`")
         if self.kind != scanner.NUMBER or not text.startswith("0x"):
-            self.wanted("an address as `0x1`")
+            names = "; addresses have no names" if self.kind == scanner.NAME else ""
+            self.fail(f"wanted an address as `0x1`, found {self.found()}{names}")
         digits = text[2:]
         if not re.match(r"[0-9a-fA-F]+\Z", digits):
-            self.fail(f"`{shortened(text)}` is no address")
+            self.fail(f"`{shortened(text)}` is no address: its digits are 0 to 9 and a to f")
         if len(digits) > 2 * ADDRESS_BYTES:
             self.fail(f"an address has at most {2 * ADDRESS_BYTES} hexadecimal digits, this one {len(digits)}")
         self.at += 1
@@ -214,7 +217,7 @@ class TermParser(WordParser):
     def accept_separator(self) -> bool:
         return self.accept("::") or self.accept(".")
 
-    def expect_separator(self):
+    def expect_separator(self) -> None:
         if not self.accept_separator():
             self.wanted("`::`")
 
@@ -269,7 +272,7 @@ class TermParser(WordParser):
             return syntax.Type(STRUCT, None, path.name, start)
         return syntax.Type(STRUCT, None, path, start)
 
-    def check_leaf(self, leaf: int, at: int):
+    def check_leaf(self, leaf: int, at: int) -> None:
         """Fails where the version of the module hasn't the type."""
         if self.version < 6 and leaf in LATE_KINDS:
             self.fail(f"`{LEAF_NAMES[leaf]}` is of version 6: write `version 6` behind the module's name", at)
@@ -277,6 +280,12 @@ class TermParser(WordParser):
     def types(self) -> List[syntax.Type]:
         """Types in parentheses."""
         return self.in_parentheses(self.type)
+
+    def parameter_type(self) -> syntax.Type:
+        """A parameter's type, with or without a name."""
+        if self.kind in (scanner.NAME, scanner.QUOTED) and self.texts[self.at + 1] == ":":
+            self.at += 2
+        return self.type()
 
     def results(self) -> List[syntax.Type]:
         """The results behind a colon, if there is one."""

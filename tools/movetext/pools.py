@@ -9,11 +9,12 @@ T = TypeVar("T", bound=Hashable)
 
 
 class Pool(Generic[T]):
-    """A table in the making."""
+    """A table in the making. `starts` are the offsets in the text at which its entries stand first."""
 
     def __init__(self, what: str):
         self.what = what
         self.entries: List[T] = []
+        self.starts: List[int] = []
         self.places: Dict[T, int] = {}
 
     def add(self, entry: T, at: int) -> int:
@@ -22,6 +23,7 @@ class Pool(Generic[T]):
         if place > INDEX:
             raise TextError(at, f"a module has at most {INDEX + 1} {self.what}")
         self.entries.append(entry)
+        self.starts.append(at)
         self.places.setdefault(entry, place)
         return place
 

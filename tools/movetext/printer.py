@@ -1,11 +1,15 @@
 """Modules as text in the language of docs/TEXT.md."""
 
 from bisect import bisect_left
+from typing import Callable, Dict, Iterable, List, Optional, Sequence, Set
 
 from . import model
+from .cursor import Fault
 from .model import entry
-from .naming import Names, abilities_text, address_text, other_tables, quoted
+from .naming import Names, abilities_text, address_text, other_tables, quoted, unused_name
 from .opcodes import CONSTANT, FIELD, FUNCTION, LOCAL, NOTHING, NUMBER, STRUCT, TARGET
+from .reader import ModuleReading
+from .source_names import ModuleNames
 from .states import state_lines
 
 INDENT = "    "
@@ -21,25 +25,28 @@ TABLE_WORDS = {
 OTHER_ORDER = "// The tables of these bytes stand in another order than a writer's, in which this text makes them."
 
 
-def module_lines(reading, certificate=None, base=0):
+def module_lines(reading: ModuleReading, certificate: Optional[model.Certificate] = None, base: int = 0,
+                 source: Optional[ModuleNames] = None) -> List[str]:
     """A module that was read, as lines of text. A certificate's states stand as comments where their blocks begin. Offsets
-    are told from the first byte of the file, in which the module begins at `base`."""
+    are told from the first byte of the file, in which the module begins at `base`. Locals and labels are called as in the
+    module's text where its names are given."""
     lines = []
     if not reading.is_in_order:
         lines.append(OTHER_ORDER)
-    return lines + ModulePrinter(reading.module, certificate, reading.faults, base).lines()
+    return lines + ModulePrinter(reading.module, certificate, reading.faults, base, source).lines()
 
 
-def indented(lines, depth=1):
+def indented(lines: Iterable[str], depth: int = 1) -> List[str]:
     return [INDENT * depth + line if line else line for line in lines]
 
 
-def filled(front, entries, back):
+def filled(front: str, entries: List[str], back: str) -> List[str]:
     """Entries with semicolons between them on one line behind `front`, or on several between `front` and `back`."""
     line = f"{front} {'; '.join(entries)} {back}"
     if len(line) <= WIDTH:
         return [line]
-    lines, width = [[]], WIDTH - 2 * len(INDENT)
+    width = WIDTH - 2 * len(INDENT)
+    lines: List[List[str]] = [[]]
     taken = 0
     for one in entries:
         if taken and taken + len(one) > width:
@@ -53,19 +60,22 @@ def filled(front, entries, back):
 class ModulePrinter:
     """Prints a module. Faults are those found in its bytes, shown as comments where they stand in code."""
 
-    def __init__(self, module, certificate=None, faults=(), base=0):
+    def __init__(self, module: model.Module, certificate: Optional[model.Certificate] = None, faults: Sequence[Fault] = (),
+                 base: int = 0, source: Optional[ModuleNames] = None):
         self.base = base
         self.module = module
+        self.source = source
         self.names = Names(module)
         self.states = certificate.functions if certificate else []
         self.faults = faults
 
-    def lines(self):
+    def lines(self) -> List[str]:
         """The module, with an empty line before and behind each part of several lines."""
         parts = [self.tables(), self.imports()]
         parts += [self.struct(index, one) for index, one in enumerate(self.module.structs)]
         parts += [FunctionPrinter(self, index, one).lines() for index, one in enumerate(self.module.functions)]
-        body, is_long = [], False
+        body: List[str] = []
+        is_long = False
         for part in filter(None, parts):
             if body and (is_long or len(part) > 1):
                 body.append("")
@@ -73,13 +83,13 @@ class ModulePrinter:
             is_long = len(part) > 1
         return [self.head() + " {"] + indented(body) + ["}"]
 
-    def head(self):
+    def head(self) -> str:
         """What stands before the module's brace."""
         own = self.module.own
         named = self.names.module_text(own) if entry(self.names.is_module, own) else f"#{own}"
         return f"module {named}" + (f" version {self.module.version}" if self.module.version != 5 else "")
 
-    def tables(self):
+    def tables(self) -> List[str]:
         """The tables that come out in another order where they aren't listed."""
         other = other_tables(self.names)
         if not other:
@@ -91,7 +101,7 @@ class ModulePrinter:
                 lines += filled(f"{word} {{", entries, "}")
         return ["tables {"] + indented(lines) + ["}"] if lines else []
 
-    def entry_text(self, kind, index):
+    def entry_text(self, kind: int, index: int) -> str:
         """An entry of a table as it's listed."""
         one = self.module.table(kind)[index]
         if kind == model.MODULE_HANDLES:
@@ -111,17 +121,17 @@ class ModulePrinter:
             return self.function_handle(index, one)
         return self.names.fields[index] if self.names.is_field[index] else f"#{one.struct}.#{one.position}"
 
-    def function_handle(self, index, handle):
+    def function_handle(self, index: int, handle: model.FunctionHandle) -> str:
         """A function handle as an import or a table lists it."""
         if not self.names.is_function[index]:
             return f"#{handle.module}::#{handle.name} #{handle.parameters}: #{handle.results}"
         return self.names.functions[index] + self.signature_text(handle)
 
-    def signature_text(self, handle):
+    def signature_text(self, handle: model.FunctionHandle) -> str:
         signatures = self.module.signatures
         return self.names.types(signatures[handle.parameters]) + self.names.results(signatures[handle.results])
 
-    def imports(self):
+    def imports(self) -> List[str]:
         """The other modules, each with its structs and functions."""
         lines = []
         for index, named in enumerate(self.names.is_module):
@@ -129,7 +139,7 @@ class ModulePrinter:
                 lines += self.import_lines(index)
         return lines
 
-    def import_lines(self, index):
+    def import_lines(self, index: int) -> List[str]:
         module, names = self.module, self.names
         alias = names.aliases.get(index)
         front = f"import {names.module_text(index)}" + (f" as {alias}" if alias else "")
@@ -140,13 +150,13 @@ class ModulePrinter:
                   if names.is_function[place] and handle.module == index]
         return [front + " {"] + indented(parts) + ["}"] if parts else [front]
 
-    def struct(self, index, definition):
+    def struct(self, index: int, definition: model.StructDefinition) -> List[str]:
         """A struct definition."""
         front = f"struct #{definition.handle}"
         if self.names.is_definition[index]:
             abilities = self.module.struct_handles[definition.handle].abilities
             front = f"struct {self.names.definitions[index]}{abilities_text(abilities)}"
-        seen = set()
+        seen: Set[int] = set()
         fields = [self.field(one, seen) for one in definition.fields]
         line = f"{front} {{ {', '.join(fields)} }}" if fields else f"{front} {{}}"
         if len(line) <= WIDTH:
@@ -154,7 +164,7 @@ class ModulePrinter:
         return [front + " {"] + indented(one + "," for one in fields) + ["}"]
 
 
-    def field(self, one, seen):
+    def field(self, one: model.Field, seen: Set[int]) -> str:
         """A field of a struct. A second one of a name is told by the name's index."""
         name = f"#{one.name}" if one.name in seen else self.names.identifier(one.name)
         seen.add(one.name)
@@ -164,38 +174,61 @@ class ModulePrinter:
 class FunctionPrinter:
     """Prints a function definition."""
 
-    def __init__(self, printer, index, function):
+    def __init__(self, printer: ModulePrinter, index: int, function: model.FunctionDefinition):
         self.names = printer.names
         self.module = printer.module
         self.function = function
         self.base = printer.base
         self.is_named = printer.names.is_function_definition[index]
-        self.parameters = printer.module.parameters(function) if self.is_named else ()
+        self.parameters = model.known(printer.module.parameters(function)) if self.is_named else ()
         self.states = entry(printer.states, index)
         self.faults = self.own_faults(printer, index)
         has_types = self.is_named and entry(self.names.is_signature, function.locals)
         self.others = self.module.signatures[function.locals] if has_types else None
         self.named_locals = len(self.parameters) + len(self.others or ()) if self.is_named else 0
+        self.source = printer.source.of_function(index) if printer.source else None
+        self.locals = self.local_names()
+        self.labels = self.label_names()
 
-    def own_faults(self, printer, index):
+    def local_names(self) -> List[str]:
+        """The locals' names: those of the text where it has one for each, else by their numbers."""
+        known = self.source.locals if self.source else []
+        if known and len(known) == self.named_locals and len(set(known)) == len(known):
+            return [quoted(name) for name in known]
+        first = len(self.parameters)
+        return [f"p{index}" if index < first else f"l{index}" for index in range(self.named_locals)]
+
+    def label_names(self) -> Dict[int, List[str]]:
+        """The labels before instructions: those of the text, and for each other target one by its block's number."""
+        code = self.function.code
+        targets = {one.operand for one in code if one.opcode.operand == TARGET}
+        known = {at: list(labels) for at, labels in self.source.labels.items() if at < len(code)} if self.source else {}
+        taken = {label for labels in known.values() for label in labels}
+        found = {at: [quoted(label) for label in labels] for at, labels in known.items() if labels}
+        for block, start in enumerate(self.function.block_starts()):
+            if start in targets and start not in found:
+                found[start] = [unused_name(f"b{block}", taken)]
+        return found
+
+    def own_faults(self, printer: ModulePrinter, index: int) -> Sequence[Fault]:
         """The faults that stand in this function's code."""
         if not printer.faults or not self.function.code:
             return []
         after = next((one.code[0].offset for one in printer.module.functions[index + 1:] if one.code), None)
         offsets = [fault.offset for fault in printer.faults]
         end = len(offsets) if after is None else bisect_left(offsets, after)
-        return printer.faults[bisect_left(offsets, self.function.code[0].offset):end]
+        return printer.faults[bisect_left(offsets, self.function.code[0].offset or 0):end]
 
-    def lines(self):
+    def lines(self) -> List[str]:
         return [self.head() + " {"] + indented(self.lets()) + self.code() + ["}"]
 
-    def head(self):
+    def head(self) -> str:
         """What stands before the function's brace."""
         function, names = self.function, self.names
         words = ["public"] * function.is_public + ["entry"] * function.is_entry
         if self.is_named:
             handle = self.module.function_handles[function.handle]
-            parameters = ", ".join(f"p{index}: {names.type(one)}" for index, one in enumerate(self.parameters))
+            parameters = ", ".join(f"{self.locals[index]}: {names.type(one)}" for index, one in enumerate(self.parameters))
             results = names.results(self.module.signatures[handle.results])
             words.append(f"{names.functions[function.handle]}({parameters}){results}")
         else:
@@ -206,53 +239,48 @@ class FunctionPrinter:
             words.append(f"locals #{function.locals}")
         return " ".join(words)
 
-    def lets(self):
+    def lets(self) -> List[str]:
         first = len(self.parameters)
-        return [f"let l{first + index}: {self.names.type(one)}" for index, one in enumerate(self.others or ())]
+        return [f"let {self.locals[first + index]}: {self.names.type(one)}" for index, one in enumerate(self.others or ())]
 
-    def local(self, index):
+    def local(self, index: int) -> str:
         """A local's name, or its number where it has none."""
-        if index >= self.named_locals:
-            return str(index)
-        return f"p{index}" if index < len(self.parameters) else f"l{index}"
+        return self.locals[index] if index < len(self.locals) else str(index)
 
-    def code(self):
+    def code(self) -> List[str]:
         """The instructions, with labels and what the certificate states."""
-        code = self.function.code
-        blocks = self.function.block_starts()
-        targets = {one.operand for one in code if one.opcode.operand == TARGET}
-        labels = {start: f"b{index}" for index, start in enumerate(blocks) if start in targets}
-        before = self.comments(blocks)
+        code, labels = self.function.code, self.labels
+        before = self.comments(self.function.block_starts())
         texts = self.operand_texts(labels)
         lines = []
         for index, instruction in enumerate(code):
             if index in labels:
-                lines.append(labels[index] + ":")
+                lines += [label + ":" for label in labels[index]]
             if index in before:
                 lines += before[index]
             opcode = instruction.opcode
             lines.append(INDENT + opcode.name + texts[opcode.operand](instruction.operand))
         return lines + before.get(len(code), [])
 
-    def operand_texts(self, labels):
+    def operand_texts(self, labels: Dict[int, List[str]]) -> Dict[int, Callable[[int], str]]:
         """For each kind of operand what makes its text, with a blank before it."""
-        def text_of(texts):
+        def text_of(texts: List[str]) -> Callable[[int], str]:
             return lambda index: f" {texts[index]}" if index < len(texts) else f" #{index}"
         names = self.names
         return {
             NOTHING: lambda _: "", NUMBER: lambda number: f" {number}", LOCAL: lambda index: " " + self.local(index),
-            TARGET: lambda index: f" {labels[index] if index in labels else index}", FUNCTION: text_of(names.functions),
+            TARGET: lambda index: f" {labels[index][0] if index in labels else index}", FUNCTION: text_of(names.functions),
             STRUCT: text_of(names.definitions), FIELD: text_of(names.fields), CONSTANT: text_of(names.constants),
         }
 
-    def comments(self, blocks):
+    def comments(self, blocks: List[int]) -> Dict[int, List[str]]:
         """By instruction, the lines of comments before it: faults, and states."""
-        found = {}
+        found: Dict[int, List[str]] = {}
         for block, state in enumerate(self.states or ()):
             told = state_lines(self.names, self.function, self.local, state)
             lines = [f"{INDENT}// block {block}: {told[0]}"] + [f"{INDENT}//     {line}" for line in told[1:]]
             found[blocks[block]] = lines
-        offsets = [one.offset for one in self.function.code]
+        offsets = [one.offset or 0 for one in self.function.code]
         for fault in self.faults:
             place = bisect_left(offsets, fault.offset)
             found.setdefault(place, []).append(f"{INDENT}// offset {self.base + fault.offset}: {fault.reason}")

@@ -259,7 +259,7 @@ class BodyMaker:
 
     def note_clear(self):
         if not self.stack:
-            self.clear.append((len(self.code), (self.states[0][:], set(self.states[1]))))
+            self.clear.append((len(self.code), (self.states[0][:], self.states[1].copy())))
 
     def add_one(self):
         """Adds an instruction that fits. Answers whether there was one."""
@@ -288,8 +288,8 @@ class BodyMaker:
         try:
             stack = Step(self.subject, self.index, at, self.stack).after()
             if stack and instruction.opcode.ends_block:
-                raise Need("the stack is empty where a block ends")
-            locals_, edges = self.states[0][:], set(self.states[1])
+                raise Need("the stack is empty where a block ends", "it isn't")
+            locals_, edges = self.states[0][:], self.states[1].copy()
             for domain, state, share in ((self.locals, locals_, 0.1), (self.borrows, edges, 1)):
                 try:
                     domain.step(state, at)

@@ -2,7 +2,7 @@
 they aren't as docs/FORMATS.md has them, and why."""
 
 from dataclasses import dataclass, field
-from typing import Dict, List, Optional
+from typing import Dict, List, Optional, Tuple
 
 from . import model, numbers
 from .cursor import Cursor, Fault, Stop
@@ -11,6 +11,7 @@ from .model import ModuleHandle, StructDefinition, StructHandle
 from .opcodes import BY_CODE, NUMBER
 
 HEADERS_AT = 8
+OPCODES_SAID = "01 to 35, and in version 6 48, 49, 4B and 4C"
 
 
 @dataclass
@@ -39,18 +40,18 @@ class ModuleReading:
     own_at: Optional[int] = None
 
     @property
-    def is_module(self):
+    def is_module(self) -> bool:
         return not self.faults
 
     @property
-    def is_in_order(self):
+    def is_in_order(self) -> bool:
         """Whether headers and contents stand in ascending order of kind, as a writer puts them."""
         by_content = sorted(self.headers, key=lambda header: header.offset)
         kinds = [header.kind for header in self.headers]
         return kinds == sorted(kinds) == [header.kind for header in by_content]
 
 
-def read_module(data):
+def read_module(data: bytes) -> ModuleReading:
     """What bytes are as a module: a ModuleReading."""
     reading = ModuleReading(Module())
     cursor = Cursor(data, faults=reading.faults)
@@ -67,14 +68,15 @@ def read_module(data):
     return reading
 
 
-def read_front(cursor, reading):
+def read_front(cursor: Cursor, reading: ModuleReading) -> None:
     """The magic bytes, the version and the headers."""
     for index, wanted in enumerate(model.MAGIC):
         if cursor.byte("the magic bytes") != wanted:
-            cursor.stop(index, "a module begins with the bytes A1 1C EB 0B")
+            cursor.stop(index, f"byte {index} is {cursor.data[index]:02X}, not {wanted:02X}; a module begins with the bytes "
+                               "A1 1C EB 0B")
     version = int.from_bytes(cursor.bytes(4, "the version"), "little")
     if version not in model.VERSIONS:
-        cursor.fault(4, f"no version {version}: a module is of version 5 or 6")
+        cursor.fault(4, f"version {version}; a module is of version 5 or 6")
     reading.module.version = 5 if version == 5 else 6
     count_at = cursor.at
     count = cursor.number(numbers.TABLE_COUNT, "the number of tables")
@@ -84,14 +86,14 @@ def read_front(cursor, reading):
         reading.headers.append(read_header(cursor, reading.headers, place))
 
 
-def read_header(cursor, before, place):
+def read_header(cursor: Cursor, before: List[Header], place: int) -> Header:
     """A header."""
     at = cursor.at
     kind = cursor.byte(f"the kind of table {place}")
     if kind not in TABLE_NAMES:
-        cursor.fault(at, f"no table has the kind {kind:02X}")
+        cursor.fault(at, f"a table of the kind {kind:02X}; the kinds are {', '.join(f'{one:02X}' for one in TABLE_NAMES)}")
     elif any(kind == header.kind for header in before):
-        cursor.fault(at, f"a second table of {TABLE_NAMES[kind]}")
+        cursor.fault(at, f"a second table of {TABLE_NAMES[kind]}; each kind stands at most once")
     named = TABLE_NAMES.get(kind, f"table {place}")
     offset = cursor.number(numbers.TABLE_BYTES, f"the offset of the {named}")
     length_at = cursor.at
@@ -101,7 +103,7 @@ def read_header(cursor, before, place):
     return Header(kind, offset, length, at)
 
 
-def place_tables(cursor, reading):
+def place_tables(cursor: Cursor, reading: ModuleReading) -> int:
     """Finds where each table begins and where their area ends; notes where the tables don't tile it."""
     area = cursor.at
     expected = 0
@@ -113,11 +115,11 @@ def place_tables(cursor, reading):
                                     f"tables stand without gap or overlap")
         expected = max(expected, header.offset + header.length)
     if expected > numbers.TABLE_BYTES:
-        cursor.fault(HEADERS_AT, f"the tables have {expected} bytes, more than {numbers.TABLE_BYTES}")
+        cursor.fault(HEADERS_AT, f"the tables have {expected} bytes; they have at most {numbers.TABLE_BYTES}")
     return area + expected
 
 
-def read_table(data, header, reading):
+def read_table(data: bytes, header: Header, reading: ModuleReading) -> None:
     """The entries of a table, as far as they go. A table of a kind that was read before is passed over."""
     read_entry = READERS.get(header.kind)
     if read_entry is None or header.kind in reading.offsets:
@@ -135,30 +137,31 @@ def read_table(data, header, reading):
     except Stop:
         pass
     if header.kind == model.FUNCTIONS and len(entries) > numbers.FUNCTION_COUNT:
-        cursor.fault(offsets[numbers.FUNCTION_COUNT], f"more than {numbers.FUNCTION_COUNT} function definitions")
+        cursor.fault(offsets[numbers.FUNCTION_COUNT],
+                     f"{len(entries)} function definitions; there are at most {numbers.FUNCTION_COUNT}")
 
 
-def read_own(cursor, reading):
+def read_own(cursor: Cursor, reading: ModuleReading) -> None:
     """The own module handle, after which nothing follows."""
     reading.own_at = cursor.at
     reading.module.own = cursor.index("the own module handle")
     if not cursor.is_at_end:
-        cursor.fault(cursor.at, f"{cursor.left()} after the own module handle, where nothing follows")
+        cursor.fault(cursor.at, f"{cursor.left()} after the own module handle, which is the last part")
 
 
-def read_module_handle(cursor, _module, entries):
+def read_module_handle(cursor: Cursor, _module: Module, entries: list) -> None:
     address = cursor.index("a module handle's address")
     entries.append(ModuleHandle(address, cursor.index("a module handle's name")))
 
 
-def read_no_type_parameters(cursor, what):
+def read_no_type_parameters(cursor: Cursor, what: str) -> None:
     at = cursor.at
     count = cursor.number(numbers.INDEX, f"the number of {what}'s type parameters")
     if count:
-        cursor.fault(at, f"{what} has {count} type parameters, where none are")
+        cursor.fault(at, f"{what} has {count} type parameters; there are no generics, so the number is 0")
 
 
-def read_struct_handle(cursor, _module, entries):
+def read_struct_handle(cursor: Cursor, _module: Module, entries: list) -> None:
     module = cursor.index("a struct handle's module")
     name = cursor.index("a struct handle's name")
     abilities = cursor.number(numbers.ABILITY_BITS, "a struct handle's abilities")
@@ -166,7 +169,7 @@ def read_struct_handle(cursor, _module, entries):
     entries.append(StructHandle(module, name, abilities))
 
 
-def read_function_handle(cursor, _module, entries):
+def read_function_handle(cursor: Cursor, _module: Module, entries: list) -> None:
     module = cursor.index("a function handle's module")
     name = cursor.index("a function handle's name")
     parameters = cursor.index("a function handle's parameters")
@@ -175,52 +178,52 @@ def read_function_handle(cursor, _module, entries):
     entries.append(FunctionHandle(module, name, parameters, results))
 
 
-def read_signature(cursor, module, entries):
+def read_signature(cursor: Cursor, module: Module, entries: list) -> None:
     count = cursor.number(numbers.SIGNATURE_TYPES, "the number of a signature's types")
     entries.append(tuple(cursor.token(module.version, "a signature's type") for _ in range(count)))
 
 
-def read_constant(cursor, module, entries):
+def read_constant(cursor: Cursor, module: Module, entries: list) -> None:
     token = cursor.token(module.version, "a constant's type")
     count = cursor.index("the number of a constant's bytes")
     entries.append(Constant(token, cursor.bytes(count, "a constant's bytes")))
 
 
-def read_identifier(cursor, _module, entries):
+def read_identifier(cursor: Cursor, _module: Module, entries: list) -> None:
     entries.append(cursor.identifier("an identifier"))
 
 
-def read_address(cursor, _module, entries):
+def read_address(cursor: Cursor, _module: Module, entries: list) -> None:
     entries.append(cursor.address("an address"))
 
 
-def read_struct(cursor, module, entries):
+def read_struct(cursor: Cursor, module: Module, entries: list) -> None:
     definition = StructDefinition(cursor.index("a struct definition's handle"))
     at = cursor.at
     mark = cursor.byte("the byte 02 of a struct definition")
     if mark != 2:
-        cursor.fault(at, f"a struct definition has the byte {mark:02X} after its handle, not 02")
+        cursor.fault(at, f"a struct definition has the byte {mark:02X} after its handle; it is 02")
     for _ in range(cursor.number(numbers.STRUCT_FIELDS, "the number of a struct's fields")):
         name = cursor.index("a field's name")
         definition.fields.append(Field(name, cursor.token(module.version, "a field's type")))
     entries.append(definition)
 
 
-def read_field_handle(cursor, _module, entries):
+def read_field_handle(cursor: Cursor, _module: Module, entries: list) -> None:
     struct = cursor.index("a field handle's struct definition")
     entries.append(FieldHandle(struct, cursor.index("a field handle's position")))
 
 
-def read_choice(cursor, what, choices):
+def read_choice(cursor: Cursor, what: str, choices: Tuple[int, int]) -> bool:
     """A byte that is one of two, of which the second means True. Another is noted, and taken as the first."""
     at = cursor.at
     byte = cursor.byte(what)
     if byte not in choices:
-        cursor.fault(at, f"{what} is {byte:02X}, neither {choices[0]:02X} nor {choices[1]:02X}")
+        cursor.fault(at, f"{what} is {byte:02X}; it is {choices[0]:02X} or {choices[1]:02X}")
     return byte == choices[1]
 
 
-def read_function(cursor, module, entries):
+def read_function(cursor: Cursor, module: Module, entries: list) -> None:
     function = FunctionDefinition(cursor.index("a function definition's handle"))
     function.is_public = read_choice(cursor, "a function's visibility", (0, 1))
     function.is_entry = read_choice(cursor, "a function's flags", (0, 4))
@@ -232,7 +235,7 @@ def read_function(cursor, module, entries):
     read_code(cursor, module.version, count, function.code)
 
 
-def read_code(cursor, version, count, code):
+def read_code(cursor: Cursor, version: int, count: int, code: List[Instruction]) -> None:
     """So many instructions, put at the end of `code` one by one."""
     data, end = cursor.data, cursor.end
     for _ in range(count):
@@ -241,11 +244,11 @@ def read_code(cursor, version, count, code):
             cursor.stop(start, f"{len(code)} of {count} instructions, and the bytes end")
         opcode = BY_CODE.get(data[start])
         if opcode is None:
-            cursor.stop(start, f"no instruction has the opcode {data[start]:02X}")
+            cursor.stop(start, f"the opcode {data[start]:02X}; the opcodes are {OPCODES_SAID}")
         if opcode.version > version:
-            cursor.fault(start, f"only version {opcode.version} has the instruction {opcode.name}")
+            cursor.fault(start, f"the instruction {opcode.name} in version {version}; only version {opcode.version} has it")
         cursor.at = start + 1
-        operand = None
+        operand: int = None  # type: ignore[assignment]
         if opcode.operand == NUMBER:
             operand = int.from_bytes(cursor.bytes(opcode.width, f"the number of {opcode.name}"), "little")
         elif opcode.operand:

@@ -1,7 +1,7 @@
 """Streams of records from bytes."""
 
 from dataclasses import dataclass, field
-from typing import List
+from typing import Callable, Dict, List, Optional, Tuple
 
 from . import model, numbers
 from .cursor import Cursor, Fault, Stop
@@ -30,7 +30,7 @@ class StreamReading:
     rest_at: int = 0
 
 
-def read_stream(data):
+def read_stream(data: bytes) -> StreamReading:
     """What bytes are as a stream of records: a StreamReading. All bytes are one, but for a rest after the last record."""
     reading = StreamReading(Stream())
     cursor = Cursor(data, faults=reading.faults)
@@ -48,7 +48,7 @@ def read_stream(data):
     return reading
 
 
-def read_record(cursor):
+def read_record(cursor: Cursor) -> Tuple[model.Record, RecordPlace]:
     """A record and its place. A payload that isn't of its kind's shape makes a raw record."""
     at = cursor.at
     kind = cursor.byte("a record's kind")
@@ -57,9 +57,9 @@ def read_record(cursor):
     cursor.bytes(size, "a record's payload")
     payload = Cursor(cursor.data, place.payload_at, cursor.at, place.faults)
     read_payload = PAYLOADS.get(kind)
-    record = None
+    record: Optional[model.Record] = None
     if read_payload is None:
-        payload.fault(at, f"no record has the kind {kind:02X}")
+        payload.fault(at, f"a record of the kind {kind:02X}; the kinds are 01 publish, 02 run, 03 show and 04 audit")
     else:
         try:
             record = read_payload(payload, place)
@@ -69,15 +69,16 @@ def read_record(cursor):
             payload.fault(payload.at, f"{payload.left()} after the record's last part")
     if place.faults:
         record = RawRecord(kind, bytes(cursor.data[place.payload_at:cursor.at]))
+    assert record is not None
     return record, place
 
 
-def read_publish(cursor, place):
+def read_publish(cursor: Cursor, place: RecordPlace) -> Publish:
     record = Publish(cursor.address("the sender"))
     at = cursor.at
     count = cursor.number(numbers.BUNDLE_MODULES, "the number of modules")
     if count == 0:
-        cursor.fault(at, "a publish record of no module")
+        cursor.fault(at, "a publish record of no module; it has 1 to 16")
     for _ in range(count):
         size = cursor.number(numbers.TABLE_BYTES, "a module's length")
         place.modules.append(cursor.at)
@@ -88,7 +89,7 @@ def read_publish(cursor, place):
     return record
 
 
-def read_run(cursor, _place):
+def read_run(cursor: Cursor, _place: RecordPlace) -> Run:
     sender, address = cursor.address("the sender"), cursor.address("the module's address")
     module, function = cursor.identifier("the module's name"), cursor.identifier("the function's name")
     record = Run(sender, address, module, function, cursor.number(numbers.BUDGET, "the budget"))
@@ -97,25 +98,27 @@ def read_run(cursor, _place):
     return record
 
 
-def read_argument(cursor):
+def read_argument(cursor: Cursor) -> model.Value:
     at = cursor.at
     kind = cursor.byte("an argument's type")
     if kind not in LEAF_WIDTHS:
         named = f"the type {LEAF_NAMES[kind]}" if kind in LEAF_NAMES else f"a type that is written {kind:02X}"
-        cursor.stop(at, f"no argument is of {named}")
+        cursor.stop(at, f"an argument of {named}; it is a bool, a number or an address")
     return cursor.value(kind, "an argument")
 
 
-def read_marked(record_type):
+def read_marked(record_type: Callable[[bool], model.Record]) -> Callable[[Cursor, RecordPlace], model.Record]:
     """A reader of a show or an audit record: its payload is nothing, or 01 for JSON."""
-    def read(cursor, _place):
+    def read(cursor: Cursor, _place: RecordPlace) -> model.Record:
         at = cursor.at
         if cursor.is_at_end:
             return record_type(False)
         if cursor.byte("the payload") != 1:
-            cursor.fault(at, "the payload of a show or an audit is nothing, or 01")
+            cursor.fault(at, f"the payload of a show or an audit begins with {cursor.data[at]:02X}; it is nothing, or 01 for "
+                             "JSON")
         return record_type(True)
     return read
 
 
-PAYLOADS = {model.PUBLISH: read_publish, model.RUN: read_run, model.SHOW: read_marked(Show), model.AUDIT: read_marked(Audit)}
+PAYLOADS: Dict[int, Callable[[Cursor, RecordPlace], model.Record]] = {
+    model.PUBLISH: read_publish, model.RUN: read_run, model.SHOW: read_marked(Show), model.AUDIT: read_marked(Audit)}

@@ -1,6 +1,9 @@
 """Bytes to try tools and the program on: those that stand in files, and altered ones."""
 
 import re
+from pathlib import Path
+from random import Random
+from typing import Iterable, Iterator, List, Tuple
 
 from . import model
 from .records import read_stream
@@ -10,7 +13,7 @@ HEX = "(?:[0-9a-fA-F]{2})+"
 HEX_TEXT = re.compile(rf'"{HEX}"(?:\s*,\s*"{HEX}")*|(?m:^ {{4,}}{HEX}$\n?)+|(?m:^{HEX}(?: {HEX})*$)')
 
 
-def given_bytes(paths):
+def given_bytes(paths: Iterable[Path]) -> Iterator[Tuple[str, bytes]]:
     """The bytes that stand in files: a file's own where it is no text, else those in hexadecimal."""
     for path in paths:
         data = path.read_bytes()
@@ -21,7 +24,7 @@ def given_bytes(paths):
             yield f"{path.name}, at {found.start()}", bytes.fromhex(re.sub(r'["\s,]', "", found.group()))
 
 
-def modules_in(data):
+def modules_in(data: bytes) -> List[Tuple[bytes, bytes]]:
     """The modules of a stream, with their certificates."""
     if data[:4] == model.MAGIC:
         return [(data, b"")]
@@ -30,7 +33,7 @@ def modules_in(data):
             for offer in record.offers]
 
 
-def altered(draw, data):
+def altered(draw: Random, data: bytes) -> bytes:
     """Bytes in which one is another, or some are cut off, left out, doubled, or put in."""
     if not data:
         return bytes([draw.randrange(256)])

@@ -3,6 +3,7 @@
 import re
 from typing import List
 
+from . import habits
 from .errors import TextError
 from .model import LEAF_KINDS
 from .numbers import IDENTIFIER_BYTES
@@ -53,11 +54,11 @@ class Words:
             self.texts.append("")
             self.starts.append(len(text))
 
-    def read(self, text: str):
+    def read(self, text: str) -> None:
         """Reads all words of a text. Each line has its end, so that there is a word behind each comment."""
         kinds, texts, starts = self.kinds.append, self.texts.append, self.starts.append
         for found in PATTERN.finditer(text + "\n"):
-            kind = found.lastindex
+            kind = found.lastindex or WRONG
             word, start = found.group(kind), found.start(kind)
             if kind == NAME and word[-1] == '"':
                 kind = HEX
@@ -72,7 +73,7 @@ def wrong_word(text: str, at: int) -> str:
     """What is wrong where no word is."""
     if text.startswith("/*", at):
         return "the comment isn't closed"
-    return WRONG_WORDS.get(text[at]) or f"no word begins with {text[at]!r}"
+    return habits.of_mark(text, at) or WRONG_WORDS.get(text[at]) or f"no word begins with {text[at]!r}"
 
 
 def is_identifier(name: str) -> bool:

@@ -1,6 +1,6 @@
 """Whole texts: one module, or the records of a stream."""
 
-from typing import Union
+from typing import Callable, Dict, Union
 
 from . import scanner, syntax
 from .module_parser import ModuleParser
@@ -13,7 +13,7 @@ class StreamParser(ModuleParser):
 
     def __init__(self, words: Words, keeps_limits: bool = True):
         super().__init__(words, keeps_limits)
-        self.records = {
+        self.records: Dict[str, Callable[[], Union[syntax.Publish, syntax.Run, syntax.Ask, syntax.Raw]]] = {
             "publish": self.publish, "run": self.run, "show": self.ask, "audit": self.ask, "record": self.raw_record,
             "bytes": self.raw_bytes,
         }
@@ -65,7 +65,7 @@ class StreamParser(ModuleParser):
             self.wanted("`module` or `}`")
         self.at += 1
         if self.kind in (scanner.HEX, scanner.FILE):
-            module = self.given()
+            module: Union[syntax.Module, syntax.HexBytes, syntax.FileName] = self.given()
         else:
             self.at -= 1
             module = self.module()

@@ -1,7 +1,7 @@
 """What a text says, as it says it: a tree whose parts know their offsets (`at`) in the text."""
 
 from dataclasses import dataclass, field
-from typing import Dict, List, NamedTuple, Optional, Union
+from typing import Any, Dict, List, NamedTuple, Optional, Union
 
 from .model import Value
 from .opcodes import Opcode
@@ -49,6 +49,14 @@ class Type(NamedTuple):
     at: int
 
 
+class Called(NamedTuple):
+    """A function that is called, with the types that stand behind it; its results may be left out."""
+
+    path: Path
+    parameters: List["Type"]
+    results: Optional[List["Type"]]
+
+
 class Literal(NamedTuple):
     """A constant: its type and its bytes."""
 
@@ -69,12 +77,19 @@ class Line(NamedTuple):
     """An instruction. Its operand is a number, a name, an index, a path, a literal, or None."""
 
     opcode: Opcode
-    operand: object
+    operand: Any
     at: int
 
 
+class Local(NamedTuple):
+    """A parameter or another local, with its type."""
+
+    name: Name
+    type: Type
+
+
 class Variable(NamedTuple):
-    """A parameter or another local, or a field, with its type."""
+    """A field, with its type."""
 
     name: Entry
     type: Type
@@ -102,7 +117,7 @@ class Import:
     """Another module, the name it goes by, and what the module names there."""
 
     module: ModuleName
-    alias: Name
+    alias: Entry
     structs: List[StructHandleText] = field(default_factory=list)
     functions: List[FunctionHandleText] = field(default_factory=list)
 
@@ -125,11 +140,11 @@ class Function:
     at: int
     is_public: bool = False
     is_entry: bool = False
-    parameters: List[Variable] = field(default_factory=list)
+    parameters: List[Local] = field(default_factory=list)
     results: List[Type] = field(default_factory=list)
     acquires: List[Entry] = field(default_factory=list)
     locals_index: Optional[Index] = None
-    locals: List[Variable] = field(default_factory=list)
+    locals: List[Local] = field(default_factory=list)
     labels: Dict[str, int] = field(default_factory=dict)
     code: List[Line] = field(default_factory=list)
 
@@ -176,7 +191,7 @@ class FileName(NamedTuple):
 
 
 class Made(NamedTuple):
-    """A certificate that is made by the program."""
+    """A certificate that is made, as `moveledger prove` makes it."""
 
     at: int
 

@@ -1,5 +1,7 @@
 """The tables that a module's text gives: how each begins, entry by entry."""
 
+from typing import Any, Callable, Dict, List, Set, Union
+
 from . import scanner, syntax
 from .code_parser import CodeParser
 from .errors import unknown
@@ -8,9 +10,9 @@ from .errors import unknown
 class TableParser(CodeParser):
     """The tables of a module."""
 
-    def __init__(self, words, keeps_limits=True):
+    def __init__(self, words: scanner.Words, keeps_limits: bool = True):
         super().__init__(words, keeps_limits)
-        self.table_entries = {
+        self.table_entries: Dict[str, Callable[[], Any]] = {
             "modules": self.module_handle, "structs": self.struct_handle, "functions": self.function_handle,
             "signatures": self.types, "constants": self.literal, "identifiers": self.identifier, "addresses": self.address,
             "fields": self.field_path,
@@ -19,21 +21,22 @@ class TableParser(CodeParser):
     def tables(self) -> syntax.Tables:
         """How tables begin."""
         self.expect_word("tables")
-        tables, seen = syntax.Tables(), set()
+        tables = syntax.Tables()
+        seen: Set[str] = set()
         self.open_brace()
         while not self.accept("}"):
             self.table(tables, seen)
             self.skip_ends()
         return tables
 
-    def table(self, tables: syntax.Tables, seen: set):
+    def table(self, tables: syntax.Tables, seen: set) -> None:
         """How a table begins."""
         start, kind = self.start, self.text
-        read_entry = self.table_entries.get(kind)
         if self.kind != scanner.NAME:
             self.wanted("a table's name or `}`")
-        if read_entry is None:
+        if kind not in self.table_entries:
             self.fail(unknown("table", kind, self.table_entries))
+        read_entry = self.table_entries[kind]
         if kind in seen:
             self.fail(f"a second table `{kind}`", start)
         seen.add(kind)
@@ -51,16 +54,14 @@ class TableParser(CodeParser):
     def function_handle(self) -> syntax.FunctionHandleText:
         """A function's name, and its signatures or their indices."""
         path = self.path("a function")
-        if self.kind == scanner.INDEX:
-            parameters = self.index()
-        else:
-            parameters = self.types()
-        results = []
+        parameters: Union[syntax.Index, List[syntax.Type]]
+        parameters = self.index() if self.kind == scanner.INDEX else self.types()
+        results: Union[syntax.Index, List[syntax.Type]] = []
         if self.accept(":"):
             results = self.index_or_results()
         return syntax.FunctionHandleText(path, parameters, results)
 
-    def index_or_results(self):
+    def index_or_results(self) -> Union[syntax.Index, List[syntax.Type]]:
         """The index of a signature, or types."""
         if self.kind == scanner.INDEX:
             return self.index()

@@ -26,7 +26,7 @@ class Value:
     value: Union[bool, int, bytes]
 
 
-def read_leaf(kind, data):
+def read_leaf(kind: int, data: bytes) -> Union[bool, int, bytes, None]:
     """The value that bytes are of a leaf type: a bool, a number or an address's bytes; None where they are none."""
     if len(data) != LEAF_WIDTHS.get(kind):
         return None
@@ -37,6 +37,6 @@ def read_leaf(kind, data):
     return int.from_bytes(data, "little")
 
 
-def write_leaf(kind, value):
+def write_leaf(kind: int, value: Union[bool, int, bytes]) -> bytes:
     """The bytes of a value of a leaf type."""
     return bytes(value) if kind == ADDRESS else int(value).to_bytes(LEAF_WIDTHS[kind], "little")

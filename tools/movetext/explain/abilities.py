@@ -1,7 +1,10 @@
 """Phase 6: a struct's abilities, which its fields have too."""
 
+from typing import NoReturn
+
 from .. import model
 from ..model import ABILITIES, COPY, DROP, KEY, STORE
+from .subject import Subject
 
 PHASE = 6
 
@@ -10,7 +13,7 @@ ROWS = {COPY: COPY, DROP: DROP, STORE: STORE, KEY: STORE}
 WORDS = dict(ABILITIES)
 
 
-def check(subject):
+def check(subject: Subject) -> None:
     """Raises the first failure."""
     for index, definition in enumerate(subject.module.structs):
         has = subject.module.struct_handles[definition.handle].abilities
@@ -20,8 +23,8 @@ def check(subject):
                     fail(subject, index, ability, one)
 
 
-def fail(subject, index, ability, field):
+def fail(subject: Subject, index: int, ability: int, field: model.Field) -> NoReturn:
     rule = ("a struct with key has store in every field" if ability == KEY
             else f"a struct with {WORDS[ability]} has that ability in every field")
-    subject.fail_entry(PHASE, model.STRUCTS, index, f"{rule}: `{subject.module.identifier(field.name)}` is of the type "
+    subject.fail_entry(PHASE, model.STRUCTS, index, rule, f"`{subject.module.identifier(field.name)}` is of the type "
                        f"`{subject.type(field.type)}`, which lacks {WORDS[ROWS[ability]]}")

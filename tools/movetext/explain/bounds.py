@@ -1,8 +1,10 @@
 """Phase 3: every index is below the length of its table."""
 
+from typing import Tuple
+
 from .. import model, opcodes
-from .failures import counted
-from .subject import ENTRY_WORDS
+from .failures import Place, counted
+from .subject import ENTRY_WORDS, Subject
 
 PHASE = 3
 
@@ -24,8 +26,10 @@ OPERANDS = {
     opcodes.CONSTANT: model.CONSTANTS,
 }
 
+EVERY_INDEX = "every index is below the length of its table"
 
-def check(subject):
+
+def check(subject: Subject) -> None:
     """Raises the first failure: in tables, then in types, in acquires lists and in code."""
     check_entries(subject)
     check_types(subject)
@@ -33,75 +37,72 @@ def check(subject):
     for index, function in enumerate(subject.module.functions):
         check_function(subject, index, function)
     if subject.module.own >= len(subject.module.module_handles):
-        where = "the own module handle"
-        if subject.reading.own_at is not None:
-            where += f", {subject.offset(subject.reading.own_at)}"
+        where, at = "the own module handle", subject.reading.own_at
+        place = Place(where) if at is None else Place(f"{where}, {subject.offset(at)}", subject.base + at)
         found = too_great(subject, model.MODULE_HANDLES, subject.module.own)
-        subject.fail(PHASE, where, f"the own handle is there: it is {found}")
+        subject.fail(PHASE, place, "the own handle is there", f"it is {found}")
 
 
-def too_great(subject, kind, index):
+def too_great(subject: Subject, kind: int, index: int) -> str:
     """An entry that isn't there, and how many are."""
     count = len(subject.module.table(kind))
     return f"{ENTRY_WORDS[kind]} {index}, and the table has {counted(count, 'entry', 'entries')}"
 
 
-def check_index(subject, where, what, kind, index):
+def check_index(subject: Subject, where: Tuple[int, int], what: str, kind: int, index: int) -> None:
     """Wants an index below the length of its table. `where` is the kind and the index of the entry that has it."""
     if index >= len(subject.module.table(kind)):
-        subject.fail_entry(PHASE, *where, f"every index is below the length of its table: {what} is "
-                                          f"{too_great(subject, kind, index)}")
+        subject.fail_entry(PHASE, *where, EVERY_INDEX, f"{what} is {too_great(subject, kind, index)}")
 
 
-def check_entries(subject):
+def check_entries(subject: Subject) -> None:
     for kind, row in ROWS.items():
         for place, one in enumerate(subject.module.table(kind)):
             for what, attribute, table in row:
                 check_index(subject, (kind, place), f"its {what}", table, getattr(one, attribute))
 
 
-def check_types(subject):
+def check_types(subject: Subject) -> None:
     """The struct handles that types name, and the names of fields."""
     module = subject.module
     for place, types in enumerate(module.signatures):
         for one in types:
             check_type(subject, (model.SIGNATURES, place), "a type", one)
-    for place, one in enumerate(module.constants):
-        check_type(subject, (model.CONSTANTS, place), "its type", one.type)
+    for place, constant in enumerate(module.constants):
+        check_type(subject, (model.CONSTANTS, place), "its type", constant.type)
     for place, definition in enumerate(module.structs):
-        for position, one in enumerate(definition.fields):
+        for position, field in enumerate(definition.fields):
             where = (model.STRUCTS, place)
-            check_index(subject, where, f"the name of field {position}", model.IDENTIFIERS, one.name)
-            check_type(subject, where, f"the type of field {position}", one.type)
+            check_index(subject, where, f"the name of field {position}", model.IDENTIFIERS, field.name)
+            check_type(subject, where, f"the type of field {position}", field.type)
 
 
-def check_type(subject, where, what, token):
+def check_type(subject: Subject, where: Tuple[int, int], what: str, token: model.Token) -> None:
     inner = token.value_type
     if inner.kind == model.STRUCT:
         check_index(subject, where, f"what {what} names", model.STRUCT_HANDLES, inner.struct)
 
 
-def check_positions(subject):
+def check_positions(subject: Subject) -> None:
     for place, handle in enumerate(subject.module.field_handles):
         count = len(subject.module.structs[handle.struct].fields)
         if handle.position >= count:
-            subject.fail_entry(PHASE, model.FIELD_HANDLES, place, "field positions are below the struct's number of fields: "
+            subject.fail_entry(PHASE, model.FIELD_HANDLES, place, "field positions are below the struct's number of fields",
                                f"it is {handle.position}, and the struct has {counted(count, 'field')}")
 
 
-def check_function(subject, index, function):
+def check_function(subject: Subject, index: int, function: model.FunctionDefinition) -> None:
     """A function's acquires list and code."""
     for one in function.acquires:
         check_index(subject, (model.FUNCTIONS, index), "an entry of its acquires list", model.STRUCTS, one)
-    locals_ = len(subject.module.local_types(function))
+    locals_ = len(model.known(subject.module.local_types(function)))
     for at, instruction in enumerate(function.code):
         kind, operand = instruction.opcode.operand, instruction.operand
         if kind == opcodes.LOCAL and operand >= locals_:
-            subject.fail_at(PHASE, index, at, "local indices are below the number of locals (parameters included): it is "
-                            f"{operand}, and the function has {counted(locals_, 'local')}")
+            subject.fail_at(PHASE, index, at, "local indices are below the number of locals (parameters included)",
+                            f"it is {operand}, and the function has {counted(locals_, 'local')}")
         elif kind == opcodes.TARGET and operand >= len(function.code):
-            subject.fail_at(PHASE, index, at, "branch targets are below the number of instructions: it is "
-                            f"{operand}, and the function has {counted(len(function.code), 'instruction')}")
+            subject.fail_at(PHASE, index, at, "branch targets are below the number of instructions",
+                            f"it is {operand}, and the function has {counted(len(function.code), 'instruction')}")
         elif kind in OPERANDS and operand >= len(subject.module.table(OPERANDS[kind])):
-            subject.fail_at(PHASE, index, at, "every index is below the length of its table: it is "
-                            f"{too_great(subject, OPERANDS[kind], operand)}")
+            subject.fail_at(PHASE, index, at, EVERY_INDEX, f"it is {too_great(subject, OPERANDS[kind], operand)}")

@@ -1,23 +1,28 @@
 """Phases 9 to 11: a certificate's bytes, and the flows that it states; without one, the least flows."""
 
 from bisect import bisect_right
+from typing import Iterator, List, NoReturn, Optional, Sequence, Union
 
 from .. import model
 from ..certificates import read_certificate
 from ..writer import write_certificate
 from .availability import Locals
 from .borrows import Borrows
-from .failures import Failure, Fails
-from .flows import Broken, Gives, first_break, least_states
+from .edges import Edges
+from .failures import Place
+from .flows import Broken, Gives, State, first_break, least_states
 from .stack import stacks_of
+from .subject import Subject
 
 PHASE = 9
 
 # So many lines are told of a state, and so many things that one has and the next block's hasn't.
 MOST_LINES, MOST_EXCESS = 60, 8
 
+OfFunction = Union[Locals, Borrows]
 
-def read(subject, data, base=0):
+
+def read(subject: Subject, data: bytes, base: int = 0) -> model.Certificate:
     """The certificate that bytes are of a module that passed phase 8. Raises the first failure."""
     reading = read_certificate(data, subject.module)
     places = [(offset, function, block) for function, offsets in enumerate(reading.offsets)
@@ -27,26 +32,28 @@ def read(subject, data, base=0):
         for block, state in enumerate(states):
             is_reached = subject.graph(function)[block].is_reached
             if (state is not None) != is_reached:
-                mark, not_reached = ("01", "is") if is_reached else ("00", "isn't")
-                faults.append((reading.offsets[function][block], f"the block {not_reached} reached, and its mark isn't {mark}"))
+                told = "the block is reached, and its mark is 00; it is 01" if is_reached \
+                    else "the block isn't reached, and its mark is 01; it is 00"
+                faults.append((reading.offsets[function][block], told))
     if faults:
         offset, why = min(faults)
         place = bisect_right(places, (offset, len(places), 0))
-        where = f"certificate, offset {base + offset}"
+        where = Place(f"certificate, offset {base + offset}", base + offset)
         if place:
-            where += f", {subject.block(*places[place - 1][1:])}"
-        subject.fail(PHASE, where, f"the bytes are the text of a certificate of this module's shape: {why}")
+            of_block = subject.block(*places[place - 1][1:])
+            where = of_block._replace(text=f"{where.text}, {of_block.text}", offset=where.offset)
+        subject.fail(PHASE, where, "", f"not a certificate of this module's shape: {why}")
     return reading.certificate
 
 
-def domains(subject):
+def domains(subject: Subject) -> Iterator[Iterator[OfFunction]]:
     """For each of the two phases the domain of each function. The types on the stacks are found once for a function."""
     functions = range(len(subject.module.functions))
     yield (Locals(subject, function) for function in functions)
     yield (Borrows(subject, function, stacks_of(subject, function)) for function in functions)
 
 
-def check_stated(subject, certificate):
+def check_stated(subject: Subject, certificate: model.Certificate) -> None:
     """Wants the stated availabilities to be closed flows in every function, and then the stated edges. Raises the first
     failure."""
     for of_phase in domains(subject):
@@ -55,66 +62,67 @@ def check_stated(subject, certificate):
             stated = [one and domain.stated(one) for one in certificate.functions[domain.function]]
             broken = first_break(domain, graph, stated) if graph else None
             if broken:
-                raise Fails(not_closed(subject, domain, broken, stated))
+                not_closed(subject, domain, broken, stated)
 
 
-def least(subject):
+def least(subject: Subject) -> model.Certificate:
     """The certificate that states the least states. Raises the first failure where there is none."""
-    found = []
+    found: List[List[Sequence[State]]] = []
     for of_phase in domains(subject):
         found.append([])
         for domain in of_phase:
             states = least_states(domain, subject.graph(domain.function))
             if isinstance(states, Gives):
-                raise Fails(given_up(subject, domain, states))
+                given_up(subject, domain, states)
             if isinstance(states, Broken):
-                raise Fails(not_closed(subject, domain, states, None))
+                not_closed(subject, domain, states)
             found[-1].append(states)
     return model.Certificate([[stated_block(*both) for both in zip(*of_function)] for of_function in zip(*found)])
 
 
-def stated_block(availabilities, edges):
+def stated_block(availabilities: Optional[List[int]], edges: Edges) -> Optional[model.BlockState]:
     """What a certificate states of a block, or None where it isn't reached."""
     if availabilities is None:
         return None
     return model.BlockState(availabilities, [
-        model.Edge(model.Node(*one.source), model.Node(*one.target), one.positions, one.is_open) for one in sorted(edges)])
+        one.stated() for one in sorted(edges)])
 
 
-def least_bytes(subject):
+def least_bytes(subject: Subject) -> bytes:
     """The bytes of the certificate with the least states."""
     return write_certificate(least(subject))
 
 
-def not_closed(subject, domain, broken, stated):
-    """The failure of a flow that isn't closed: a need that isn't met, or a state that isn't below the next block's."""
+def not_closed(subject: Subject, domain: OfFunction, broken: Broken, stated: Sequence[State] = ()) -> NoReturn:
+    """Raises the failure of a flow that isn't closed: a need that isn't met, or a state that isn't below the next block's."""
     function = domain.function
-    if broken.to is None:
+    if broken.need is not None:
         lines = ["the state before it:"] + indented(domain.state_lines(broken.state, broken.at))
-        return Failure(domain.phase, subject.instruction(function, broken.at), broken.why, tuple(lines))
-    there = stated[broken.to]
+        subject.fail(domain.phase, subject.instruction(function, broken.at), broken.need.rule, broken.need.found, lines)
+    there = stated[model.known(broken.to)]
     if broken.block is None:
         place = subject.block(function, 0)
-        sentence = "the state that is stated for the first block is above the state in which the function begins: "
+        rule = "the state that is stated for the first block is above the state in which the function begins"
+        lines = ["the state in which the function begins:"]
     else:
-        place = f"{subject.block(function, broken.block)}, going on to block {broken.to}"
-        sentence = "where the block ends, the state is below the one that is stated for each block that control may go on to: "
-    lines = ["the state where it ends:" if broken.block is not None else "the state in which the function begins:"]
+        place = subject.block(function, broken.block, is_end=True).and_text(f", going on to block {broken.to}")
+        rule = "where a block ends, the state is below the one that is stated for each block that control may go on to"
+        lines = ["the state where it ends:"]
     lines += indented(domain.state_lines(broken.state)) + [f"the state that is stated for block {broken.to}:"]
     lines += indented(domain.state_lines(there))
     excess = domain.excess(broken.state, there)
     told = "; ".join(excess[:MOST_EXCESS]) + (f"; and {len(excess) - MOST_EXCESS} more" if len(excess) > MOST_EXCESS else "")
-    return Failure(domain.phase, place, sentence + told, tuple(lines))
+    subject.fail(domain.phase, place, rule, told, lines)
 
 
-def given_up(subject, domain, gives):
-    """That the search for the least states gives up."""
+def given_up(subject: Subject, domain: OfFunction, gives: Gives) -> NoReturn:
+    """Raises the failure of the search for the least states, which gives up."""
     lines = ["the state with which it would begin:"] + indented(domain.state_lines(gives.state))
     place = subject.block(domain.function, gives.block)
-    return Failure(None, place, f"the search for the least states gives up: {gives.why}", tuple(lines))
+    subject.fail(None, place, "", f"the search for the least states gives up: {gives.why}", lines)
 
 
-def indented(lines):
+def indented(lines: Sequence[str]) -> List[str]:
     """Lines of a state, behind blanks; no more than so many."""
     more = len(lines) - MOST_LINES
     return ["    " + line for line in lines[:MOST_LINES]] + ([f"    and {more} more"] if more > 0 else [])

@@ -1,10 +1,14 @@
 """Chains that lead back to where they began."""
 
+from typing import Callable, Hashable, Iterable, List, Optional, Set, TypeVar
 
-def chain_back(starts, following):
+T = TypeVar("T", bound=Hashable)
+
+
+def chain_back(starts: Iterable[T], following: Callable[[T], Iterable[T]]) -> Optional[List[T]]:
     """The first chain found that leads from a thing back to it, with that thing at both ends; None where there is none.
     `following` gives those that a thing leads to."""
-    finished = set()
+    finished: Set[T] = set()
     for start in starts:
         chain, rests = [start], [iter(following(start))]
         while chain:

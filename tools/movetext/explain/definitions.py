@@ -1,8 +1,10 @@
 """Phase 4: entries that are equal, definitions, fields, and structs that contain themselves."""
 
+from typing import Dict, Hashable, List, Sequence
+
 from .. import model
 from .chains import chain_back
-from .subject import ENTRY_WORDS
+from .subject import ENTRY_WORDS, Subject
 
 PHASE = 4
 
@@ -16,8 +18,10 @@ DIFFERENT = {
 DEFINED = {model.STRUCT_HANDLES: ("struct handles", model.STRUCTS),
            model.FUNCTION_HANDLES: ("function handles", model.FUNCTIONS)}
 
+ONCE = "each own handle is defined exactly once"
 
-def check(subject):
+
+def check(subject: Subject) -> None:
     """Raises the first failure."""
     for kind, words in DIFFERENT.items():
         check_different(subject, kind, subject.module.table(kind), f"no two equal {words}")
@@ -31,54 +35,56 @@ def check(subject):
     check_cycles(subject)
 
 
-def check_different(subject, kind, entries, rule):
+def check_different(subject: Subject, kind: int, entries: Sequence[Hashable], rule: str) -> None:
     """Wants entries that differ."""
-    seen = {}
+    seen: Dict[Hashable, int] = {}
     for index, one in enumerate(entries):
         if one in seen:
-            subject.fail_entry(PHASE, kind, index, f"{rule}: {ENTRY_WORDS[kind]} {seen[one]} is the same")
+            subject.fail_entry(PHASE, kind, index, rule, f"{ENTRY_WORDS[kind]} {seen[one]} is the same")
         seen[one] = index
 
 
-def check_definitions(subject, kind, definitions):
+def check_definitions(subject: Subject, kind: int, definitions: int) -> None:
     """Wants each own handle of a kind defined once, and no other."""
-    module, found = subject.module, {}
+    module = subject.module
+    found: Dict[int, int] = {}
     for index, definition in enumerate(module.table(definitions)):
         handle = definition.handle
         if module.table(kind)[handle].module != module.own:
             where = subject.names.module_text(module.table(kind)[handle].module)
-            subject.fail_entry(PHASE, definitions, index,
-                               f"definitions use handles of the own module: {ENTRY_WORDS[kind]} {handle} is of {where}")
+            subject.fail_entry(PHASE, definitions, index, "definitions use handles of the own module",
+                               f"{ENTRY_WORDS[kind]} {handle} is of {where}")
         if handle in found:
-            subject.fail_entry(PHASE, definitions, index, "each own handle is defined exactly once: "
+            subject.fail_entry(PHASE, definitions, index, ONCE,
                                f"{ENTRY_WORDS[definitions]} {found[handle]} has {ENTRY_WORDS[kind]} {handle} too")
         found[handle] = index
     for handle, one in enumerate(module.table(kind)):
         if one.module == module.own and handle not in found:
-            subject.fail_entry(PHASE, kind, handle, "each own handle is defined exactly once: no definition has it")
+            subject.fail_entry(PHASE, kind, handle, ONCE, "no definition has it")
 
 
-def check_fields(subject, index, definition):
+def check_fields(subject: Subject, index: int, definition: model.StructDefinition) -> None:
     if not definition.fields:
-        subject.fail_entry(PHASE, model.STRUCTS, index, "each struct has a field: it has none")
+        subject.fail_entry(PHASE, model.STRUCTS, index, "each struct has a field", "it has none")
     names = [one.name for one in definition.fields]
     for position, name in enumerate(names):
         first = names.index(name)
         if first != position:
-            subject.fail_entry(PHASE, model.STRUCTS, index, f"field names of a struct differ: fields {first} and {position} "
-                               f"are both called `{subject.module.identifier(name)}`")
+            subject.fail_entry(PHASE, model.STRUCTS, index, "field names of a struct differ",
+                               f"fields {first} and {position} are both called `{subject.module.identifier(name)}`")
 
 
-def held_structs(subject, index):
+def held_structs(subject: Subject, index: int) -> List[int]:
     """The own struct definitions that a struct has as fields."""
     module = subject.module
     handles = [one.type.struct for one in module.structs[index].fields if one.type.kind == model.STRUCT]
     return [subject.names.definition_places[handle] for handle in handles if module.is_own_struct(handle)]
 
 
-def check_cycles(subject):
+def check_cycles(subject: Subject) -> None:
     """Wants no struct that contains itself by a chain of fields."""
     chain = chain_back(range(len(subject.module.structs)), lambda struct: held_structs(subject, struct))
     if chain:
         names = ", which has a ".join(f"`{subject.module.definition_name(one)}`" for one in chain)
-        subject.fail_entry(PHASE, model.STRUCTS, chain[0], f"no struct contains itself by a chain of fields: {names}")
+        subject.fail_entry(PHASE, model.STRUCTS, chain[0], "no struct contains itself by a chain of fields",
+                           f"there is a {names}")

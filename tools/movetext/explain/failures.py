@@ -1,6 +1,6 @@
 """What is said of a refusal."""
 
-from typing import NamedTuple, Optional, Tuple
+from typing import Dict, List, NamedTuple, Optional, Tuple
 
 # The phases, as docs/VERIFIER.md names them.
 PHASES = {
@@ -9,24 +9,101 @@ PHASES = {
 }
 
 
+# Why a run isn't begun, and why bytes aren't loaded, as docs/FORMATS.md has the reasons.
+REASONS = {
+    "rejected": {1: "record", 2: "budget", 3: "module", 4: "function", 5: "entry", 6: "arguments", 7: "runs"},
+    "load refused": {1: "beginning", 2: "modules", 3: "link", 4: "values", 5: "tallies"},
+}
+
+
+class Place(NamedTuple):
+    """A place in bytes, in words and by its parts as far as it has them: the table and the index of an entry, a function
+    definition with its name, a block and an instruction of it, and the offset from the first byte of the file."""
+
+    text: str
+    offset: Optional[int] = None
+    kind: Optional[int] = None
+    entry: Optional[int] = None
+    function: Optional[int] = None
+    function_name: Optional[str] = None
+    block: Optional[int] = None
+    instruction: Optional[int] = None
+    code: Optional[str] = None
+
+    def behind(self, words: str) -> "Place":
+        """The place, with these words before its own."""
+        return self._replace(text=words + self.text)
+
+    def and_text(self, words: str) -> "Place":
+        """The place, with these words after its own."""
+        return self._replace(text=self.text + words)
+
+
 class Failure(NamedTuple):
-    """The first failure of a phase: where it is, and a sentence with the rule, what was found and what is wanted. `state` are
-    lines with what holds at the place. The phase is None where no rule fails, but the search for a certificate gives up."""
+    """The first failure of a phase: the place, the rule, and what was found that breaks it. `state` are lines with what holds
+    at the place. The phase is None where the search for a certificate gives up, and where `said` has the words of a report for
+    what is no refusal. `source` is the line and the column in the text of which the bytes were made, where these are known."""
 
     phase: Optional[int]
-    place: str
-    sentence: str
+    place: Place
+    rule: str
+    found: str
     state: Tuple[str, ...] = ()
+    source: Optional["SourcePlace"] = None
+    said: str = ""
 
     @property
     def verdict(self) -> str:
         """What the program prints of it."""
-        return "too complex" if self.phase is None else f"refused {self.phase}"
+        return self.said or ("too complex" if self.phase is None else f"refused {self.phase}")
 
-    def lines(self):
+    @property
+    def name(self) -> Optional[str]:
+        """The name of the phase, or of the reason why a run isn't begun or bytes aren't loaded."""
+        word, _, number = self.said.rpartition(" ")
+        if word in REASONS and number.isdigit():
+            return REASONS[word][int(number)]
+        return PHASES.get(self.phase or 0)
+
+    @property
+    def named_verdict(self) -> str:
+        """The verdict with the name of its phase or its reason."""
+        return self.verdict + (f" ({self.name})" if self.name else "")
+
+    @property
+    def sentence(self) -> str:
+        """The rule and what was found, in one sentence."""
+        return f"{self.rule}, but {self.found}" if self.rule else self.found
+
+    def lines(self) -> List[str]:
         """The failure as lines of text."""
-        named = f" ({PHASES[self.phase]})" if self.phase in PHASES else ""
-        return [self.verdict + named, self.place, self.sentence, *self.state]
+        where = self.place.text + (f", {self.source}" if self.source else "")
+        return [self.named_verdict, where, self.sentence, *self.state]
+
+    def fields(self) -> Dict[str, object]:
+        """The failure by field, for JSON. A field that the place hasn't is null."""
+        place = self.place
+        return {
+            "verdict": self.verdict, "phase": self.phase, "name": self.name, "rule": self.rule or None,
+            "found": self.found, "sentence": self.sentence, "place": place.text, "function": place.function,
+            "function_name": place.function_name, "block": place.block, "instruction": place.instruction, "code": place.code,
+            "offset": place.offset, "source": self.source and self.source.fields(), "state": list(self.state),
+        }
+
+
+class SourcePlace(NamedTuple):
+    """A place in a text: the file's name, and the line and the column, both counted from 1."""
+
+    file: str
+    line: int
+    column: int
+
+    def __str__(self) -> str:
+        return f"{self.file}:{self.line}:{self.column}"
+
+    def fields(self) -> Dict[str, object]:
+        """The place by field, for JSON."""
+        return self._asdict()
 
 
 class Fails(Exception):

@@ -1,168 +1,190 @@
 """Phase 13: the rules a to h, over all modules that the ledger would then have."""
 
+from typing import Dict, List, NoReturn, Optional, Sequence, Set, Tuple
+
 from .. import model
-from ..model import STRUCT
+from ..model import STRUCT, known
 from ..naming import address_text, quoted
 from .chains import chain_back
-from .failures import counted
+from .failures import Place, counted
+from .subject import Subject
 
 PHASE = 13
 MOST_NESTED, MOST_LEAVES = 8, 256
 
+ModuleName = Tuple[bytes, str]
+StructName = Tuple[bytes, str, str]
+# A type as any module has it: its kind alone, or with the struct's name, or with the type that a reference refers to.
+FullType = tuple
+FullSignature = Tuple[Tuple[FullType, ...], Tuple[FullType, ...]]
+
 
 class Published:
-    """A module that passed phases 2 to 12, as others name it."""
+    """A module that passed phases 2 to 12, as others name it. `place` is its place in the order of publication, once it has
+    one, and `operations` what its functions do, once they were run."""
 
-    def __init__(self, subject):
+    def __init__(self, subject: Subject):
         self.subject, self.module = subject, subject.module
+        self.place = 0
+        self.operations: Dict[int, list] = {}
         module = subject.module
         self.name = self.module_name(module.own)
-        self.structs = {module.definition_name(index): index for index in range(len(module.structs))}
-        self.functions = {module.function_name(one.handle): one for one in module.functions}
+        self.structs = {self.definition_name(index): index for index in range(len(module.structs))}
+        self.functions = {known(module.function_name(one.handle)): one for one in module.functions}
+        self.function_places = {known(module.function_name(one.handle)): index for index, one in enumerate(module.functions)}
 
-    def module_name(self, handle):
+    def module_name(self, handle: int) -> ModuleName:
         """The address and name of a module by its handle."""
-        return self.module.address_of(handle), self.module.module_name(handle)
+        return known(self.module.address_of(handle)), known(self.module.module_name(handle))
 
-    def struct_name(self, handle):
+    def definition_name(self, struct: int) -> str:
+        """The name of a struct definition."""
+        return known(self.module.definition_name(struct))
+
+    def definition_abilities(self, struct: int) -> int:
+        """The abilities of a struct definition, as bits."""
+        return known(self.module.definition_handle(struct)).abilities
+
+    def struct_name(self, handle: int) -> StructName:
         """The address, module and name of a struct by its handle."""
-        return (*self.module_name(self.module.struct_handles[handle].module), self.module.struct_name(handle))
+        return (*self.module_name(self.module.struct_handles[handle].module), known(self.module.struct_name(handle)))
 
-    def type(self, token):
+    def type(self, token: model.Token) -> FullType:
         """A type as any module has it."""
         if token.is_reference:
             return token.kind, self.type(token.inner)
         return (token.kind, self.struct_name(token.struct)) if token.kind == STRUCT else (token.kind,)
 
-    def types(self, signature):
-        return tuple(map(self.type, self.module.signature(signature)))
+    def types(self, signature: int) -> Tuple[FullType, ...]:
+        return tuple(map(self.type, known(self.module.signature(signature))))
 
-    def signature(self, function_handle):
+    def signature(self, function_handle: int) -> FullSignature:
         handle = self.module.function_handles[function_handle]
         return self.types(handle.parameters), self.types(handle.results)
 
-    def needs(self):
+    def needs(self) -> List[ModuleName]:
         """The other modules that handles name."""
         names = map(self.module_name, range(len(self.module.module_handles)))
         return [name for name in names if name != self.name]
 
 
-def name_text(name):
+def name_text(name: tuple) -> str:
     """A module's or a struct's full name."""
     return "::".join([address_text(name[0]), *map(quoted, name[1:])])
 
 
-def type_text(one):
+def type_text(one: FullType) -> str:
     """A type as `Published.type` gives it."""
     if len(one) == 2 and one[0] != STRUCT:
         return ("&mut " if one[0] == model.MUTABLE else "&") + type_text(one[1])
     return name_text(one[1]) if one[0] == STRUCT else model.LEAF_NAMES[one[0]]
 
 
-def types_text(types):
+def types_text(types: Sequence[FullType]) -> str:
     return "(" + ", ".join(map(type_text, types)) + ")"
 
 
-def signature_text(signature):
+def signature_text(signature: FullSignature) -> str:
     return types_text(signature[0]) + (f": {types_text(signature[1])}" if signature[1] else "")
 
 
-def abilities_said(bits):
+def abilities_said(bits: int) -> str:
     return ", ".join(word for bit, word in model.ABILITIES if bits & bit) or "no ability"
 
 
 class Linking:
-    """A bundle of published ones beside those that the ledger has, which are given by their names."""
+    """A bundle of published ones beside those that the ledger has, which are given by their names. There is no sender where a
+    saved ledger is loaded."""
 
-    def __init__(self, ledger, sender, bundle):
+    def __init__(self, ledger: Dict[ModuleName, Published], sender: Optional[bytes], bundle: List[Published]):
         self.ledger, self.sender, self.bundle = ledger, sender, bundle
+        self.sizes: Dict[StructName, Tuple[int, int]] = {}
         self.all = dict(ledger)
         self.all.update({one.name: one for one in bundle})
 
-    def check(self):
+    def check(self) -> None:
         """Raises the first failure, by the rules' letters."""
         for rule in (self.check_sender, self.check_names, self.check_modules, self.check_structs, self.check_functions,
                      self.check_order, self.check_sizes, self.check_replaced):
             rule()
 
     @staticmethod
-    def fail(one, kind, index, sentence):
+    def fail(one: Published, kind: int, index: int, rule: str, found: str) -> NoReturn:
         """Raises a failure at an entry of a module's table."""
-        one.subject.fail(PHASE, f"module {name_text(one.name)}, {one.subject.entry(kind, index)}", sentence)
+        one.subject.fail(PHASE, one.subject.entry(kind, index).behind(f"module {name_text(one.name)}, "), rule, found)
 
-    def check_sender(self):
+    def check_sender(self) -> None:
         for one in self.bundle:
-            if one.name[0] != self.sender:
-                self.fail(one, model.MODULE_HANDLES, one.module.own, "rule a, each module's own address is the sender: it is "
-                          f"{address_text(one.name[0])}, and the sender is {address_text(self.sender)}")
+            if self.sender is not None and one.name[0] != self.sender:
+                self.fail(one, model.MODULE_HANDLES, one.module.own, "rule a, each module's own address is the sender",
+                          f"it is {address_text(one.name[0])}, and the sender is {address_text(self.sender)}")
 
-    def check_names(self):
-        seen = set()
+    def check_names(self) -> None:
+        seen: Set[ModuleName] = set()
         for one in self.bundle:
             if one.name in seen:
                 self.fail(one, model.MODULE_HANDLES, one.module.own, "rule b, no two modules of the bundle have one address "
-                          f"and name: a module before it is {name_text(one.name)} too")
+                          "and name", f"a module before it is {name_text(one.name)} too")
             seen.add(one.name)
 
-    def check_modules(self):
+    def check_modules(self) -> None:
         for one in self.bundle:
             for index in range(len(one.module.module_handles)):
                 name = one.module_name(index)
                 if name not in self.all:
                     self.fail(one, model.MODULE_HANDLES, index,
-                              f"rule c, each module handle names a module that is there: there is no {name_text(name)}")
+                              "rule c, each module handle names a module that is there", f"there is no {name_text(name)}")
 
-    def check_structs(self):
-        rule = "rule d, each struct handle names a struct that is defined there with the same abilities: "
+    def check_structs(self) -> None:
+        rule = "rule d, each struct handle names a struct that is defined there with the same abilities"
         for one in self.bundle:
             for index, handle in enumerate(one.module.struct_handles):
                 name = one.struct_name(index)
                 there = self.all[name[:2]]
                 found = there.structs.get(name[2])
                 if found is None:
-                    self.fail(one, model.STRUCT_HANDLES, index, f"{rule}{name_text(name[:2])} defines no {quoted(name[2])}")
-                has = there.module.definition_handle(found).abilities
+                    self.fail(one, model.STRUCT_HANDLES, index, rule, f"{name_text(name[:2])} defines no {quoted(name[2])}")
+                has = there.definition_abilities(found)
                 if has != handle.abilities:
-                    self.fail(one, model.STRUCT_HANDLES, index, f"{rule}the handle has {abilities_said(handle.abilities)}, and "
+                    self.fail(one, model.STRUCT_HANDLES, index, rule, f"the handle has {abilities_said(handle.abilities)}, and "
                               f"{name_text(name)} has {abilities_said(has)}")
 
-    def check_functions(self):
+    def check_functions(self) -> None:
         rule = "rule e, each function handle names a function that is defined there"
         for one in self.bundle:
             for index, handle in enumerate(one.module.function_handles):
-                there, name = self.all[one.module_name(handle.module)], one.module.function_name(index)
+                there, name = self.all[one.module_name(handle.module)], known(one.module.function_name(index))
                 found, full = there.functions.get(name), f"{name_text(there.name)}::{quoted(name)}"
                 if found is None:
-                    self.fail(one, model.FUNCTION_HANDLES, index, f"{rule}: {name_text(there.name)} defines no {quoted(name)}")
+                    self.fail(one, model.FUNCTION_HANDLES, index, rule, f"{name_text(there.name)} defines no {quoted(name)}")
                 wanted, has = one.signature(index), there.signature(found.handle)
                 if wanted != has:
-                    self.fail(one, model.FUNCTION_HANDLES, index, f"{rule}, with the same types of parameters and results: the "
-                              f"handle has {signature_text(wanted)}, and {full} has {signature_text(has)}")
+                    self.fail(one, model.FUNCTION_HANDLES, index, f"{rule}, with the same types of parameters and results",
+                              f"the handle has {signature_text(wanted)}, and {full} has {signature_text(has)}")
                 if there is not one and not found.is_public:
                     self.fail(one, model.FUNCTION_HANDLES, index,
-                              f"{rule}, and a public one where its module is another: {full} is private")
+                              f"{rule}, and a public one where its module is another", f"{full} is private")
 
-    def check_order(self):
+    def check_order(self) -> None:
         """Wants no module that depends on itself. A chain that leads back goes through a module of the bundle."""
         chain = chain_back([one.name for one in self.bundle], lambda name: self.all[name].needs())
         if chain:
             one, names = self.all[chain[0]], ", which names ".join(map(name_text, chain))
             self.fail(one, model.MODULE_HANDLES, one.module.own,
-                      f"rule f, no module depends on itself by a chain of handles: {names}")
+                      "rule f, no module depends on itself by a chain of handles", f"there is {names}")
 
-    def check_sizes(self):
-        self.sizes = {}
+    def check_sizes(self) -> None:
         for one in self.bundle:
             for index in range(len(one.module.structs)):
-                nested, leaves = self.size((*one.name, one.module.definition_name(index)))
+                nested, leaves = self.size((*one.name, one.definition_name(index)))
                 if nested > MOST_NESTED:
                     self.fail(one, model.STRUCTS, index,
-                              f"rule g, each struct nests at most {MOST_NESTED} deep: it nests {nested} deep")
+                              f"rule g, each struct nests at most {MOST_NESTED} deep", f"it nests {nested} deep")
                 if leaves > MOST_LEAVES:
                     self.fail(one, model.STRUCTS, index,
-                              f"rule g, each struct has at most {MOST_LEAVES} leaf values: it has {leaves}")
+                              f"rule g, each struct has at most {MOST_LEAVES} leaf values", f"it has {leaves}")
 
-    def size(self, name):
+    def size(self, name: StructName) -> Tuple[int, int]:
         """How deep a struct nests, and how many leaf values it has. Those of its fields are found before its own."""
         waiting = [name]
         while waiting:
@@ -178,42 +200,43 @@ class Linking:
             self.sizes[waiting.pop()] = 1 + max((nested for nested, _ in sizes), default=0), leaves
         return self.sizes[name]
 
-    def check_replaced(self):
+    def check_replaced(self) -> None:
         for one in self.bundle:
             if one.name in self.ledger:
                 self.check_kept_structs(one, self.ledger[one.name])
                 self.check_kept_functions(one, self.ledger[one.name])
 
-    def check_kept_structs(self, one, before):
+    def check_kept_structs(self, one: Published, before: Published) -> None:
         rule = ("rule h, a module that takes another's place has its struct definitions in their places, with the same names, "
                 "abilities and fields")
         for index in range(len(before.module.structs)):
             old = struct_said(before, index)
             if index >= len(one.module.structs):
                 has = counted(len(one.module.structs), "struct definition")
-                one.subject.fail(PHASE, f"module {name_text(one.name)}", f"{rule}: it has {has}, and number {index} was {old}")
+                one.subject.fail(PHASE, Place(f"module {name_text(one.name)}"), rule,
+                                 f"it has {has}, and number {index} was {old}")
             new = struct_said(one, index)
             if new != old:
-                self.fail(one, model.STRUCTS, index, f"{rule}: it is {new}, and was {old}")
+                self.fail(one, model.STRUCTS, index, rule, f"it is {new}, and was {old}")
 
-    def check_kept_functions(self, one, before):
+    def check_kept_functions(self, one: Published, before: Published) -> None:
         rule = "rule h, a module that takes another's place has each of its public functions, public, with the same types"
         for name, old in before.functions.items():
             if not old.is_public:
                 continue
             new, was = one.functions.get(name), f"{quoted(name)}{signature_text(before.signature(old.handle))}"
             if new is None:
-                one.subject.fail(PHASE, f"module {name_text(one.name)}", f"{rule}: it has no {was}")
+                one.subject.fail(PHASE, Place(f"module {name_text(one.name)}"), rule, f"it has no {was}")
             if not new.is_public:
-                self.fail(one, model.FUNCTION_HANDLES, new.handle, f"{rule}: it is private, and was public")
+                self.fail(one, model.FUNCTION_HANDLES, new.handle, rule, "it is private, and was public")
             has = f"{quoted(name)}{signature_text(one.signature(new.handle))}"
             if has != was:
-                self.fail(one, model.FUNCTION_HANDLES, new.handle, f"{rule}: it is {has}, and was {was}")
+                self.fail(one, model.FUNCTION_HANDLES, new.handle, rule, f"it is {has}, and was {was}")
 
 
-def struct_said(one, index):
+def struct_said(one: Published, index: int) -> str:
     """A struct definition as any module has it."""
-    fields = ", ".join(f"{quoted(one.module.identifier(field.name))}: {type_text(one.type(field.type))}"
+    fields = ", ".join(f"{quoted(known(one.module.identifier(field.name)))}: {type_text(one.type(field.type))}"
                        for field in one.module.structs[index].fields)
-    abilities = abilities_said(one.module.definition_handle(index).abilities)
-    return f"{quoted(one.module.definition_name(index))} with {abilities} and {{ {fields} }}"
+    abilities = abilities_said(one.definition_abilities(index))
+    return f"{quoted(one.definition_name(index))} with {abilities} and {{ {fields} }}"

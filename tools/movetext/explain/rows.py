@@ -14,9 +14,9 @@ class Row(NamedTuple):
     needs: Tuple[Tuple[str, str], ...] = ()
 
 
-def row(takes="", gives="", *needs):
+def row(takes: str = "", gives: str = "", *needs: str) -> Row:
     """A row, from words with blanks between types that are written without any."""
-    return Row(tuple(takes.split()), tuple(gives.split()), tuple(tuple(need.split(" ", 1)) for need in needs))
+    return Row(tuple(takes.split()), tuple(gives.split()), tuple((need.split(" ", 1)[0], need.split(" ", 1)[1]) for need in needs))
 
 
 NUMBERS, COMPARED = row("n n", "n"), row("n n", "bool")
