@@ -1,6 +1,7 @@
-"""What records cost whose size says little of it: upgrades among few and many modules, shows of values of large modules, and the
-dearest records of 1 MB that are known, beside the mean of publishing 1 MB of ordinary modules. A time is the processor's, the
-least of several tries, beside what the program takes for the records before.
+"""What records cost whose size says little of it: upgrades among few and many modules and under few and many dependants, modules
+that name many others, names that collide, shows of values of large modules, and the dearest records of 1 MB that are known, beside
+the mean of publishing 1 MB of ordinary modules. A time is the processor's, the least of several tries, and memory the most that the
+process held, both less what the program takes for the records before.
 
 usage: python3 bench/costs.py PROGRAM FOLDER    FOLDER is kept; machine instructions are counted where there is a valgrind"""
 
@@ -17,6 +18,10 @@ from inputs import ASSET, Module, publish, record, run, u64
 TRIES = 3
 UPGRADES = 300
 FEW, MANY = 500, 2_000
+# Modules that name one, and large ones, which take 60 KB each.
+DEPENDANTS, LARGE_ONES = 4_000, 400
+# Half of an address that the hash of the store's names multiplies the other half by 0 for: the other half then tells nothing.
+COLLIDING = 0x9E3779B97F4A7C15
 SHOWS, SHOWN = 20, 1_000
 
 # What is stated of a block of a function with two parameters: 1,024 edges from the second one's value into the first one.
@@ -34,17 +39,24 @@ class Program:
         out = subprocess.run([self.path, "apply", f"{name}.stream"], check=True, capture_output=True, cwd=self.folder).stdout
         return out
 
-    def spent(self, records, name="costs"):
-        """The least seconds of the processor that the program takes for records."""
+    def used(self, records, name="costs"):
+        """What the system counted of the program for records, once for each try."""
         (self.folder / f"{name}.stream").write_bytes(b"".join(records))
-        tries = []
         for _ in range(TRIES):
             process = subprocess.Popen([self.path, "apply", f"{name}.stream"], cwd=self.folder, stdout=subprocess.DEVNULL)
             _, status, used = os.wait4(process.pid, 0)
             process.returncode = os.waitstatus_to_exitcode(status)
             assert process.returncode == 0, name
-            tries.append(used.ru_utime + used.ru_stime)
-        return min(tries)
+            yield used
+
+    def spent(self, records, name="costs"):
+        """The least seconds of the processor that the program takes for records."""
+        return min(used.ru_utime + used.ru_stime for used in self.used(records, name))
+
+    def cost(self, records, name="costs"):
+        """The least seconds of the processor, and the least KB of memory, that the program takes for records."""
+        tries = list(self.used(records, name))
+        return min(used.ru_utime + used.ru_stime for used in tries), min(used.ru_maxrss for used in tries)
 
     def instructions(self, records, name="costs"):
         """The machine instructions of the program for records, or None where there is no valgrind."""
@@ -122,8 +134,96 @@ def tell_upgrades(program):
           f"{times[FEW * 2] / times[FEW]:.2f} times as long (aim: 2.2 or less)", flush=True)
 
 
+def naming_large(units=inputs.LARGE):
+    """A module of 60 KB that also calls a function of the one called U."""
+    m = inputs.all_families(units, 5)
+    m.foreign_function("U", "value", "u64", "u64")
+    m.function("f", "u64", "u64", "", "MoveLoc 0; Call U::value; Ret", entry=False)
+    return m
+
+
+def tell_dependants(program):
+    """Upgrades of a module that none, many small and many large modules name."""
+    upgrade = program.published(upgraded())
+    helping = program.published(inputs.helping().bytes())
+    found = program.certificate(naming("N0"))
+    others = [record(1, publish((small(f"S{n}"), program.certificate(small("S0"))))) for n in range(DEPENDANTS)]
+    users = [record(1, publish((naming(f"N{n}"), found))) for n in range(DEPENDANTS)]
+    large, more = naming_large(), naming_large(0)
+    full, bare = program.certificate(large.bytes()), program.certificate(more.bytes())
+    costs = []
+    for what, before in (
+        ("none of 4,000 names", [helping, upgrade, *others]),
+        ("4,000 name", [helping, upgrade, *users]),
+        (f"{LARGE_ONES} of {len(more.bytes())} bytes name", [helping, upgrade, *(record(1, publish((more.renamed(f"L{n}"), bare))) for n in range(LARGE_ONES))]),
+        (f"{LARGE_ONES} of 60 KB name", [helping, upgrade, *(record(1, publish((large.renamed(f"L{n}"), full))) for n in range(LARGE_ONES))]),
+    ):
+        first, second = program.cost(before), program.cost([*before, *[upgrade] * 10])
+        costs.append(((second[0] - first[0]) / 10, second[1] - first[1]))
+        print(f"costs: an upgrade of a module that {what}: {costs[-1][0] * 1e3:.3f} ms, {costs[-1][1]} KB more for ten "
+              f"(aim: 0.1 ms more, or 1.1 times, and 100 KB)", flush=True)
+
+
+def naming_each(own, others, structs=False):
+    """A module that names one function of each of others, or one struct."""
+    m = Module(own)
+    for other in others:
+        if structs:
+            m.foreign_struct(other, "P0", inputs.PLAIN)
+        else:
+            m.foreign_function(other, "numbers0", "u64; u64", "u64")
+    return m.bytes()
+
+
+def tell_naming(program):
+    """A module that names one entry of each of many small and of many large modules."""
+    helping = program.published(inputs.helping().bytes())
+    names = [f"L{n}" for n in range(LARGE_ONES)]
+    costs = []
+    for what, units in ("500 bytes", 1), ("60 KB", inputs.LARGE):
+        home = inputs.all_families(units, 5)
+        found = program.certificate(home.bytes())
+        before = [helping, *(record(1, publish((home.renamed(name), found))) for name in names)]
+        one = [record(1, publish((naming_each(f"F{k}", names, structs=k % 2 == 1), b""))) for k in range(10)]
+        first, second, third = program.cost(before), program.cost([*before, one[0]]), program.cost([*before, *one])
+        costs.append((third[0] - first[0]) / len(one))
+        print(f"costs: a module of {len(one[0])} bytes that names one entry of each of {LARGE_ONES} modules of {what}: {costs[-1] * 1e3:.2f} ms, "
+              f"{second[1] - first[1]} KB more (aim: 1,000 KB or less)", flush=True)
+    print(f"costs: of 60 KB it takes {costs[1] / costs[0]:.2f} times as long as of 500 bytes (aim: 1.5 or less)", flush=True)
+
+
+def at_address(address, own="M", others=()):
+    """A module at an address, which has handles of modules called M at others."""
+    tables = Module(own).tables()
+    tables.addresses = [inputs.address(address), *map(inputs.address, others)]
+    tables.identifiers = [own, *(["M"] if others else [])]
+    tables.module_handles = [inputs.model.ModuleHandle(0, 0), *(inputs.model.ModuleHandle(n, 1) for n in range(1, len(others) + 1))]
+    return inputs.writer.write_module(tables)
+
+
+def offered_at(address, *texts):
+    """The record that publishes modules without code from an address."""
+    offers = [inputs.model.Offer(text, b"") for text in texts]
+    return record(*inputs.writer.write_payload(inputs.model.Publish(inputs.address(address), offers)))
+
+
+def tell_colliding(program):
+    """Modules whose names have one hash in the store, beside modules whose names have not."""
+    count, named = 4_000, 2_500
+    for what, half in ("collide", COLLIDING), ("don't collide", 12_345):
+        for where, place in ("low", lambda n: (n + 1) << 64 | half), ("high", lambda n: half << 64 | (n + 1)):
+            before = [offered_at(place(n), at_address(place(n))) for n in range(count)]
+            spent = program.spent(before)
+            naming = offered_at(1, at_address(1, "F", [place(n) for n in range(named)]))
+            answer = program.report([*before, naming]).decode().splitlines()[-1]
+            assert " published " in answer, answer
+            more = (program.spent([*before, *[naming] * 10]) - spent) / 10
+            print(f"costs: {count} modules whose names {what} (the {where} half of the address is alike), {sum(map(len, before))} bytes: {spent:.3f} s; "
+                  f"a module of {len(naming)} bytes that names {named} of them: {more * 1e3:.2f} ms", flush=True)
+
+
 def large_with_coins():
-    """A module of 26 KB with a coin whose value holds a struct."""
+    """A module of 42 KB with a coin whose value holds a struct."""
     m = Module("M")
     m.struct("Amount", "has store", "v: u64; w: u64")
     m.struct("Coin", ASSET, "a: Amount; who: address")
@@ -381,6 +481,9 @@ def tell(program, folder):
     os.makedirs(folder, exist_ok=True)
     program = Program(program, folder)
     tell_upgrades(program)
+    tell_dependants(program)
+    tell_naming(program)
+    tell_colliding(program)
     tell_shows(program)
     tell_dearest(program)
 

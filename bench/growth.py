@@ -73,12 +73,32 @@ def high(count):
     return m.bytes()
 
 
-def link(n):
-    """A module that names the one before it."""
+def link(n, more=None):
+    """A module that names the one before it, and one more."""
     m = Module(f"L{n}")
     if n:
         m.foreign_function(f"L{n - 1}", "f", "u64", "u64")
+    if more:
+        m.foreign_function(more, "f", "u64", "u64")
     m.function("f", "u64", "u64", "", f"MoveLoc 0; Call L{n - 1}::f; Ret" if n else "MoveLoc 0; Ret", entry=False)
+    return m.bytes()
+
+
+def ending(k, length, more=None):
+    """A module that names the last one of a chain, and one more."""
+    m = Module(f"E{k}")
+    for other in [f"L{length - 1}", *([more] if more else [])]:
+        m.foreign_function(other, "f", "u64", "u64")
+    m.function("f", "u64", "u64", "", "MoveLoc 0; Ret", entry=False)
+    return m.bytes()
+
+
+def naming_all(n, more=()):
+    """A module that names a function of each of the n ones before it, and more."""
+    m = Module(f"D{n}")
+    for other in [*(f"D{k}" for k in range(n)), *more]:
+        m.foreign_function(other, "f", "u64", "u64")
+    m.function("f", "u64", "u64", "", "MoveLoc 0; Ret", entry=False)
     return m.bytes()
 
 
@@ -132,11 +152,24 @@ def tell(program, folder):
     growth.tell("a function of 4,096 instructions above 127 references", lambda n: ([], [record(1, publish((high(2_048 * n), program.certificate(high(2_048 * n)))))], 4))
     one = program.certificate(link(1))
     chain = [record(1, publish((link(n), one))) for n in range(4_096)]
+    other = Module("Alone")
+    other.function("f", "u64", "u64", "", "MoveLoc 0; Ret", entry=False)
+    alone = record(1, publish((other.bytes(), one)))
     growth.tell("4,096 modules in a chain", lambda n: ([], chain[: 2_048 * n], 1))
     growth.tell("the first one of a chain of 4,096 replaced", lambda n: (chain[: 2_048 * n], [chain[0]], 100))
     growth.tell("the last one of a chain of 4,096 replaced", lambda n: (chain[: 2_048 * n], [chain[2_048 * n - 1]], 100))
     users = [record(1, publish((naming_first(n), none))) for n in range(4_095)]
     growth.tell("one module that 4,000 name replaced", lambda n: ([chain[0], *users[: 2_000 * n]], [chain[0]], 20))
+    bare = program.certificate(naming_all(0))
+    dense = [record(1, publish((naming_all(n), bare))) for n in range(2_000)]
+    growth.tell("2,000 modules that each name all before (aim: 1 s in all)", lambda n: ([], dense[: 1_000 * n], 1))
+    growth.tell("the last one of 2,000 such replaced by one that names a further one", lambda n: (
+        [*dense[: 1_000 * n], alone], [record(1, publish((naming_all(1_000 * n - 1, ["Alone"]), bare)))], 100))
+    growth.tell("the last one of a chain of 4,095 replaced by one that names a further one (aim: 1 ms)", lambda n: (
+        [*chain[: 2_047 * n], alone], [record(1, publish((link(2_047 * n - 1, "Alone"), one)))], 1))
+    growth.tell("16 modules behind a chain of 4,064 replaced by such (aim: 6 ms)", lambda n: (
+        [*chain[: 2_032 * n], alone, *(record(1, publish((ending(k, 2_032 * n), one))) for k in range(16))],
+        [record(1, publish(*((ending(k, 2_032 * n, "Alone"), one) for k in range(16))))], 1))
     growth.tell("4,000 modules without anything", lambda n: ([], [published(Module(f"Z{k}").bytes()) for k in range(2_000 * n)], 1))
 
 
