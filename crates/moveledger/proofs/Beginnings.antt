@@ -15,8 +15,8 @@ use Rattle.moveledger.specs.Checking.{AreShort, FailsCheck, IsAccepted, IsRefuse
 use Rattle.moveledger.specs.Printing.{checked_line, line, no_proof_line}
 use Rattle.moveledger.specs.Proving.{FailsProof, HasNoProof, IsComplexText, IsProvedBy, IsShort, in_each, in_module, too_long}
 use Rattle.moveledger.specs.Status.{end_after_check, end_after_proof}
-use Rattle.moveledger.specs.declared.status.End.{End}
-use Rattle.moveledger.specs.declared.status.End.TheVariants.{Read, Memory}
+use Rattle.moveledger.specs.declared.ending.End.{End}
+use Rattle.moveledger.specs.declared.ending.End.TheVariants.{Read, Memory}
 
 -- fewer bytes than were asked for are all
 few-taken : (n : ℕ) (l : List ℕ) → length (take n l) < n → take n l ≡ l

@@ -6,8 +6,8 @@ use Rattle.mv_ledger.specs.View.{LedgerView}
 use Rattle.moveledger.specs.Headline.{Headline}
 use Rattle.moveledger.specs.Outcome.{Ends, ReadsAll, Stops, StopsReading}
 use Rattle.moveledger.specs.Status.{end_after}
-use Rattle.moveledger.specs.declared.engine.EngineError.{EngineError}
-use Rattle.moveledger.specs.declared.engine.EngineError.TheVariants.{Read, Write, Memory}
+use Rattle.moveledger.specs.declared.streaming.EngineError.{EngineError}
+use Rattle.moveledger.specs.declared.streaming.EngineError.TheVariants.{Read, Write, Memory}
 
 -- what the writer holds stays
 

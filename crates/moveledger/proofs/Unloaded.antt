@@ -8,8 +8,8 @@ use Rattle.mv_ledger.specs.declared.loading.LoadError.TheVariants.{Head, Module,
 use Rattle.moveledger.specs.Authoring.{Prints}
 use Rattle.moveledger.specs.Printing.{line, load_refused_text}
 use Rattle.moveledger.specs.Saved.{IsNotLoaded}
-use Rattle.moveledger.specs.declared.status.End.{End}
-use Rattle.moveledger.specs.declared.status.End.TheVariants.{LoadRefused}
+use Rattle.moveledger.specs.declared.ending.End.{End}
+use Rattle.moveledger.specs.declared.ending.End.TheVariants.{LoadRefused}
 
 -- a reason fails by its number
 by-number : (bytes : List ℕ) (error : LoadError) (number : ℕ) → load_number error ≡ Some number → IsLoadRefusal bytes error → FailsLoad bytes number

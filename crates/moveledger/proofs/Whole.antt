@@ -5,8 +5,8 @@ use Rattle.mv_uleb.proofs.Spelled.{one_form}
 use Rattle.mv_move_types.specs.Limits.{most_payload_bytes}
 use Rattle.moveledger.specs.Records.{IsText, NoWhole}
 use Rattle.moveledger.specs.Reading.{NoLength}
-use Rattle.moveledger.specs.declared.engine.EngineError.{EngineError}
-use Rattle.moveledger.specs.declared.engine.EngineError.TheVariants.{Read, Write}
+use Rattle.moveledger.specs.declared.streaming.EngineError.{EngineError}
+use Rattle.moveledger.specs.declared.streaming.EngineError.TheVariants.{Read, Write}
 
 pub NoWhole-nil : NoWhole []
 NoWhole-nil kind payload front more t e =

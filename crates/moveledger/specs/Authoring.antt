@@ -1,8 +1,8 @@
 -- How the commands of an author end, and what they print.
 use Rattle.std.specs.Prelude.{◌≡◌, ℕ, ◌⊎◌, List, Option, Result, Ok, Err, codes, ⊤}
 use Rattle.std.specs.Io.KnownBytes.{Appends}
-use Rattle.moveledger.specs.declared.status.End.{End}
-use Rattle.moveledger.specs.declared.status.End.TheVariants.{Done, Read, Write, Memory, Words, Refused, LoadRefused, TooComplex}
+use Rattle.moveledger.specs.declared.ending.End.{End}
+use Rattle.moveledger.specs.declared.ending.End.TheVariants.{Done, Read, Write, Memory, Words, Refused, LoadRefused, TooComplex}
 use Rattle.moveledger.specs.Printing.{line, refused_text}
 use Rattle.moveledger.specs.Checking.{FailsCheck, IsAccepted}
 use Rattle.moveledger.specs.Proving.{FailsProof, IsComplexText, IsProvedBy}

@@ -3,10 +3,10 @@ use Rattle.std.specs.Prelude.{List, [], true, Option, Some, None, codes, option_
 use Rattle.std.specs.Str.{bytes_eq}
 use Rattle.clap.specs.Values.{kind_of}
 use Rattle.clap.specs.Words.{App, IsAmong, Kinds, Rule, Row, Text, new_app, new_rule, with_rule, with_subcommand, first_of}
-use Rattle.moveledger.specs.declared.command.Task.{Task}
-use Rattle.moveledger.specs.declared.command.Task.TheVariants.{Apply, Prove, Check, Migrate}
-use Rattle.moveledger.specs.declared.command.LineError.{LineError}
-use Rattle.moveledger.specs.declared.command.LineError.TheVariants.{Words, Memory}
+use Rattle.moveledger.specs.declared.command_line.Task.{Task}
+use Rattle.moveledger.specs.declared.command_line.Task.TheVariants.{Apply, Prove, Check, Migrate}
+use Rattle.moveledger.specs.declared.command_line.LineError.{LineError}
+use Rattle.moveledger.specs.declared.command_line.LineError.TheVariants.{Words, Memory}
 
 -- a name that has to be given
 abbrev pub name_of : Text → Rule

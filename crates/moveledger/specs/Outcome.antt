@@ -7,8 +7,8 @@ use Rattle.moveledger.specs.Records.{Record, AreWhole}
 use Rattle.moveledger.specs.Reading.{IsCutAt, IsTaken, IsUnfinished}
 use Rattle.mv_machine.specs.Lines.{numbered}
 use Rattle.moveledger.specs.Headline.{Headline, Step, Reports}
-use Rattle.moveledger.specs.declared.status.End.{End}
-use Rattle.moveledger.specs.declared.status.End.TheVariants.{Done, Read, Write, Memory, Words, Refused, LoadRefused, TooComplex}
+use Rattle.moveledger.specs.declared.ending.End.{End}
+use Rattle.moveledger.specs.declared.ending.End.TheVariants.{Done, Read, Write, Memory, Words, Refused, LoadRefused, TooComplex}
 
 -- the bytes that are known to be left
 abbrev pub left_of : Option (List ℕ) → List ℕ

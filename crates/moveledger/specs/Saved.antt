@@ -5,8 +5,8 @@ use Rattle.mv_machine.specs.Ledger.{LedgerState}
 use Rattle.mv_ledger.specs.SavedText.{Second, IsSavedText}
 use Rattle.mv_ledger.specs.Loading.{FailsLoad, IsLoaded}
 use Rattle.moveledger.specs.Printing.{line, load_refused_text}
-use Rattle.moveledger.specs.declared.status.End.{End}
-use Rattle.moveledger.specs.declared.status.End.TheVariants.{Done, Read, Write, Memory, Words, Refused, LoadRefused, TooComplex}
+use Rattle.moveledger.specs.declared.ending.End.{End}
+use Rattle.moveledger.specs.declared.ending.End.TheVariants.{Done, Read, Write, Memory, Words, Refused, LoadRefused, TooComplex}
 
 -- bytes are not loaded, and the line of the first reason against them is printed; or a read, a write or an allocation failed
 abbrev pub IsNotLoaded : List ℕ → Option (List ℕ) → Option (List ℕ) → End → Type 0

@@ -3,18 +3,18 @@ use Rattle.std.specs.Prelude.{◌≡◌, ℕ, List, [], Bool, true, false, Resul
 use Rattle.std.specs.Io.{StartsWith}
 use Rattle.std.specs.Io.KnownBytes.{Appends}
 use Rattle.moveledger.specs.Printing.{line}
-use Rattle.moveledger.specs.declared.command.LineError.{LineError}
-use Rattle.moveledger.specs.declared.command.LineError.TheVariants as words
-use Rattle.moveledger.specs.declared.engine.EngineError.{EngineError}
-use Rattle.moveledger.specs.declared.engine.EngineError.TheVariants as error
+use Rattle.moveledger.specs.declared.command_line.LineError.{LineError}
+use Rattle.moveledger.specs.declared.command_line.LineError.TheVariants as words
+use Rattle.moveledger.specs.declared.streaming.EngineError.{EngineError}
+use Rattle.moveledger.specs.declared.streaming.EngineError.TheVariants as error
 use Rattle.moveledger.specs.declared.saved.KeepError.{KeepError}
 use Rattle.moveledger.specs.declared.saved.KeepError.TheVariants as keep
 use Rattle.mv_analyser.specs.declared.ProveError.{ProveError}
 use Rattle.mv_analyser.specs.declared.ProveError.TheVariants as proof
 use Rattle.mv_move_types.specs.declared.refusal.Refusal.{Refusal}
 use Rattle.mv_move_types.specs.declared.refusal.Refusal.TheVariants as refusal
-use Rattle.moveledger.specs.declared.status.End.{End}
-use Rattle.moveledger.specs.declared.status.End.TheVariants.{Done, Read, Write, Memory, Words, Refused, LoadRefused, TooComplex}
+use Rattle.moveledger.specs.declared.ending.End.{End}
+use Rattle.moveledger.specs.declared.ending.End.TheVariants.{Done, Read, Write, Memory, Words, Refused, LoadRefused, TooComplex}
 
 -- the end after the engine's, whose report was written out to the last byte or wasn't
 abbrev pub end_after : Result ℕ EngineError → Bool → End

@@ -6,7 +6,7 @@ ghost use Rattle.mv_machine.specs.Lines.{Reply as Told, numbered, kind_text, sto
 ghost use Rattle.mv_ledger.specs.Answering.{told, told_ending, told_lines};
 ghost use Rattle.moveledger.specs.Answered.{IsAnswered, IsBegun, MayBeAnswered, Writes, WritesPart, WritesReply, WritesReplyPart, line_of};
 
-use crate::engine::EngineError;
+use crate::streaming::EngineError;
 use itoa::Buffer;
 use mv_ledger::{Ledger, Lines, Reply};
 use mv_machine::{Ending, Kind, Stop};

@@ -4,10 +4,10 @@ ghost use Rattle.moveledger.specs.Authoring.{ChecksTo, Prints, ProvesTo};
 
 use crate::answering::write_text;
 use crate::checking::check_text;
+use crate::ending::{End, end_of_check, end_of_proof};
 use crate::inputs::first_bytes;
 use crate::printing::{checked_line, proved_line};
 use crate::proving::prove_text;
-use crate::status::{End, end_of_check, end_of_proof};
 use std::alloc::{AllocError, Global};
 use std::io::{Read, Write};
 

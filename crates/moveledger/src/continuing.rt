@@ -3,8 +3,8 @@ ghost use Rattle.std.specs.Prelude.{◌≡◌, OnOk, OnErr};
 ghost use Rattle.moveledger.specs.Continuing.{GoesOn, StopsAfter};
 
 use crate::answering::{answer, write_reply};
-use crate::engine::EngineError;
 use crate::reading::{Next, next_record};
+use crate::streaming::EngineError;
 use mv_ledger::{Ledger, Reply};
 use std::io::{Read, Write};
 

@@ -1,7 +1,7 @@
 // What a file gives, read whole.
 ghost use Rattle.std.specs.Prelude.{◌≡◌, ◌⊎◌, IfErr, IfOk, IfSome, take};
 
-use crate::status::End;
+use crate::ending::End;
 use std::alloc::Global;
 use std::io::{ErrorKind, Read};
 

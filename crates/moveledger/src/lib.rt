@@ -2,7 +2,7 @@
 //! files that are read, which the program above this crate opens.
 //!
 //! ```
-//! use moveledger::engine::{EngineError, engine};
+//! use moveledger::{EngineError, engine};
 //! use mv_ledger::Ledger;
 //! use std::alloc::Global;
 //!
@@ -16,9 +16,9 @@
 mod answering;
 mod authoring;
 mod checking;
-pub mod command;
+mod command_line;
 mod continuing;
-pub mod engine;
+mod ending;
 mod inputs;
 mod keeping;
 mod modules;
@@ -28,13 +28,19 @@ mod proving;
 mod reading;
 mod reporting;
 mod saved;
-pub mod status;
+mod streaming;
 
 pub use authoring::{check_module, prove_module};
 pub use checking::check_text;
+pub use command_line::{LineError, Task, command, not_text};
 pub use continuing::answer_on;
+pub use ending::{
+    End, end_of, end_of_check, end_of_keeping, end_of_proof, end_of_words, ended, fault_text,
+    status,
+};
 pub use keeping::keep;
 pub use pacing::{AfterRecord, Gathering, Prompt};
 pub use proving::prove_text;
 pub use reporting::report;
 pub use saved::{KeepError, end_of_text, loaded, migrated, text_to_keep};
+pub use streaming::{EngineError, answer_all, engine, one_reading, one_report};

@@ -3,7 +3,7 @@ ghost use Rattle.std.specs.Prelude.{◌≡◌, [], IfErr, OnOk};
 ghost use Rattle.std.specs.Io.Buffered.{writer_buffer, writer_contents};
 ghost use Rattle.std.specs.Io.KnownBytes.{Keeps};
 
-use crate::engine::EngineError;
+use crate::streaming::EngineError;
 use std::io::{BufWriter, Write};
 
 /// What is done when a record is answered, before the next one is read.

@@ -7,7 +7,7 @@ ghost use Rattle.moveledger.specs.Reading.{HasNoLength, IsLengthBegun, IsUnfinis
 ghost use Rattle.moveledger.specs.Next.{IsNext};
 ghost use Rattle.moveledger.specs.Outcome.{left_of};
 
-use crate::engine::EngineError;
+use crate::streaming::EngineError;
 use std::alloc::Global;
 use std::io::Read;
 

@@ -3,9 +3,9 @@ ghost use Rattle.std.specs.Prelude.{◌≡◌, ◌≢◌, []};
 ghost use Rattle.std.specs.Io.Buffered.{writer_buffer, writer_contents};
 ghost use Rattle.moveledger.specs.Outcome.{Ends};
 
-use crate::engine::answer_all;
+use crate::ending::{End, end_of};
 use crate::pacing::AfterRecord;
-use crate::status::{End, end_of};
+use crate::streaming::answer_all;
 use mv_ledger::Ledger;
 use std::io::{BufWriter, Read, Write};
 

@@ -9,9 +9,9 @@ ghost use Rattle.moveledger.specs.Status.{end_after_keeping};
 ghost use Rattle.moveledger.specs.declared.saved.KeepError.{KeepError};
 
 use crate::authoring::printed;
+use crate::ending::{End, end_of_keeping};
 use crate::inputs::all_bytes;
 use crate::printing::load_refused_line;
-use crate::status::{End, end_of_keeping};
 use mv_ledger::{Ledger, LoadError};
 use std::alloc::{AllocError, Global};
 use std::io::{self, ErrorKind, Read, Write};

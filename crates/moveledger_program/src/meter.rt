@@ -2,8 +2,7 @@
 ghost use Rattle.std.specs.Prelude.{◌≡◌, ◌++◌, IfOk, codes, decimal, string_bytes};
 ghost use Rattle.moveledger_program.specs.Meter.{meter_text};
 
-use moveledger::AfterRecord;
-use moveledger::engine::EngineError;
+use moveledger::{AfterRecord, EngineError};
 use std::alloc::{AllocError, Global};
 use std::cell::Cell;
 use std::io::{self, IsTerminal, Read, Write};

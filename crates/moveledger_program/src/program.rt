@@ -5,11 +5,9 @@ ghost use Rattle.std.specs.Fs.{file_type, metadata_len, IsFile};
 use crate::kinds::{FRONT, Kind, kind_of};
 use crate::meter::{Counted, Meter, Report, Screen, Whole};
 use crate::told::Told;
-use moveledger::command::{LineError, Task, command, not_text};
-use moveledger::status::{End, end_of_words, ended};
 use moveledger::{
-    AfterRecord, Gathering, Prompt, check_module, end_of_text, keep, loaded, migrated,
-    prove_module, report, text_to_keep,
+    AfterRecord, End, Gathering, LineError, Prompt, Task, check_module, command, end_of_text,
+    end_of_words, ended, keep, loaded, migrated, not_text, prove_module, report, text_to_keep,
 };
 use mv_ledger::Ledger;
 use std::fs::{self, File, Metadata, OpenOptions};

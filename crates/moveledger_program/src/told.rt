@@ -1,7 +1,7 @@
 // What standard error says behind the line of a fault, and of bytes that are plainly of another kind.
 ghost use Rattle.std.specs.Prelude.{◌≡◌, None};
 
-use moveledger::status::End;
+use moveledger::End;
 use std::alloc::Global;
 use std::fmt::Display;
 

@@ -8,7 +8,7 @@ mod rows;
 mod saved;
 
 use fakes::{Pieces, Room};
-use moveledger::engine::{EngineError, engine};
+use moveledger::{EngineError, engine};
 use mv_ledger::Ledger;
 use rows::{Row, inputs, rows_of};
 use std::alloc::Global;

@@ -1,10 +1,8 @@
 // The command line, and how the program ends. The words that are refused stand in scripts/try-exits.
 
-use moveledger::KeepError;
-use moveledger::command::{Task, command};
-use moveledger::engine::EngineError;
-use moveledger::status::{
-    End, end_of, end_of_check, end_of_keeping, end_of_proof, fault_text, status,
+use moveledger::{
+    End, EngineError, KeepError, Task, command, end_of, end_of_check, end_of_keeping, end_of_proof,
+    fault_text, status,
 };
 use mv_analyser::ProveError;
 use mv_move_types::Refusal;

@@ -3,8 +3,7 @@
 use super::fakes::Room;
 use super::rows::{Row, rows_of};
 use super::{printed, room, whole};
-use moveledger::status::End;
-use moveledger::{check_module, prove_module};
+use moveledger::{End, check_module, prove_module};
 use std::alloc::Global;
 use std::process::Abort;
 use std::test::Fail;

@@ -3,7 +3,7 @@
 use super::fakes::{Pieces, Room};
 use super::rows::Row;
 use super::{Answer, MANY, MINTED_TWICE, alone, in_turn, room, same, whole};
-use moveledger::engine::EngineError;
+use moveledger::EngineError;
 use std::alloc::Global;
 use std::io::ErrorKind;
 use std::mem;

@@ -3,9 +3,7 @@
 use super::fakes::Room;
 use super::rows::{Row, rows_of};
 use super::{Answer, answered, printed, room, same, whole};
-use moveledger::engine::EngineError;
-use moveledger::status::End;
-use moveledger::{loaded, migrated};
+use moveledger::{End, EngineError, loaded, migrated};
 use std::alloc::Global;
 use std::process::Abort;
 use std::test::Fail;

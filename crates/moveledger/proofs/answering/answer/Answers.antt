@@ -1,7 +1,7 @@
 use Rattle.std.proofs.Common.{Some, refl}
 use Rattle.mv_machine.specs.Lines.{Refused}
 use Rattle.mv_ledger.specs.Answering.{told, told_lines}
-use Rattle.moveledger.specs.declared.engine.EngineError.TheVariants.{Read, Write}
+use Rattle.moveledger.specs.declared.streaming.EngineError.TheVariants.{Read, Write}
 use Rattle.moveledger.proofs.Lines.{written_answers, begun_answers, failed_write_begins, other_replied}
 use Rattle.moveledger.proofs.answering.answer.Goals as goal
 

@@ -1,6 +1,6 @@
 use Rattle.std.proofs.Common.{◌≡◌, ℕ, List, Option, IfSome, take, string_bytes, sym, subst}
 use Rattle.moveledger.specs.Authoring.{Prints}
-use Rattle.moveledger.specs.declared.status.End.{End}
+use Rattle.moveledger.specs.declared.ending.End.{End}
 use Rattle.moveledger.proofs.Beginnings.{checks-some}
 use Rattle.moveledger.proofs.authoring.check_module.Goals as goal
 

@@ -5,9 +5,9 @@ ghost use Rattle.std.specs.Io.KnownBytes.{Appends};
 ghost use Rattle.moveledger.specs.Status.{EndsSo, end_after, end_after_check, end_after_keeping, end_after_proof, end_after_words, fault_line, fault_said, status_of};
 
 use crate::answering::write_text;
-use crate::command::LineError;
-use crate::engine::EngineError;
+use crate::command_line::LineError;
 use crate::saved::KeepError;
+use crate::streaming::EngineError;
 use mv_analyser::ProveError;
 use mv_move_types::Refusal;
 use std::io::Write;

@@ -3,7 +3,7 @@ use Rattle.clap.specs.Words.{takes, App, HasKind, IsAmong, Text, app_of, fault_o
 use Rattle.clap.specs.declared.error.Error.{Error}
 use Rattle.moveledger.specs.Line.{moveledger}
 use Rattle.moveledger.proofs.Tasks.{among, is_defined}
-use Rattle.moveledger.proofs.command.command.Goals as goal
+use Rattle.moveledger.proofs.command_line.command.Goals as goal
 use Rattle.std.proofs.lemmas.Bool.{false_from_ne_true}
 
 apart : false ≡ true → ⊥

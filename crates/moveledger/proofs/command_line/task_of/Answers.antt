@@ -2,7 +2,7 @@ use Rattle.std.proofs.Common.{◌∙◌}
 use Rattle.clap.specs.Words.{found_of, rows_of, subcommand_rows_of}
 use Rattle.clap.specs.declared.parser.ArgMatches.TheViews.{out-ArgMatches}
 use Rattle.moveledger.proofs.Tasks.{name_with_rows, task_of_named}
-use Rattle.moveledger.proofs.command.task_of.Goals as goal
+use Rattle.moveledger.proofs.command_line.task_of.Goals as goal
 
 pub returns-in-Some : goal.returns-in-Some
 returns-in-Some c =

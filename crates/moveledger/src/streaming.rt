@@ -29,7 +29,7 @@ pub enum EngineError {
 
 impl From<AllocError> for EngineError {
     ghost use Rattle.std.specs.Prelude.{◌≡◌};
-    ghost use Rattle.moveledger.specs.declared.engine.EngineError.TheVariants.{Memory};
+    ghost use Rattle.moveledger.specs.declared.streaming.EngineError.TheVariants.{Memory};
 
     ghost from_gives = { λ _ e. e ≡ Memory };
 

@@ -6,7 +6,7 @@ use Rattle.mv_machine.specs.Lines.{Refused, reply_lines, numbered}
 use Rattle.moveledger.proofs.Steps.{Progress-start, Progress-next, Progress-stops_reading, Progress-ends, Progress-full, Progress-cut, Progress-reads}
 use Rattle.moveledger.proofs.Steps.{Progress-reads_cut, Progress-reads_full, Stops-read, Stops-written, Stops-writing, Stops-begun, Stops-answered}
 use Rattle.moveledger.proofs.Steps.{StartsWith-whole, error-is}
-use Rattle.moveledger.proofs.engine.answer_all.Goals as goal
+use Rattle.moveledger.proofs.streaming.answer_all.Goals as goal
 
 pub loop-n-init : goal.loop-n-init
 loop-n-init g c = Progress-start _ _ _
