@@ -15,7 +15,7 @@ from files import PROGRAM
 
 HERE = Path(__file__).resolve().parent
 TOP = HERE.parent
-BUILT = TOP / "crates/moveledger_c/out"
+BUILT = TOP / "out/library"
 AIM = "1.30 or less"
 KEPT = 250_000
 WAYS = {"once": "all in one call", "each": "a call for each"}

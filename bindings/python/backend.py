@@ -7,6 +7,7 @@ import json
 import os
 import re
 import stat
+import subprocess
 import sysconfig
 import zipfile
 from pathlib import Path
@@ -14,8 +15,8 @@ from typing import Any, Dict, Iterator, List, Optional, Tuple
 
 TOP = Path.cwd()
 LIBRARY = "libmoveledger.so"
-# Where the library is, from this folder, if no MOVELEDGER_LIB_DIR says otherwise: bindings/library puts it there.
-BUILT = "../../crates/moveledger_c/out"
+# The repository's bindings/library, from this folder, and where it puts the library.
+MAKES, BUILT = "../library", "../../out/library"
 
 
 class Project:
@@ -63,8 +64,12 @@ class Project:
 
 
 def library() -> Path:
-    """The shared library."""
-    folder = Path(os.environ.get("MOVELEDGER_LIB_DIR", TOP / BUILT))
+    """The shared library: in the folder that MOVELEDGER_LIB_DIR names, otherwise the repository's, if that needn't be built."""
+    said = os.environ.get("MOVELEDGER_LIB_DIR")
+    if said is None and (TOP / MAKES).is_file():
+        # Where it fails it says why, and the library isn't there.
+        subprocess.run([TOP / MAKES, "--here"], check=False)
+    folder = TOP / BUILT if said is None else Path(said)
     if not (folder / LIBRARY).is_file():
         raise SystemExit(f"there is no {folder / LIBRARY}: bindings/library makes it, MOVELEDGER_LIB_DIR names another folder")
     return folder / LIBRARY

@@ -51,7 +51,7 @@ def places() -> List[Path]:
     if said is not None:
         return [Path(said) / FILE]
     top = HERE.parents[2] if len(HERE.parents) > 2 else HERE
-    return [HERE / FILE, top / "crates/moveledger_c/out" / FILE]
+    return [HERE / FILE, top / "out/library" / FILE]
 
 
 class Library:

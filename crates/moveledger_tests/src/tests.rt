@@ -105,7 +105,9 @@ fn reports(rt: &impl Abort, alloc: Global, row: &Row, bytes: &[u8], wanted: &[u8
 // However many bytes a reader gives and a writer takes in a call.
 #[test]
 fn rows_are_answered_as_wanted(rt: HostRuntime) -> Result<(), Fail> {
-    for row in &rows_of(rt.alloc(), inputs())? {
+    let rows = rows_of(rt.alloc(), inputs())?;
+    assert_eq!(rt; rows.len(), 136);
+    for row in &rows {
         let bytes = row.input(rt.alloc())?;
         let wanted = row.report(rt.alloc())?;
         for each in [MANY, 7, 1] {

@@ -84,7 +84,9 @@ fn is_printed(rt: &impl Abort, alloc: Global, row: &Row) -> Result<(), Fail> {
 
 #[test]
 fn certificates_are_printed(rt: HostRuntime) -> Result<(), Fail> {
-    for row in &rows_of(rt.alloc(), modules())? {
+    let rows = rows_of(rt.alloc(), modules())?;
+    assert_eq!(rt; rows.len(), 21);
+    for row in &rows {
         is_printed(&rt, rt.alloc(), row)?;
     }
     Ok(())
@@ -104,7 +106,9 @@ fn is_answered(rt: &impl Abort, alloc: Global, row: &Row) -> Result<(), Fail> {
 
 #[test]
 fn texts_are_checked(rt: HostRuntime) -> Result<(), Fail> {
-    for row in &rows_of(rt.alloc(), texts())? {
+    let rows = rows_of(rt.alloc(), texts())?;
+    assert_eq!(rt; rows.len(), 21);
+    for row in &rows {
         is_answered(&rt, rt.alloc(), row)?;
     }
     Ok(())

@@ -69,7 +69,7 @@ pub fn inputs() -> &'static str {
     ROWS
 }
 
-/// The rows of a text, in which each begins with #.
+/// The rows of a text, in which each begins with #. A test says how many it has, so that none is lost unseen.
 pub fn rows_of(alloc: Global, text: &'static str) -> Result<Vec<Row>, Fail> {
     let mut rows = Vec::new(alloc);
     for row in text.split('#').skip(1) {

@@ -48,7 +48,9 @@ fn says(
 
 #[test]
 fn saved_ledgers_are_migrated_or_refused(rt: HostRuntime) -> Result<(), Fail> {
-    for row in &rows_of(rt.alloc(), ledgers())? {
+    let rows = rows_of(rt.alloc(), ledgers())?;
+    assert_eq!(rt; rows.len(), 32);
+    for row in &rows {
         let text = hex::decode(rt.alloc(), row.given)?;
         says(&rt, rt.alloc(), &text, row.wanted, row.shows)?;
     }
@@ -142,7 +144,9 @@ fn goes_on(rt: &impl Abort, alloc: Global, row: &Row) -> Result<(), Fail> {
 
 #[test]
 fn loaded_ledgers_go_on(rt: HostRuntime) -> Result<(), Fail> {
-    for row in &rows_of(rt.alloc(), ledgers_and_records())? {
+    let rows = rows_of(rt.alloc(), ledgers_and_records())?;
+    assert_eq!(rt; rows.len(), 3);
+    for row in &rows {
         goes_on(&rt, rt.alloc(), row)?;
     }
     Ok(())
