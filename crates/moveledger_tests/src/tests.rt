@@ -195,12 +195,22 @@ struct Told<'a> {
     again: &'a [u8],
 }
 
+// What comes of an input on a new ledger, and the text of the ledger that it leaves; none where an allocation fails.
+fn left_by(
+    alloc: Global,
+    reader: &mut Pieces<'_>,
+    writer: &mut Room,
+) -> (Answer, Option<Vec<u8>>) {
+    let mut ledger = Ledger::new(alloc);
+    let answer = answered(reader, writer, &mut ledger);
+    (answer, ledger.save().ok())
+}
+
 // The text of the ledger that an input leaves; none where an allocation fails.
 fn text_left_by(alloc: Global, bytes: &[u8], writer: &mut Room) -> Option<Vec<u8>> {
-    let mut ledger = Ledger::new(alloc);
-    match answered(&mut whole(bytes), writer, &mut ledger) {
-        Ok(_) => ledger.save().ok(),
-        Err(_) => None,
+    match left_by(alloc, &mut whole(bytes), writer) {
+        (Ok(_), text) => text,
+        (Err(_), _) => None,
     }
 }
 

@@ -37,7 +37,7 @@ fn is_conserved(line: &str) -> bool {
     }
 }
 
-// Whether lines tell that a module is refused, or its values are conserved.
+// Whether lines tell that a module is refused, or its values are conserved, and go on to the end of the fourth record, an audit.
 fn is_told_well(written: &[u8]) -> bool {
     let Ok(text) = std::str::from_utf8(written) else {
         return false;
@@ -45,7 +45,8 @@ fn is_told_well(written: &[u8]) -> bool {
     let Some(first) = text.lines().next() else {
         return false;
     };
-    is_published_or_refused(first) && text.lines().all(is_conserved)
+    let is_whole = text.contains("\n4 end ");
+    is_whole && is_published_or_refused(first) && text.lines().all(is_conserved)
 }
 
 // Whether an altered module is refused, or its values are conserved.

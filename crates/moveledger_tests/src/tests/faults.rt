@@ -2,7 +2,7 @@
 
 use super::fakes::{Pieces, Room};
 use super::rows::Row;
-use super::{Answer, MANY, MINTED_TWICE, alone, in_turn, room, same, whole};
+use super::{Answer, MANY, MINTED_TWICE, alone, left_by, room, same, whole};
 use moveledger::EngineError;
 use std::alloc::Global;
 use std::io::ErrorKind;
@@ -52,21 +52,16 @@ const WRITERS: [(&str, usize, usize, usize); 9] = [
     ("before the last line end", 47, 228, 3),
 ];
 
-// An audit and a show, which tell what a ledger holds.
-const AUDIT_AND_SHOW: [u8; 4] = [4, 0, 3, 0];
-
-// What a ledger holds once it has answered an input is put into a list.
+// The text of the ledger that an input leaves is put into a list.
 fn hold(
     rt: &impl Abort,
     alloc: Global,
     (reader, writer): (&mut Pieces<'_>, &mut Room),
     held: &mut Vec<u8>,
 ) -> Answer {
-    let mut teller = room(alloc);
-    let asked = (&mut whole(&AUDIT_AND_SHOW), &mut teller);
-    let (answer, told) = in_turn(alloc, (reader, writer), asked);
-    assert_eq!(rt; told, Ok(2));
-    mem::swap(held, &mut teller.taken);
+    let (answer, text) = left_by(alloc, reader, writer);
+    assert!(rt; text.is_some(), "memory is there to save a ledger");
+    *held = text.unwrap_or(Vec::new(alloc));
     answer
 }
 
@@ -181,23 +176,53 @@ fn failed_writes_end_it(rt: HostRuntime) -> Result<(), Fail> {
     Ok(())
 }
 
-// A writer takes nothing once, behind these bytes of the report.
-fn takes_nothing(rt: &impl Abort, alloc: Global, bytes: &[u8], taken: &[u8]) {
+// A writer takes nothing once, behind these bytes of the report: then so many bytes of the input are read, and the ledger has this
+// text.
+fn takes_nothing(
+    rt: &impl Abort,
+    alloc: Global,
+    bytes: &[u8],
+    taken: &[u8],
+    (read, text): (usize, &[u8]),
+) {
     let (mut written, mut held) = (Vec::new(alloc), Vec::new(alloc));
     let lists = (&mut written, &mut held);
-    let (answer, _, calls) = come(rt, alloc, bytes, (MANY, taken.len()), None, lists);
-    assert_eq!(rt; (answer, calls), (Err(EngineError::Write), 1));
+    let came = come(rt, alloc, bytes, (MANY, taken.len()), None, lists);
+    assert_eq!(rt; came, (Err(EngineError::Write), read, 1));
     same(rt, &written, taken, "a writer that takes nothing");
+    same(rt, &held, text, "a writer that takes nothing");
 }
 
-// A writer that takes nothing once, at each byte of the report.
+// Where each line of the report ends; how many bytes of the input, and how many records, are read by then.
+const LINES: [(usize, usize, usize); 3] = [(14, 124, 1), (27, 176, 2), (48, 228, 3)];
+
+// A writer that takes nothing once, at each byte of a line of the report.
+fn take_nothing(
+    rt: &impl Abort,
+    alloc: Global,
+    (from, to): (usize, usize),
+    (read, records): (usize, usize),
+) -> Result<(), Fail> {
+    let row = Row::that_shows(MINTED_TWICE)?;
+    let bytes = row.input(alloc)?;
+    let report = row.report(alloc)?;
+    let first = row.first(alloc, records)?;
+    let (mut writer, mut held) = (room(alloc), Vec::new(alloc));
+    let answer = hold(rt, alloc, (&mut whole(&first), &mut writer), &mut held);
+    assert_eq!(rt; answer, Ok(records as u64));
+    for at in from..to {
+        let taken = report.as_bytes().get(..at).ok_or("the report is shorter")?;
+        takes_nothing(rt, alloc, &bytes, taken, (read, &held));
+    }
+    Ok(())
+}
+
 #[test]
 fn writers_that_take_nothing_end_it(rt: HostRuntime) -> Result<(), Fail> {
-    let row = Row::that_shows(MINTED_TWICE)?;
-    let bytes = row.input(rt.alloc())?;
-    let report = row.report(rt.alloc())?;
-    for at in 0..report.len() {
-        takes_nothing(&rt, rt.alloc(), &bytes, &report.as_bytes()[..at]);
+    let mut from = 0;
+    for (to, read, records) in LINES {
+        take_nothing(&rt, rt.alloc(), (from, to), (read, records))?;
+        from = to;
     }
     Ok(())
 }
