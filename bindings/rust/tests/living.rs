@@ -1,4 +1,4 @@
-//! Ledgers in threads, a long life with flat memory, and numbers that go on.
+//! Ledgers in threads, altered records, and numbers that go on.
 
 mod rows;
 
@@ -6,11 +6,6 @@ use moveledger::{prove, record, Address, Error, Form, Ledger, Report};
 use rows::{of_repository, rows};
 use std::fs;
 use std::thread;
-
-/// How often a ledger answers in the test of its memory; `MOVELEDGER_APPLIES` says otherwise.
-const APPLIES: u64 = 20_000;
-/// Fewer don't tell: where a tool runs the program, the tool's own memory grows.
-const TELLING: u64 = 1_000;
 
 /// The module 0x1::M with the coin.
 fn coin() -> Vec<u8> {
@@ -97,33 +92,6 @@ fn a_cut_record_is_answered_and_the_next_call_goes_on() {
     let mut ledger = Ledger::new().expect("there is memory");
     assert_eq!(ledger.apply(&published()[..50]).expect("there is memory").as_str(), "1 refused 1\n");
     assert_eq!(ledger.apply(&published()).expect("there is memory").as_str(), "2 published 1\n");
-}
-
-/// The memory that the process has, in bytes.
-fn resident() -> u64 {
-    let status = fs::read_to_string("/proc/self/statm").expect("the system tells");
-    status.split(' ').nth(1).and_then(|pages| pages.parse::<u64>().ok()).expect("a number") * 4096
-}
-
-// Runs that abort leave nothing behind but their number.
-#[test]
-fn memory_is_flat() {
-    let applies = std::env::var("MOVELEDGER_APPLIES").ok().and_then(|it| it.parse().ok()).unwrap_or(APPLIES);
-    let mut ledger = Ledger::new().expect("there is memory");
-    ledger.apply(&[published(), mint(1)].concat()).expect("there is memory");
-    let (again, mut report) = (mint(1), Report::new());
-    let mut answer = |count| {
-        for _ in 0..count {
-            report.clear();
-            ledger.apply_into(&again, &mut report).expect("there is memory");
-            assert!(report.as_str().ends_with(" aborted exists 0 4\n"));
-        }
-    };
-    answer(applies / 10);
-    let before = resident();
-    answer(applies);
-    let after = resident();
-    assert!(applies < TELLING || after < before + 500_000, "{before} bytes before, and {after} after");
 }
 
 // Bytes that are altered are answered, whatever they are.
