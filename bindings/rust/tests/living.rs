@@ -2,7 +2,7 @@
 
 mod rows;
 
-use moveledger::{prove, record, Address, Error, Form, Ledger, Report};
+use moveledger::{prove, record, Address, Error, Form, Ledger};
 use rows::{of_repository, rows};
 use std::fs;
 use std::thread;
