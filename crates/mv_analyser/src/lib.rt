@@ -15,8 +15,6 @@
 
 mod borrows;
 mod locals;
-#[cfg(test)]
-mod tests;
 
 ghost use Rattle.std.specs.Prelude.{◌≡◌, IfOk, IfErr, OnOk, IsTrue};
 ghost use Rattle.mv_acquires.specs.Acquires.{AcquiresHold};

@@ -2,7 +2,6 @@ pub mod Lists
 pub mod Pieces
 pub mod Counts
 pub mod Tallied
-pub mod Below
 pub mod Taken
 pub mod Growing
 pub mod Noting

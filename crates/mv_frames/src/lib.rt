@@ -18,8 +18,6 @@
 mod counters;
 mod frame;
 mod halt;
-#[cfg(test)]
-mod tests;
 mod words;
 
 pub use counters::{Count, Counters, StructTally};

@@ -7,5 +7,7 @@ mod graphs;
 mod modules;
 mod numbers;
 mod opcodes;
+mod storage;
 mod tokens;
 mod tops;
+mod words;

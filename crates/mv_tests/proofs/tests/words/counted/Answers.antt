@@ -1,6 +1,6 @@
 use Rattle.std.proofs.Common.{◌+◌, ◌-◌, ◌^◌, arith}
-use Rattle.mv_frames.proofs.Below.{below-clear, below-weaker, below-counted}
-use Rattle.mv_frames.proofs.tests.words.counted.Goals as goal
+use Rattle.mv_tests.proofs.Below.{below-clear, below-weaker, below-counted}
+use Rattle.mv_tests.proofs.tests.words.counted.Goals as goal
 
 pub loop-value-init : goal.loop-value-init
 loop-value-init c = below-clear c.args.counters.now c.requires.clear

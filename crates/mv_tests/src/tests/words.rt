@@ -2,7 +2,7 @@
 ghost use Rattle.std.specs.Prelude.{◌<◌, length};
 ghost use Rattle.mv_frames.specs.Counters.{IsClear};
 
-use crate::{Counters, Halt, StructTally, Words};
+use mv_frames::{Counters, Halt, StructTally, Words};
 use mv_move_types::Definition;
 use std::test::Fail;
 

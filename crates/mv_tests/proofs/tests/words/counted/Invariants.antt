@@ -1,6 +1,6 @@
 use Rattle.std.proofs.Common.{◌+◌}
 use Rattle.mv_frames.specs.Counters.{AreBelow}
-use Rattle.mv_frames.proofs.tests.words.counted.Given as goal
+use Rattle.mv_tests.proofs.tests.words.counted.Given as goal
 
 -- each count is at most the number of values so far
 abbrev pub invariant-loop-value : goal.invariant-loop-value

@@ -1,4 +1,0 @@
-// Functions of the storage and of the frames with ample memory, and values from outside.
-
-mod storage;
-mod words;
