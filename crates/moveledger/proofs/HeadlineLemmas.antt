@@ -1,12 +1,22 @@
 -- What the ledger promises of a record, taken apart into the parts of the headline.
-use Rattle.std.specs.Prelude.{ℕ, List, Result, Ok, Err, IfOk}
+use Rattle.std.proofs.Common.{◌≡◌, ◌+◌, [], ◌∷◌, map, refl, subst, arith, true}
+use Rattle.std.proofs.lemmas.List.Elements.{All-nil, All-cons}
+use Rattle.std.proofs.lemmas.List.Kept.{AllPairs-cons}
+use Rattle.std.specs.List.{AllByRecursion, AllZip}
+use Rattle.std.specs.Prelude.{ℕ, List, Result, Ok, Err, IfOk, All}
+use Rattle.mv_move_types.specs.Names.{StructName}
+use Rattle.mv_move_types.specs.declared.tables.Key.{Key}
+use Rattle.mv_machine.specs.State.{Entry, Storage, key_before}
+use Rattle.mv_machine.specs.Count.{count}
 use Rattle.mv_machine.specs.Run.{RunOutcome, Returned, Aborted, Exhausted, Faulted, FunctionCall, run}
-use Rattle.mv_machine.specs.Ledger.{LedgerState, Request, Publish, Run, Show, Audit, BadRun, Bad, modules_of, admitted}
-use Rattle.mv_machine.specs.Lines.{Reply}
+use Rattle.mv_machine.specs.Ledger.{LedgerState, Request, Publish, Run, Show, Audit, BadRun, Bad, modules_of, scarce_structs, admitted}
+use Rattle.mv_machine.specs.Lines.{Reply, Tallied}
 use Rattle.mv_ledger.specs.Answering.{IsReplied}
 use Rattle.mv_ledger.specs.Counting.Headline.{EndsWell, CallEndsWell, RunsWell}
+use Rattle.mv_ledger.specs.Counting.Kept.{AreAbove, IsAscending}
+use Rattle.mv_ledger.specs.Accepted.SoundLedger.{IsSoundLedger}
 use Rattle.mv_ledger.specs.View.{LedgerView, state_of}
-use Rattle.moveledger.specs.Headline.{EndsWithinBudget, IsOfOwnModules, HoldsOfRun, AnswersWhole}
+use Rattle.moveledger.specs.Headline.{EndsWithinBudget, IsOfOwnModules, HoldsOfRun, IsTalliedBy, KeysAscend, IsAccounted, AnswersWhole}
 
 ends_without_fault : (budget : ℕ) (o : RunOutcome) → EndsWell budget o → EndsWithinBudget budget o
 ends_without_fault budget (Returned steps storage events) h = h.0
@@ -36,6 +46,30 @@ run_keeps Keeps from s (Audit format) h = tt
 run_keeps Keeps from s BadRun h = tt
 run_keeps Keeps from s Bad h = tt
 
+-- ---- what is stored
+
+-- each struct of these names has its tally
+each_tallied : (storage : Storage) (names : List StructName) (ts : List Tallied) → map (λ t. t.struct) ts ≡ names → AllByRecursion (λ t. count storage t.struct + t.unpacks ≡ t.packs) ts
+    → AllZip (IsTalliedBy storage) names ts
+each_tallied storage names [] same h = subst (λ (l : List StructName). AllZip (IsTalliedBy storage) l []) same tt
+each_tallied storage names (t ∷ ts) same h =
+    subst (λ (l : List StructName). AllZip (IsTalliedBy storage) l (t ∷ ts)) same ((refl, h.0), each_tallied storage (map (λ t. t.struct) ts) ts refl h.1)
+
+later_above : (key : Key) (es : Storage) → AreAbove key es → All (λ (e : Entry). key_before key e.key ≡ true) es
+later_above key [] h = All-nil _
+later_above key (e ∷ es) h = All-cons _ e es h.0 (later_above key es h.1)
+
+keys_ascend : (es : Storage) → IsAscending es → KeysAscend es
+keys_ascend [] h = λ i j d before within. absurd (omega (arith, within))
+keys_ascend (e ∷ es) h = AllPairs-cons _ e es (later_above e.key es h.0) (keys_ascend es h.1)
+
+-- a sound ledger's is accounted for
+pub is_accounted : (s : LedgerState) → IsSoundLedger s → IsAccounted s
+is_accounted s sound = record {
+  conserved = each_tallied s.storage (scarce_structs (modules_of s)) s.tallies sound.tallied sound.balanced;
+  ascending = keys_ascend s.storage sound.ascending;
+}
+
 pub answers_whole : (kind : ℕ) (payload : List ℕ) (reply : Reply) (old new : LedgerView) → IsReplied kind payload reply old new → AnswersWhole kind payload reply old new
 answers_whole kind payload reply old new h = record {
   request = h.answers.0;
@@ -44,6 +78,6 @@ answers_whole kind payload reply old new h = record {
   exact = h.rightly;
   no_fault = run_keeps EndsWithinBudget ends_without_fault (state_of old) h.answers.0 h.answers.3;
   own_modules = run_keeps IsOfOwnModules ends_by_own_modules (state_of old) h.answers.0 h.answers.3;
-  conserved = h.answers.4;
+  accounted = is_accounted (state_of new) h.answers.4;
   leaves = h.leaves;
 }

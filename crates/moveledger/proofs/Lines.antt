@@ -10,7 +10,7 @@ use Rattle.mv_machine.specs.Ledger.{Publish, Run, Show, Audit, BadRun, Bad}
 use Rattle.mv_ledger.specs.RecordText.{IsShapeless}
 use Rattle.mv_ledger.specs.Answering.{Replies, told, told_ending}
 use Rattle.mv_ledger.specs.View.{LedgerView, state_of}
-use Rattle.mv_ledger.specs.Counting.Headline.{IsBalanced}
+use Rattle.mv_ledger.specs.Accepted.SoundLedger.{IsSoundLedger}
 use Rattle.mv_ledger.specs.declared.Reply.{Reply}
 use Rattle.mv_ledger.specs.declared.Reply.TheVariants.{Published, Refused, Rejected, Ran, Memory}
 use Rattle.moveledger.proofs.HeadlineLemmas.{answers_whole}
@@ -108,6 +108,6 @@ shapeless kind payload one two three four BadRun h = h
 shapeless kind payload one two three four Bad h = h
 
 -- it is refused
-pub other_replied : (kind : ℕ) (payload : List ℕ) (v : LedgerView) → (kind ≢ 1) → (kind ≢ 2) → (kind ≢ 3) → (kind ≢ 4) → IsBalanced (state_of v) → Replies kind payload (Some (ToldRefused 1)) v v
-other_replied kind payload v one two three four balanced =
-    record { answers = (Bad, (two, shapeless kind payload one two three four), (refl, refl), tt, balanced); leaves = refl; rightly = λ is. absurd (one is) }
+pub other_replied : (kind : ℕ) (payload : List ℕ) (v : LedgerView) → (kind ≢ 1) → (kind ≢ 2) → (kind ≢ 3) → (kind ≢ 4) → IsSoundLedger (state_of v) → Replies kind payload (Some (ToldRefused 1)) v v
+other_replied kind payload v one two three four sound =
+    record { answers = (Bad, (two, shapeless kind payload one two three four), (refl, refl), tt, sound); leaves = refl; rightly = λ is. absurd (one is) }

@@ -3,19 +3,21 @@
 --   For every input the ledger's report is the defensive machine's over the records read and the bundles that the report itself
 --   calls published; no run meets a fault; every run returns, aborts or exhausts its steps or frames; and the stored values of
 --   each struct lacking copy and drop number its Packs less its Unpacks in returned runs, each executed by code of the struct's
---   own module.
+--   own module. Each such struct of a published module has its tally, and the stored values stand in the order of their keys.
 --
 -- Each part of the sentence has its name below, from a run up to a whole input. Records.antt says which records bytes are, and
 -- Outcome.antt which prefix of the report stands where something fails. The ledger that the input meets may be an empty one or one
 -- that was loaded, whatever its bytes were: EachLoadIsSound of mv_ledger's SavedLaws.antt says that it is sound.
 -- OneReport.antt says that an input and a ledger allow one text and one state after it, so that what is said to be there is one thing.
-use Rattle.std.specs.Prelude.{◌≡◌, ℕ, ◌+◌, ◌-◌, ◌^◌, ◌≤◌, List, [], ◌∷◌, ◌++◌, length, Option, Some, None, IfOk, ⊤, ◌⊎◌, flat_map}
-use Rattle.std.specs.List.{AllByRecursion}
+use Rattle.std.specs.Prelude.{◌≡◌, ℕ, ◌+◌, ◌-◌, ◌^◌, ◌≤◌, true, List, [], ◌∷◌, ◌++◌, length, Option, Some, None, IfOk, ⊤, ◌⊎◌, flat_map}
+use Rattle.std.specs.List.{AllByRecursion, AllPairs, AllZip}
 use Rattle.std.specs.Io.KnownBytes.{Appends}
+use Rattle.mv_move_types.specs.Names.{StructName}
+use Rattle.mv_machine.specs.State.{Storage, key_before}
 use Rattle.mv_machine.specs.Count.{count}
 use Rattle.mv_machine.specs.Run.{RunOutcome, Returned, Aborted, Exhausted, Faulted, run}
-use Rattle.mv_machine.specs.Ledger.{LedgerState, Request, Run, Answers, modules_of, admitted}
-use Rattle.mv_machine.specs.Lines.{Reply, Refused, reply_lines, numbered}
+use Rattle.mv_machine.specs.Ledger.{LedgerState, Request, Run, Answers, modules_of, scarce_structs, admitted}
+use Rattle.mv_machine.specs.Lines.{Tallied, Reply, Refused, reply_lines, numbered}
 use Rattle.mv_ledger.specs.RecordText.{Asks}
 use Rattle.mv_ledger.specs.Publishing.{Spells}
 use Rattle.mv_ledger.specs.Exact.{IsRightly}
@@ -40,9 +42,22 @@ abbrev pub HoldsOfRun : (ℕ → RunOutcome → Type 0) → LedgerState → Requ
 HoldsOfRun Holds s (Run r) = IfOk (admitted s r) (λ call. Holds r.budget (run (modules_of s) s.storage call r.budget))
 HoldsOfRun Holds s _ = ⊤
 
--- of each struct lacking copy and drop, the stored values, at any depth, number its Packs less its Unpacks in returned runs
+-- a tally is this struct's, and the stored values of the struct, at any depth, number its Packs less its Unpacks in returned runs
+abbrev pub IsTalliedBy : Storage → StructName → Tallied → Type 0
+IsTalliedBy storage struct tally = (tally.struct ≡ struct) × (count storage struct + tally.unpacks ≡ tally.packs)
+
+-- each struct lacking copy and drop, of all published modules, has its tally in the ledger, which counts it so; there are no others
 abbrev pub StoredArePacksLessUnpacks : LedgerState → Type 0
-StoredArePacksLessUnpacks s = AllByRecursion (λ tally. count s.storage tally.struct + tally.unpacks ≡ tally.packs) s.tallies
+StoredArePacksLessUnpacks s = AllZip (IsTalliedBy s.storage) (scarce_structs (modules_of s)) s.tallies
+
+-- the keys of the stored values ascend, so that each stands once, and the lines of a show are in order
+abbrev pub KeysAscend : Storage → Type 0
+KeysAscend storage = AllPairs (λ earlier later. key_before earlier.key later.key ≡ true) storage
+
+-- what is stored is accounted for, and in order
+pub record IsAccounted (s : LedgerState) : Type 0 where
+  pub conserved : StoredArePacksLessUnpacks s
+  pub ascending : KeysAscend s.storage
 
 -- a whole record is answered by this reply, and the ledger goes on from old to new
 pub record AnswersWhole (kind : ℕ) (payload : List ℕ) (reply : Reply) (old new : LedgerView) : Type 0 where
@@ -55,7 +70,7 @@ pub record AnswersWhole (kind : ℕ) (payload : List ℕ) (reply : Reply) (old n
   pub exact : kind ≡ 1 → IsRightly (state_of old) payload reply (state_of new)
   pub no_fault : HoldsOfRun EndsWithinBudget (state_of old) request
   pub own_modules : HoldsOfRun IsOfOwnModules (state_of old) request
-  pub conserved : StoredArePacksLessUnpacks (state_of new)
+  pub accounted : IsAccounted (state_of new)
   -- a refusal and a rejection leave everything as it was, and a run that didn't return all but the number of runs
   pub leaves : Leaves reply old new
 

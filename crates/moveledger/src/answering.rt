@@ -250,10 +250,10 @@ pub fn answer<W: Write>(
         return write_reply(alloc, writer, number, ledger.execute(payload), line);
     }
     if kind == SHOW {
-        return write_report(alloc, writer, number, ledger.show(payload), line);
+        return write_report(alloc, writer, number, ledger.show_lines(payload), line);
     }
     if kind == AUDIT {
-        return write_report(alloc, writer, number, ledger.audit(payload), line);
+        return write_report(alloc, writer, number, ledger.audit_lines(payload), line);
     }
     // For the prover: so the ledger is balanced.
     ledger.is_sound();

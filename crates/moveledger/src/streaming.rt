@@ -1,7 +1,8 @@
 // The engine: records in, lines out.
 ghost use Rattle.std.specs.Prelude.{◌≡◌, ℕ, List, [], IfOk, IfErr, Err};
 ghost use Rattle.moveledger.specs.Records.{Record, AreRecords};
-ghost use Rattle.moveledger.specs.Headline.{Headline};
+ghost use Rattle.mv_ledger.specs.View.{state_of};
+ghost use Rattle.moveledger.specs.Headline.{Headline, IsAccounted};
 ghost use Rattle.moveledger.specs.OneReport.{OneReport};
 ghost use Rattle.moveledger.specs.Outcome.{ReadsAll, Stops, StopsReading, StopsWriting};
 
@@ -64,8 +65,15 @@ pub fn engine<R: Read, W: Write>(
     // A failed write: nothing behind a prefix of the lines of the record that was being answered, and nothing read behind it.
     ensures write { result ≡ Err EngineError.Write → StopsWriting (R.remaining reader.old)
         (R.remaining reader.new) (W.contents writer.old) (W.contents writer.new) ledger.old ledger.new }
+    // Whatever the end: what is stored is accounted for, before as after.
+    ensures began { IsAccounted (state_of ledger.old) }
+    ensures accounted { IsAccounted (state_of ledger.new) }
 {
-    answer_all(reader, writer, ledger, &mut Gathering)
+    // For the prover: the ledger is sound, before as after.
+    ledger.is_sound();
+    let answered = answer_all(reader, writer, ledger, &mut Gathering);
+    ledger.is_sound();
+    answered
 }
 
 /// As `engine`, and does what is wanted after each whole record, before the next is read. Where that fails, it ends with

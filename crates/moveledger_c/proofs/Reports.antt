@@ -11,23 +11,6 @@ use Rattle.moveledger.specs.Reading.{at_kind}
 use Rattle.moveledger_c.specs.Calls.{ended, payload_of, IsProved}
 use Rattle.moveledger_c.specs.Giving.{IsGiven}
 
--- lines
-
--- those of all these lines that are not left stand in the text
-abbrev pub HasEnded : List (List ℕ) → List (List ℕ) → List ℕ → Type 0
-HasEnded all left text = (first : List (List ℕ)) × ((all ≡ first ++ left) × (text ≡ ended first))
-
-pub HasEnded-start : (all : List (List ℕ)) → HasEnded all all []
-HasEnded-start all = ([], (refl, refl))
-
-pub HasEnded-next : (all left rest : List (List ℕ)) (line text more : List ℕ) → HasEnded all left text → left ≡ line ∷ rest → more ≡ (text ++ line) ++ 10 ∷ [] → HasEnded all rest more
-HasEnded-next all left rest line text more h e said =
-    let both : ended (h.0 ++ line ∷ []) ≡ ended h.0 ++ (line ++ 10 ∷ []) = flat_map-append (λ l. l ++ 10 ∷ []) h.0 (line ∷ []) ∙ ap (λ l. ended h.0 ++ l) (append-nil (line ++ 10 ∷ [])) in
-    (h.0 ++ line ∷ [], (h.1.0 ∙ ap (λ l. h.0 ++ l) e ∙ sym (append_assoc h.0 (line ∷ []) rest), said ∙ append_assoc text line (10 ∷ []) ∙ ap (λ l. l ++ (line ++ 10 ∷ [])) h.1.1 ∙ sym both))
-
-pub HasEnded-end : (all left : List (List ℕ)) (text : List ℕ) → HasEnded all left text → left ≡ [] → text ≡ ended all
-HasEnded-end all left text h e = h.1.1 ∙ ap ended (sym (h.1.0 ∙ ap (λ l. h.0 ++ l) e ∙ append-nil h.0))
-
 -- a form that is neither of the two
 
 pub payload_of-none : (form : ℕ) → (form ≢ 0) → (form ≢ 1) → payload_of form ≡ None

@@ -1,8 +1,8 @@
 -- What the calls of C come to, by their status.
-use Rattle.std.specs.Prelude.{◌≡◌, ℕ, zero, suc, ℤ, List, [], ◌∷◌, ◌++◌, Option, Some, None, ◌⊎◌, flat_map}
+use Rattle.std.specs.Prelude.{◌≡◌, ℕ, zero, suc, ℤ, List, [], ◌∷◌, Option, Some, None, ◌⊎◌}
 use Rattle.mv_move_types.specs.declared.refusal.Refusal.TheVariants.{Phase}
 use Rattle.mv_machine.specs.Lines.{Told}
-use Rattle.mv_ledger.specs.Answering.{Replies}
+use Rattle.mv_ledger.specs.Answering.{Replies, ended}
 use Rattle.mv_ledger.specs.Loading.{FailsLoad, IsLoaded}
 use Rattle.mv_ledger.specs.View.{LedgerView, empty_view, state_of}
 use Rattle.moveledger.specs.Checking.{IsAccepted, IsRefusedText}
@@ -38,10 +38,6 @@ abbrev pub payload_of : ℕ → Option (List ℕ)
 payload_of zero = Some []
 payload_of (suc zero) = Some (1 ∷ [])
 payload_of (suc (suc n)) = None
-
--- the lines one after the other, each with a line feed after it
-abbrev pub ended : List (List ℕ) → List ℕ
-ended = flat_map (λ line. line ++ 10 ∷ [])
 
 -- the lines that answer a record of this kind with this payload
 abbrev pub IsReport : ℕ → List ℕ → LedgerView → List ℕ → Type 0

@@ -1,19 +1,18 @@
 // The calls on a ledger.
-ghost use Rattle.std.specs.Prelude.{◌≡◌, ◌⊎◌, ℕ, List, Some, None, MatchOption, IfOk, OnOk, OnErr};
-ghost use Rattle.mv_ledger.specs.Answering.{told_lines};
+ghost use Rattle.std.specs.Prelude.{◌≡◌, ◌⊎◌, ℕ, List, Some, None, Ok, MatchOption, IfOk, OnOk, OnErr, String, string_bytes};
+ghost use Rattle.std.specs.Global.{Global};
 ghost use Rattle.mv_ledger.specs.SavedText.{IsSavedText, Second};
 ghost use Rattle.mv_ledger.specs.View.{state_of};
-ghost use Rattle.mv_machine.specs.Lines.{Told};
 ghost use Rattle.moveledger.specs.Continuing.{GoesOn, StopsAfter};
-ghost use Rattle.moveledger_c.specs.Calls.{IsNew, IsLoadedAs, IsApplied, IsOfHeld, IsReported, ended, payload_of};
+ghost use Rattle.moveledger_c.specs.Calls.{IsNew, IsLoadedAs, IsApplied, IsOfHeld, IsReported, payload_of};
 ghost use Rattle.moveledger_c.specs.Statuses.{done, memory};
 
 use crate::bytes::Bytes;
 use crate::holder::Holder;
 use crate::status::{ARGUMENTS, DONE, LOAD_REFUSED, MEMORY};
-use crate::texts::{give, text_of};
+use crate::texts::give;
 use moveledger::{EngineError, answer_on};
-use mv_ledger::{Ledger, Lines};
+use mv_ledger::Ledger;
 use mv_move_types::Refusal;
 use std::alloc::{AllocError, Global};
 
@@ -162,12 +161,12 @@ fn payload_of(form: u32) -> Option<&'static [u8]>
     None
 }
 
-/// The lines of a report as a text.
-fn lines_of(alloc: Global, lines: Result<Lines<'_>, Refusal>) -> Result<Vec<u8>, AllocError>
-    ensures { IfOk result (λ v. (told : List (List ℕ)) × (told_lines lines.entry ≡ Some (Told told)) × (v.items ≡ ended told)) }
+/// The bytes of a report.
+fn bytes_of(report: Result<String, Refusal>) -> Result<Vec<u8>, AllocError>
+    ensures { IfOk result (λ v. (text : String Global) × ((report.entry ≡ Ok text) × (v.items ≡ string_bytes text))) }
 {
-    match lines {
-        Ok(lines) => text_of(alloc, lines),
+    match report {
+        Ok(text) => Ok(text.into_bytes()),
         Err(_) => Err(AllocError),
     }
 }
@@ -190,7 +189,7 @@ pub extern "C" fn moveledger_show(
     let Some(held) = ledger.take(alloc) else {
         return ARGUMENTS;
     };
-    let status = give(alloc, lines, lines_of(alloc, held.show(payload)));
+    let status = give(alloc, lines, bytes_of(held.show(payload)));
     *ledger = Holder::of(held);
     status
 }
@@ -213,7 +212,7 @@ pub extern "C" fn moveledger_audit(
     let Some(held) = ledger.take(alloc) else {
         return ARGUMENTS;
     };
-    let status = give(alloc, lines, lines_of(alloc, held.audit(payload)));
+    let status = give(alloc, lines, bytes_of(held.audit(payload)));
     *ledger = Holder::of(held);
     status
 }

@@ -3,13 +3,17 @@
 --   Fields      The values of fields, and their text, one after the other.
 --   Structs     The value of a struct, by what its fields are made of.
 --   Names       The texts of structs' names and of values are plain: identifiers are letters, digits and `_`.
---   Objects     A line of JSON as it is put together: the pieces of an object, and one object after the other.
+--   Characters  The lines of a show and of an audit are texts of characters.
+--   Sends       What a report in JSON sends, and which text is written for it.
+--   Objects     That text is the line of JSON, since its texts are plain.
 --   Audits      The counts of an audit, module by module.
 --   Reports     What a show and an audit reply.
 pub mod Digits
 pub mod Fields
 pub mod Structs
 pub mod Names
+pub mod Characters
+pub mod Sends
 pub mod Objects
 pub mod Audits
 pub mod Reports

@@ -1,5 +1,6 @@
 -- What the ledger's replies say, and when a call of the ledger answers a record.
-use Rattle.std.specs.Prelude.{◌≡◌, ℕ, List, Option, Some, None, Result, Ok, Err}
+use Rattle.std.specs.Prelude.{◌≡◌, ℕ, List, [], ◌∷◌, ◌++◌, Option, Some, None, Result, Ok, Err, ⊤, flat_map, string_bytes, String}
+use Rattle.std.specs.Global.{Global}
 use Rattle.mv_move_types.specs.declared.refusal.Refusal.{Refusal}
 use Rattle.mv_move_types.specs.declared.refusal.Refusal.TheVariants.{Phase, Memory as NoMemory}
 use Rattle.mv_machine.specs.declared.Ending.{Ending}
@@ -12,7 +13,8 @@ use Rattle.mv_ledger.specs.RecordText.{Asks}
 use Rattle.mv_ledger.specs.Changes.{Leaves}
 use Rattle.mv_ledger.specs.Exact.{IsRightly}
 use Rattle.mv_ledger.specs.Publishing.{Spells}
-use Rattle.mv_ledger.specs.Counting.Headline.{IsBalanced, RunsWell}
+use Rattle.mv_ledger.specs.Accepted.SoundLedger.{IsSoundLedger}
+use Rattle.mv_ledger.specs.Counting.Headline.{RunsWell}
 use Rattle.mv_ledger.specs.declared.Reply.{Reply}
 use Rattle.mv_ledger.specs.declared.Reply.TheVariants.{Published, Refused, Rejected, Ran, Memory}
 
@@ -36,11 +38,16 @@ told_lines (Ok lines) = Some (ToldLines lines)
 told_lines (Err (Phase phase)) = Some (ToldRefused phase)
 told_lines (Err NoMemory) = None
 
+-- lines one after the other, each with a line end
+abbrev pub ended : List (List ℕ) → List ℕ
+ended = flat_map (λ line. line ++ 10 ∷ [])
+
 -- A record of this kind with this payload may be answered by what was told, and the ledger goes on to new; the run that it asks
--- for, if it is admitted, ends as it should; and what is stored then is what was made and not taken apart.
+-- for, if it is admitted, ends as it should; and the ledger is sound then, so that each struct with neither copy nor drop has its
+-- tally, what is stored is what was made and not taken apart, and the keys ascend.
 abbrev pub AnswersRecord : ℕ → List ℕ → Told → LedgerState → LedgerState → Type 0
 AnswersRecord kind payload reply old new =
-    (request : Request) × Asks kind payload request × Answers Spells old request reply new × RunsWell old request × IsBalanced new
+    (request : Request) × Asks kind payload request × Answers Spells old request reply new × RunsWell old request × IsSoundLedger new
 
 -- The reply answers a record as the machine's ledger may, leaves what it has to leave, and to a publish record it is the
 -- right one.
@@ -53,3 +60,9 @@ pub record IsReplied (kind : ℕ) (payload : List ℕ) (reply : Told) (old new :
 abbrev pub Replies : ℕ → List ℕ → Option Told → LedgerView → LedgerView → Type 0
 Replies kind payload None old new = new ≡ old
 Replies kind payload (Some reply) old new = IsReplied kind payload reply old new
+
+-- The text has the lines that answer a record, each with a line end; or the record is refused. Where memory ran out nothing is said.
+abbrev pub RepliesText : ℕ → List ℕ → Result (String Global) Refusal → LedgerView → Type 0
+RepliesText kind payload (Ok text) held = (lines : List (List ℕ)) × Replies kind payload (Some (ToldLines lines)) held held × (string_bytes text ≡ ended lines)
+RepliesText kind payload (Err (Phase phase)) held = Replies kind payload (Some (ToldRefused phase)) held held
+RepliesText kind payload (Err NoMemory) held = ⊤

@@ -14,6 +14,7 @@ pub mod Counting
 pub mod Accepted
 pub mod Showing
 pub mod Plain
+pub mod Sending
 pub mod Auditing
 pub mod Left
 pub mod Formats

@@ -2,6 +2,7 @@
 use Rattle.std.specs.Prelude.{◌≡◌, ℕ, ◌+◌, List, [], ◌∷◌, ◌++◌, map, length, Option, Some, None, option_map, unwrap_or}
 use Rattle.std.specs.Borrow.{Bor}
 use Rattle.mv_move_types.specs.Limits.{most_nesting}
+use Rattle.mv_move_types.specs.declared.tables.Key.{Key}
 use Rattle.mv_move_types.specs.Names.{StructName}
 use Rattle.mv_move_types.specs.Module.{Module}
 use Rattle.std.specs.Option.{option_map_or}
@@ -33,3 +34,8 @@ key_value_text modules name words =
 -- the lines of a show over these entries, after so many others
 abbrev pub show_from : List Module → List FlatEntry → ℕ → List (List ℕ)
 show_from modules entries n = map (entry_line modules) (storage_of modules entries) ++ end_line (n + length entries) ∷ []
+
+-- a stored value that was read, in front of others
+abbrev pub with_first : Option (Key × Bor (List ℕ)) → List FlatEntry → List FlatEntry
+with_first None entries = entries
+with_first (Some e) entries = record { key = e.0; words = e.1.now } ∷ entries

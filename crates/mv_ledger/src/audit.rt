@@ -98,6 +98,18 @@ impl<'a> Counts<'a> {
         }
     }
 
+    /// The same counts once more.
+    pub fn copied(&self) -> Self
+        ensures { result ≡ self.now }
+    {
+        Counts {
+            store: self.store,
+            tallies: self.tallies,
+            place: self.place,
+            left: self.left,
+        }
+    }
+
     /// The next count; none where all were had.
     pub fn next(&mut self) -> Option<Counted<'a>>
         ensures { MatchOption result ((self.old ≡ []) × (self.new ≡ [])) (λ c. self.old ≡ counted_in c ∷ self.new) }

@@ -1,45 +1,259 @@
-// A show and an audit in one line of JSON. No byte of its texts is one that JSON would escape, so that each is written as it is.
-ghost use Rattle.std.specs.Prelude.{◌≡◌, ◌++◌, length, map, IfOk, OnOk};
+// A show and an audit in one line of JSON. serde_json writes it, and is sent one entry after the other, so that no entry waits for
+// another. No text of them has a byte that JSON would escape.
+ghost use Rattle.std.specs.Prelude.{◌≡◌, ◌++◌, codes, decimal, length, map, IfOk, OnOk};
+ghost use Rattle.serde_json.specs.Data.{string};
+ghost use Rattle.serde_json.specs.Events.{SendsValue, SendsItems};
 ghost use Rattle.mv_linker.specs.Link.{tables_in};
 ghost use Rattle.mv_machine.specs.Flat.{storage_of, value_under};
-ghost use Rattle.mv_machine.specs.Lines.{entry_object, show_json, count_object};
-ghost use Rattle.mv_ledger.specs.Auditing.{counted_in, counts_json, stored_of};
+ghost use Rattle.mv_machine.specs.Lines.{address_text, key_text, struct_text, value_text, show_json};
+ghost use Rattle.mv_ledger.specs.Auditing.{counted_in, counts_json};
+ghost use Rattle.mv_ledger.specs.Plain.{IsPlain};
+ghost use Rattle.mv_ledger.specs.Sending.{entry_data, count_data, items_of};
 ghost use Rattle.mv_ledger.specs.View.{all_of, tallied};
 
 use crate::audit::{Counted, Counts};
 use crate::tallies::Tallies;
-use crate::texts::{definition_of, put_address, put_key, put_labelled, put_name, struct_at};
+use crate::texts::{definition_of, put_address, put_key, put_name, put_number, struct_at};
 use crate::values::put_value;
-use mv_linker::Store;
+use mv_linker::{Store, StructName};
 use mv_move_types::Key;
 use mv_storage::Storage;
+use serde::{Described, Serialize, Serializer};
 use std::alloc::{AllocError, Global};
 
-/// Appends a stored value as an object to a text.
-fn put_entry(text: &mut Vec<u8>, store: &Store, key: Key, words: &[u128]) -> Result<(), AllocError>
-    ensures { OnOk result (text.new.items ≡ text.old.items ++ entry_object (tables_in store.now) (record { key = key; value = value_under (tables_in store.now) key words.now })) }
+/// What is said where an allocation for a text failed.
+const NO_MEMORY: &str = "out of memory";
+
+/// A plain text as characters.
+fn as_str(text: &[u8]) -> &str
+    requires { IsPlain text.now }
+    ensures { result.now ≡ text.now }
 {
-    let name = struct_at(store, key);
-    text.extend_from_slice(b"{\"address\":\"")?;
-    put_address(text, key.address)?;
-    text.extend_from_slice(b"\",\"struct\":\"")?;
-    put_key(text, name.as_ref())?;
-    text.extend_from_slice(b"\",\"value\":\"")?;
-    put_value(text, store, definition_of(key), words)?;
-    text.extend_from_slice(b"\"}")
+    match str::from_utf8(text) {
+        Ok(text) => text,
+        Err(_) => unreachable!(),
+    }
 }
 
-/// Appends a struct's counts as an object to a text.
-fn put_counts(text: &mut Vec<u8>, counted: &Counted<'_>) -> Result<(), AllocError>
-    ensures { OnOk result (text.new.items ≡ text.old.items ++ count_object (stored_of (counted_in counted.now)) (counted_in counted.now)) }
+/// Sends an address, whose text is made in this room.
+fn send_address<S: Serializer>(
+    room: &mut Vec<u8>,
+    address: u128,
+    out: &mut S,
+) -> Result<(), S::Error>
+    ensures { OnOk result (SendsValue (string (address_text address)) (S.written out.old) (S.written out.new)) }
+{
+    room.clear();
+    match put_address(room, address) {
+        Ok(()) => out.str(as_str(room)),
+        Err(_) => Err(out.custom(NO_MEMORY)),
+    }
+}
+
+/// Sends the name of a key's struct.
+fn send_key<S: Serializer>(
+    room: &mut Vec<u8>,
+    store: &Store,
+    key: Key,
+    out: &mut S,
+) -> Result<(), S::Error>
+    ensures { OnOk result (SendsValue (string (key_text (tables_in store.now) key)) (S.written out.old) (S.written out.new)) }
+{
+    // For the prover: what it holds is a store.
+    let _len = store.len();
+    let name = struct_at(store, key);
+    room.clear();
+    match put_key(room, name.as_ref()) {
+        Ok(()) => out.str(as_str(room)),
+        Err(_) => Err(out.custom(NO_MEMORY)),
+    }
+}
+
+/// Sends a stored value.
+fn send_value<S: Serializer>(
+    room: &mut Vec<u8>,
+    store: &Store,
+    key: Key,
+    words: &[u128],
+    out: &mut S,
+) -> Result<(), S::Error>
+    ensures { OnOk result (SendsValue (string (value_text (value_under (tables_in store.now) key words.now))) (S.written out.old) (S.written out.new)) }
+{
+    room.clear();
+    match put_value(room, store, definition_of(key), words) {
+        Ok(()) => out.str(as_str(room)),
+        Err(_) => Err(out.custom(NO_MEMORY)),
+    }
+}
+
+/// Sends a number, in decimal.
+fn send_number<S: Serializer>(room: &mut Vec<u8>, n: u128, out: &mut S) -> Result<(), S::Error>
+    ensures { OnOk result (SendsValue (string (decimal n)) (S.written out.old) (S.written out.new)) }
+{
+    room.clear();
+    match put_number(room, n) {
+        Ok(()) => out.str(as_str(room)),
+        Err(_) => Err(out.custom(NO_MEMORY)),
+    }
+}
+
+/// Sends the name of a struct.
+fn send_name<S: Serializer>(
+    room: &mut Vec<u8>,
+    name: &StructName<'_>,
+    out: &mut S,
+) -> Result<(), S::Error>
+    requires { IsPlain (struct_text name.now) }
+    ensures { OnOk result (SendsValue (string (struct_text name.now)) (S.written out.old) (S.written out.new)) }
+{
+    room.clear();
+    match put_name(room, name) {
+        Ok(()) => out.str(as_str(room)),
+        Err(_) => Err(out.custom(NO_MEMORY)),
+    }
+}
+
+/// Sends a stored value with its key.
+fn send_entry<S: Serializer>(
+    room: &mut Vec<u8>,
+    store: &Store,
+    key: Key,
+    words: &[u128],
+    out: &mut S,
+) -> Result<(), S::Error>
+    ensures { OnOk result (SendsValue (entry_data (tables_in store.now) (record { key = key; value = value_under (tables_in store.now) key words.now })) (S.written out.old) (S.written out.new)) }
+{
+    out.begin_map(Some(3))?;
+    out.key("address")?;
+    send_address(room, key.address, out)?;
+    out.key("struct")?;
+    send_key(room, store, key, out)?;
+    out.key("value")?;
+    send_value(room, store, key, words, out)?;
+    out.end_map()
+}
+
+/// Sends a struct's counts.
+fn send_counts<S: Serializer>(
+    room: &mut Vec<u8>,
+    counted: &Counted<'_>,
+    out: &mut S,
+) -> Result<(), S::Error>
+    requires { IsPlain (struct_text counted.now.name) }
+    ensures { OnOk result (SendsValue (count_data (counted_in counted.now)) (S.written out.old) (S.written out.new)) }
 {
     let stored = counted.packs.saturating_sub(counted.unpacks);
-    put_labelled(text, b"{\"packed\":\"", counted.packs)?;
-    put_labelled(text, b"\",\"stored\":\"", stored)?;
-    text.extend_from_slice(b"\",\"struct\":\"")?;
-    put_name(text, &counted.name)?;
-    put_labelled(text, b"\",\"unpacked\":\"", counted.unpacks)?;
-    text.extend_from_slice(b"\"}")
+    out.begin_map(Some(4))?;
+    out.key("packed")?;
+    send_number(room, counted.packs, out)?;
+    out.key("stored")?;
+    send_number(room, stored, out)?;
+    out.key("struct")?;
+    send_name(room, &counted.name, out)?;
+    out.key("unpacked")?;
+    send_number(room, counted.unpacks, out)?;
+    out.end_map()
+}
+
+/// Sends all that is stored, and the end of the list.
+fn send_storage<S: Serializer>(
+    room: &mut Vec<u8>,
+    store: &Store,
+    storage: &Storage,
+    out: &mut S,
+) -> Result<(), S::Error>
+    ensures { OnOk result (SendsItems (items_of (map (entry_data (tables_in store.now)) (storage_of (tables_in store.now) storage.now))) (S.written out.old) (S.written out.new)) }
+{
+    let mut entries = storage.iter();
+    'each: while let Some((key, words)) = entries.next() {
+        send_entry(room, store, key, words, out)?;
+    }
+    out.end_seq()
+}
+
+/// Sends the counts of all tallies, and the end of the list.
+fn send_tallies<S: Serializer>(
+    room: &mut Vec<u8>,
+    store: &Store,
+    tallies: &Tallies,
+    out: &mut S,
+) -> Result<(), S::Error>
+    requires { length tallies.now ≡ length store.now }
+    ensures { OnOk result (SendsItems (items_of (map count_data (map (tallied (tables_in store.now)) (all_of tallies.now)))) (S.written out.old) (S.written out.new)) }
+{
+    // For the prover: what it holds is a store.
+    let _len = store.len();
+    let mut counts = Counts::new(store, tallies);
+    'each: while let Some(counted) = counts.next() {
+        send_counts(room, &counted, out)?;
+    }
+    out.end_seq()
+}
+
+/// The show of a storage.
+#[derive(Clone, Copy)]
+struct StorageShow<'a> {
+    alloc: Global,
+    store: &'a Store,
+    storage: &'a Storage,
+}
+
+impl<'a> Described for StorageShow<'a> {
+    ghost use Rattle.std.specs.Prelude.{codes, map};
+    ghost use Rattle.mv_linker.specs.Link.{tables_in};
+    ghost use Rattle.mv_machine.specs.Flat.{storage_of};
+    ghost use Rattle.mv_ledger.specs.Sending.{entry_data, SendsReport};
+
+    ghost writes = { λ s. SendsReport (codes "show") (map (entry_data (tables_in s.store.now)) (storage_of (tables_in s.store.now) s.storage.now)) };
+}
+
+impl<'a> Serialize for StorageShow<'a> {
+    fn serialize<S: Serializer>(&self, out: &mut S) -> Result<(), S::Error> {
+        let mut room = Vec::new(self.alloc);
+        out.begin_map(Some(1))?;
+        out.key("show")?;
+        out.begin_seq(None)?;
+        send_storage(&mut room, self.store, self.storage, out)?;
+        out.end_map()
+    }
+}
+
+/// The audit of tallies, which stand module by module as the store's modules do.
+#[derive(Clone, Copy)]
+struct TallyAudit<'a> {
+    alloc: Global,
+    store: &'a Store,
+    tallies: &'a Tallies,
+    ghost aligned: { length tallies.now ≡ length store.now },
+}
+
+impl<'a> Described for TallyAudit<'a> {
+    ghost use Rattle.std.specs.Prelude.{codes, map};
+    ghost use Rattle.mv_linker.specs.Link.{tables_in};
+    ghost use Rattle.mv_ledger.specs.Sending.{count_data, SendsReport};
+    ghost use Rattle.mv_ledger.specs.View.{all_of, tallied};
+
+    ghost writes = { λ a. SendsReport (codes "audit") (map count_data (map (tallied (tables_in a.store.now)) (all_of a.tallies.now))) };
+}
+
+impl<'a> Serialize for TallyAudit<'a> {
+    fn serialize<S: Serializer>(&self, out: &mut S) -> Result<(), S::Error> {
+        let mut room = Vec::new(self.alloc);
+        out.begin_map(Some(1))?;
+        out.key("audit")?;
+        out.begin_seq(None)?;
+        send_tallies(&mut room, self.store, self.tallies, out)?;
+        out.end_map()
+    }
+}
+
+/// JSON in a line of the report, behind the word with which that begins.
+fn in_line(mut json: Vec<u8>) -> Result<Vec<u8>, AllocError>
+    ensures { IfOk result (λ line. line.items ≡ codes "json " ++ json.items) }
+{
+    json.extend_from_slice(b"json ")?;
+    json.rotate_right(5);
+    Ok(json)
 }
 
 /// A show of all that is stored.
@@ -50,17 +264,17 @@ pub fn json_of_storage(
 ) -> Result<Vec<u8>, AllocError>
     ensures { IfOk result (λ text. text.items ≡ show_json (tables_in store.now) (storage_of (tables_in store.now) storage.now)) }
 {
-    let mut text = Vec::new(alloc);
-    text.extend_from_slice(b"json {\"show\":[")?;
-    let mut entries = storage.iter();
-    let mut separator: &[u8] = b"";
-    'each: while let Some((key, words)) = entries.next() {
-        text.extend_from_slice(separator)?;
-        put_entry(&mut text, store, key, words)?;
-        separator = b",";
+    // For the prover: what it holds is a store.
+    let _len = store.len();
+    let show = StorageShow {
+        alloc,
+        store,
+        storage,
+    };
+    match serde_json::to_vec(alloc, &show) {
+        Ok(json) => in_line(json),
+        Err(_) => Err(AllocError),
     }
-    text.extend_from_slice(b"]}")?;
-    Ok(text)
 }
 
 /// An audit by these tallies, which stand module by module as the store's modules do.
@@ -72,15 +286,15 @@ pub fn json_of_tallies(
     requires { length tallies.now ≡ length store.now }
     ensures { IfOk result (λ text. text.items ≡ counts_json (map (tallied (tables_in store.now)) (all_of tallies.now))) }
 {
-    let mut text = Vec::new(alloc);
-    text.extend_from_slice(b"json {\"audit\":[")?;
-    let mut counts = Counts::new(store, tallies);
-    let mut separator: &[u8] = b"";
-    'each: while let Some(counted) = counts.next() {
-        text.extend_from_slice(separator)?;
-        put_counts(&mut text, &counted)?;
-        separator = b",";
+    // For the prover: what it holds is a store.
+    let _len = store.len();
+    let audit = TallyAudit {
+        alloc,
+        store,
+        tallies,
+    };
+    match serde_json::to_vec(alloc, &audit) {
+        Ok(json) => in_line(json),
+        Err(_) => Err(AllocError),
     }
-    text.extend_from_slice(b"]}")?;
-    Ok(text)
 }

@@ -32,7 +32,7 @@ mod values;
 
 ghost use Rattle.std.specs.Prelude.{◌≡◌, is_some, IfOk};
 ghost use Rattle.mv_ledger.specs.View.{empty_view, state_of};
-ghost use Rattle.mv_ledger.specs.Answering.{told, told_lines, Replies};
+ghost use Rattle.mv_ledger.specs.Answering.{told, told_lines, Replies, RepliesText};
 ghost use Rattle.mv_ledger.specs.Accepted.SoundLedger.{IsSoundLedger};
 ghost use Rattle.mv_ledger.specs.SavedLaws.{IsSavable};
 ghost use Rattle.mv_ledger.specs.SavedText.{IsSavedText, Second};
@@ -187,8 +187,32 @@ impl Ledger {
         }
     }
 
-    /// Answers a show record with this payload: all that is stored, by ascending key.
-    pub fn show(&self, payload: &[u8]) -> Result<Lines<'_>, Refusal>
+    /// Answers a show record with this payload: all that is stored, by ascending key. The text has a line for each, or all in one
+    /// line of JSON, each with a line end and without the record's number.
+    ///
+    /// # Errors
+    /// `Phase(1)`, where the payload asks for no format; `Memory`, where an allocation failed.
+    pub fn show(&self, payload: &[u8]) -> Result<String, Refusal>
+        ensures { RepliesText 3 payload.now result self.now }
+    {
+        let lines = self.show_lines(payload)?;
+        Ok(lines.into_text()?)
+    }
+
+    /// Answers an audit record with this payload: the counts of each struct with neither copy nor drop, in a text as that of
+    /// `show`.
+    ///
+    /// # Errors
+    /// As with `show`.
+    pub fn audit(&self, payload: &[u8]) -> Result<String, Refusal>
+        ensures { RepliesText 4 payload.now result self.now }
+    {
+        let lines = self.audit_lines(payload)?;
+        Ok(lines.into_text()?)
+    }
+
+    /// As `show`, but line by line: each is made when it is asked for.
+    pub fn show_lines(&self, payload: &[u8]) -> Result<Lines<'_>, Refusal>
         ensures { Replies 3 payload.now (told_lines result) self.now self.now }
     {
         let alloc = self.alloc;
@@ -204,9 +228,9 @@ impl Ledger {
         }
     }
 
-    /// Answers an audit record with this payload: the counts of each struct with neither copy nor drop. What is stored of it
-    /// is known from its tally, without a walk.
-    pub fn audit(&self, payload: &[u8]) -> Result<Lines<'_>, Refusal>
+    /// As `audit`, but line by line: each is made when it is asked for. What is stored of a struct is known from its tally,
+    /// without a walk.
+    pub fn audit_lines(&self, payload: &[u8]) -> Result<Lines<'_>, Refusal>
         ensures { Replies 4 payload.now (told_lines result) self.now self.now }
     {
         let alloc = self.alloc;

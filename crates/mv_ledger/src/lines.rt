@@ -1,10 +1,11 @@
 // The lines of a show and of an audit.
-ghost use Rattle.std.specs.Prelude.{◌≡◌, ◌∷◌, [], ◌+◌, ◌<◌, ◌^◌, length, map, IfOk, OnErr, MatchOption};
+ghost use Rattle.std.specs.Prelude.{◌≡◌, ◌∷◌, [], ◌+◌, ◌<◌, ◌^◌, drop, length, map, IfOk, IsUtf8, OnErr, MatchOption, string_bytes};
 ghost use Rattle.mv_linker.specs.Link.{tables_in};
 ghost use Rattle.mv_machine.specs.Flat.{storage_of, value_under};
 ghost use Rattle.mv_machine.specs.Lines.{end_line, entry_line, show_lines};
 ghost use Rattle.mv_ledger.specs.Showing.{show_from};
 ghost use Rattle.mv_ledger.specs.Auditing.{audit_from};
+ghost use Rattle.mv_ledger.specs.Answering.{ended};
 ghost use Rattle.mv_ledger.specs.View.{all_of, tallied};
 
 use crate::audit::{Counts, count_text};
@@ -45,41 +46,92 @@ fn end_text(alloc: Global, count: u64) -> Result<Vec<u8>, AllocError>
     Ok(text)
 }
 
+// The stored values that are not shown yet, of which the next one is at hand. Its model is the list of them.
+#[derive(Drop)]
+struct Ahead<'a> {
+    first: Option<(Key, &'a [u128])>,
+    rest: Entries<'a>,
+}
+
+impl<'a> Model for Ahead<'a> {
+    ghost use Rattle.std.specs.Prelude.{◌≡◌, List, [], None};
+    ghost use Rattle.mv_machine.specs.Flat.{FlatEntry};
+    ghost use Rattle.mv_ledger.specs.Showing.{with_first};
+
+    ghost Value = { List FlatEntry };
+
+    ghost view = { λ a. with_first a.first a.rest };
+
+    ghost invariant = { λ a. a.first ≡ None → a.rest ≡ [] };
+}
+
+impl<'a> Ahead<'a> {
+    fn new(mut entries: Entries<'a>) -> Self
+        ensures { result ≡ entries.entry }
+    {
+        let first = entries.next();
+        Ahead {
+            first,
+            rest: entries,
+        }
+    }
+
+    // The next one, which stays.
+    fn first(&self) -> Option<(Key, &'a [u128])>
+        ensures { MatchOption result (self.now ≡ []) (λ e. self.now ≡ record { key = e.0; words = e.1.now } ∷ drop 1 self.now) }
+    {
+        self.first
+    }
+
+    // Leaves the next one out.
+    fn skip(&mut self)
+        ensures { self.new ≡ drop 1 self.old }
+    {
+        self.first = self.rest.next();
+    }
+}
+
 // The stored values that are not shown yet, and the number of those that are.
 #[derive(Drop)]
 struct Stored<'a> {
     store: &'a Store,
-    entries: Entries<'a>,
+    entries: Ahead<'a>,
     told: u64,
     ghost few: { told + length entries < 2 ^ 63 },
 }
 
 impl<'a> Stored<'a> {
-    ghost use Rattle.mv_ledger.specs.Left.{lines_left};
+    ghost use Rattle.mv_ledger.specs.Left.{Tells};
 
-    // The next line, and what is left after it.
-    fn next(self, alloc: Global) -> Result<(Vec<u8>, Left<'a>), AllocError>
-        ensures { IfOk result (λ r. show_from (tables_in self.entry.store.now) self.entry.entries self.entry.told ≡ r.0.items ∷ lines_left r.1) }
+    // The next line, and what is left after it; what was left, where an allocation failed.
+    fn next(self, alloc: Global) -> Result<(Vec<u8>, Left<'a>), Left<'a>>
+        ensures { Tells (show_from (tables_in self.entry.store.now) self.entry.entries self.entry.told) result }
     {
-        let Stored {
-            store,
-            mut entries,
-            told,
-        } = self;
-        match entries.next() {
-            Some((key, words)) => {
-                let line = entry_text(alloc, store, key, words)?;
-                let told = told + 1;
-                Ok((
-                    line,
-                    Left::Stored(Stored {
+        match self.entries.first() {
+            Some((key, words)) => match entry_text(alloc, self.store, key, words) {
+                Ok(line) => {
+                    let Stored {
                         store,
-                        entries,
+                        mut entries,
                         told,
-                    }),
-                ))
-            }
-            None => Ok((end_text(alloc, told)?, Left::Nothing)),
+                    } = self;
+                    entries.skip();
+                    let told = told + 1;
+                    Ok((
+                        line,
+                        Left::Stored(Stored {
+                            store,
+                            entries,
+                            told,
+                        }),
+                    ))
+                }
+                Err(_) => Err(Left::Stored(self)),
+            },
+            None => match end_text(alloc, self.told) {
+                Ok(line) => Ok((line, Left::Nothing)),
+                Err(_) => Err(Left::Stored(self)),
+            },
         }
     }
 }
@@ -93,20 +145,25 @@ struct Counting<'a> {
 }
 
 impl<'a> Counting<'a> {
-    ghost use Rattle.mv_ledger.specs.Left.{lines_left};
+    ghost use Rattle.mv_ledger.specs.Left.{Tells};
 
-    // The next line, and what is left after it.
-    fn next(self, alloc: Global) -> Result<(Vec<u8>, Left<'a>), AllocError>
-        ensures { IfOk result (λ r. audit_from self.entry.counts self.entry.told ≡ r.0.items ∷ lines_left r.1) }
+    // The next line, and what is left after it; what was left, where an allocation failed.
+    fn next(self, alloc: Global) -> Result<(Vec<u8>, Left<'a>), Left<'a>>
+        ensures { Tells (audit_from self.entry.counts self.entry.told) result }
     {
-        let Counting { mut counts, told } = self;
+        let mut counts = self.counts.copied();
         match counts.next() {
-            Some(counted) => {
-                let line = count_text(alloc, &counted)?;
-                let told = told + 1;
-                Ok((line, Left::Counting(Counting { counts, told })))
-            }
-            None => Ok((end_text(alloc, told)?, Left::Nothing)),
+            Some(counted) => match count_text(alloc, &counted) {
+                Ok(line) => {
+                    let told = self.told + 1;
+                    Ok((line, Left::Counting(Counting { counts, told })))
+                }
+                Err(_) => Err(Left::Counting(self)),
+            },
+            None => match end_text(alloc, self.told) {
+                Ok(line) => Ok((line, Left::Nothing)),
+                Err(_) => Err(Left::Counting(self)),
+            },
         }
     }
 }
@@ -118,6 +175,26 @@ enum Left<'a> {
     Counting(Counting<'a>),
     One(Vec<u8>),
     Nothing,
+}
+
+impl<'a> Left<'a> {
+    ghost use Rattle.mv_ledger.specs.Left.{lines_left, TellsAny};
+
+    // The next line, if there is one, and what is left after it; what was left, where an allocation failed.
+    fn next(self, alloc: Global) -> Result<(Option<Vec<u8>>, Left<'a>), Left<'a>>
+        ensures { TellsAny (lines_left self.entry) result }
+    {
+        let told = match self {
+            Left::Stored(stored) => stored.next(alloc),
+            Left::Counting(counting) => counting.next(alloc),
+            Left::One(text) => Ok((text, Left::Nothing)),
+            Left::Nothing => return Ok((None, Left::Nothing)),
+        };
+        match told {
+            Ok((line, left)) => Ok((Some(line), left)),
+            Err(left) => Err(left),
+        }
+    }
 }
 
 /// The lines that a show or an audit has yet to tell, without their number and line end. Each is made when it is asked for.
@@ -145,7 +222,7 @@ impl<'a> Lines<'a> {
             alloc,
             left: Left::Stored(Stored {
                 store,
-                entries: storage.iter(),
+                entries: Ahead::new(storage.iter()),
                 told: 0,
             }),
         }
@@ -176,24 +253,40 @@ impl<'a> Lines<'a> {
         }
     }
 
-    /// The next line; none where all were told. After an error no line is left.
+    /// The next line; none where all were told. Where an allocation failed, the same lines are left as before.
     pub fn next(&mut self) -> Result<Option<Vec<u8>>, AllocError>
         ensures line { IfOk result (λ line. MatchOption line ((self.old ≡ []) × (self.new ≡ [])) (λ text. self.old ≡ text.items ∷ self.new)) }
-        ensures ended { OnErr result (self.new ≡ []) }
+        ensures kept { OnErr result (self.new ≡ self.old) }
     {
-        match mem::replace(&mut self.left, Left::Nothing) {
-            Left::Nothing => Ok(None),
-            Left::One(text) => Ok(Some(text)),
-            Left::Stored(stored) => {
-                let (line, left) = stored.next(self.alloc)?;
+        match mem::replace(&mut self.left, Left::Nothing).next(self.alloc) {
+            Ok((line, left)) => {
                 self.left = left;
-                Ok(Some(line))
+                Ok(line)
             }
-            Left::Counting(counting) => {
-                let (line, left) = counting.next(self.alloc)?;
+            Err(left) => {
                 self.left = left;
-                Ok(Some(line))
+                Err(AllocError)
             }
+        }
+    }
+
+    /// All lines as one text, each with its end. The text is made in the memory of the first line.
+    pub fn into_text(mut self) -> Result<String, AllocError>
+        requires { IsUtf8 (ended self) }
+        ensures { IfOk result (λ text. string_bytes text ≡ ended self.entry) }
+    {
+        let mut text = match self.next()? {
+            Some(line) => line,
+            None => return Ok(String::new(self.alloc)),
+        };
+        text.push(b'\n')?;
+        'each: while let Some(line) = self.next()? {
+            text.extend_from_slice(&line)?;
+            text.push(b'\n')?;
+        }
+        match String::from_utf8(text) {
+            Ok(text) => Ok(text),
+            Err(_) => unreachable!(),
         }
     }
 }

@@ -30,7 +30,7 @@ asked_fits _ _ _ _ = tt
 -- a record that is answered over a sound ledger, and leaves one, is answered well
 pub answers_record : (kind : ℕ) (payload : List ℕ) (request : Request) (reply : Reply) (old new : LedgerState) → Asks kind payload request → Answers Spells old request reply new → IsSoundLedger new
     → AnswersRecord kind payload reply old new
-answers_record kind payload request reply old new asks answers sound = (request, asks, answers, answered-well Spells old new request reply answers, sound.balanced)
+answers_record kind payload request reply old new asks answers sound = (request, asks, answers, answered-well Spells old new request reply answers, sound)
 
 pub records_well : IsReadByText → EachRecordIsWell
 records_well reads kind payload old new request reply sound asks answers vetted =

@@ -3,7 +3,8 @@ use Rattle.mv_ledger.proofs.Common.{[], ◌%◌, ◌++◌, ◌/◌, ◌<◌, ◌
 use Rattle.mv_ledger.proofs.Common.{and_from, cond_both, nat_tests, list_all-append, same_Some, first_so, second_so, byte_at, bytes_high_first, list_all, ◌&&◌, ◌==◌, ◌||◌, nat_le, nat_lt}
 use Rattle.mv_ledger.proofs.Common.{slice_get, Module, module_name, name_at, name_of_struct, struct_name, ModuleName, StructName, PublishedModule, LeafKind, Address, Boolean, Number, Signer}
 use Rattle.mv_ledger.proofs.Common.{HasText, on_bind, identifier_fits, is_letter, is_name_part, hex_digit, leaf_text, rest_text, value_text, Leaf, More, NoMore, Struct, Value, Values, all_at}
-use Rattle.mv_ledger.proofs.Common.{IsPublishable, IsStore, tables_in, IsPlain, is_plain}
+use Rattle.mv_ledger.proofs.Common.{IsPublishable, IsStore, tables_in, IsPlain, is_plain, All, All-head, All-tail, AllByRecursion, Key, None, Option, StructDefinition, Tallied, Tally}
+use Rattle.mv_ledger.proofs.Common.{cond, cons_option, filter_map, is_scarce_struct, key_text, map, nameless, option_map_or, scarce_name, scarce_structs, tallied, unwrap_or}
 use Rattle.std.specs.Fmt.{digits, digits_onto, digit_glyph}
 use Rattle.mv_machine.specs.Lines.{address_text, struct_text}
 use Rattle.mv_linker.proofs.LinkedCode.Linkable.{at-all}
@@ -134,3 +135,51 @@ mutual
   plain-rest : (vs : Values) → IsPlain (rest_text vs)
   plain-rest NoMore = refl
   plain-rest (More v vs) = plain-append (codes "," ++ value_text v) (rest_text vs) (plain-append (codes ",") (value_text v) refl (plain-value v)) (plain-rest vs)
+
+-- ---- names in reports
+
+-- a struct's text is plain
+abbrev pub IsPlainStruct : StructName → Type 0
+IsPlainStruct name = IsPlain (struct_text name)
+
+-- the struct of a key
+plain-option : (o : Option StructName) → ((name : StructName) → o ≡ Some name → IsPlainStruct name) → IsPlain (option_map_or struct_text o [])
+plain-option None each = refl
+plain-option (Some name) each = each name refl
+
+pub plain-key : (published : List PublishedModule) → IsStore published → (key : Key) → IsPlain (key_text (tables_in published) key)
+plain-key published store key = plain-option (name_at (tables_in published) key.place key.index) (plain-named published store key.place key.index)
+
+-- the struct of a tally
+plain-default : (o : Option StructName) → ((name : StructName) → o ≡ Some name → IsPlainStruct name) → IsPlainStruct (unwrap_or o nameless)
+plain-default None each = refl
+plain-default (Some name) each = each name refl
+
+pub plain-tallied : (published : List PublishedModule) → IsStore published → (ts : List Tally) → AllByRecursion (λ (t : Tallied). IsPlainStruct t.struct) (map (tallied (tables_in published)) ts)
+plain-tallied published store [] = tt
+plain-tallied published store (t ∷ ts) = (plain-default (name_at (tables_in published) t.place t.index) (plain-named published store t.place t.index), plain-tallied published store ts)
+
+-- the structs with neither copy nor drop
+pub all-append : {A : Type 0} (P : A → Type 0) (xs ys : List A) → AllByRecursion P xs → AllByRecursion P ys → AllByRecursion P (xs ++ ys)
+all-append P [] ys p q = q
+all-append P (x ∷ xs) ys p q = (p.0, all-append P xs ys p.1 q)
+
+all-option : {A : Type 0} (P : A → Type 0) (o : Option A) (xs : List A) → ((x : A) → o ≡ Some x → P x) → AllByRecursion P xs → AllByRecursion P (cons_option o xs)
+all-option P None xs each all = all
+all-option P (Some x) xs each all = (each x refl, all)
+
+if_so : {A : Type 0} (b : Bool) (o : Option A) (x : A) → cond b o None ≡ Some x → o ≡ Some x
+if_so true o x e = e
+if_so false o x e = cc
+
+scarce_in : (m : Module) → HasText m → (ds : List StructDefinition) → AllByRecursion IsPlainStruct (filter_map (scarce_name m) ds)
+scarce_in m text [] = tt
+scarce_in m text (d ∷ ds) =
+    all-option IsPlainStruct (scarce_name m d) (filter_map (scarce_name m) ds)
+    (λ name is. plain-struct name (struct m text d.handle name (if_so (is_scarce_struct m d) (name_of_struct m d) name is))) (scarce_in m text ds)
+
+pub plain-scarce : (published : List PublishedModule) → All IsPublishable published → AllByRecursion IsPlainStruct (scarce_structs (tables_in published))
+plain-scarce [] passed = tt
+plain-scarce (p ∷ ps) passed =
+    all-append IsPlainStruct (filter_map (scarce_name p.tables) p.tables.structs) (scarce_structs (tables_in ps)) (scarce_in p.tables (All-head IsPublishable p ps passed).spelled p.tables.structs)
+    (plain-scarce ps (All-tail IsPublishable p ps passed))

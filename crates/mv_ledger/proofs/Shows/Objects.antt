@@ -1,87 +1,94 @@
--- A line of JSON as it is put together: the pieces of an object, and one object after the other.
-use Rattle.mv_ledger.proofs.Common.{[], ◌++◌, ◌∙◌, ◌∷◌, ◌≡◌, List, ap, append-nil, append_assoc, codes, decimal, refl, sym, ℕ, Tallied, member, object, with_commas, count_object}
-use Rattle.mv_machine.specs.Lines.{struct_text}
+-- The compact text of a report is the line of JSON, since its texts are plain.
+use Rattle.mv_ledger.proofs.Common.{[], ◌++◌, ◌∙◌, ◌∷◌, ◌≡◌, AllByRecursion, IsPlain, List, ap, ap₂, append-nil, append_assoc, arith, codes, false, first_so, is_plain, list_all, map, member, nat_tests, object}
+use Rattle.mv_ledger.proofs.Common.{refl, second_so, sym, true, with_commas, ℕ}
+use Rattle.json.specs.Print.{escape, escape_byte, quoted}
+use Rattle.serde_json.specs.Data as values
+use Rattle.serde_json.specs.Data.{Data}
+use Rattle.serde_json.specs.Written.{compact_text, items_have_float, items_text, members_have_float, members_text}
+use Rattle.mv_ledger.specs.Sending.{items_of, members_of}
 
--- ---- an object
+-- ---- texts
 
--- the pieces of a stored value, and of its object
-entry_pieces : (t p address q struct r value e : List ℕ) → ((((((t ++ p) ++ address) ++ q) ++ struct) ++ r) ++ value) ++ e ≡ t ++ (p ++ (address ++ (q ++ (struct ++ (r ++ (value ++ e))))))
-entry_pieces t p address q struct r value e = simp append_assoc
+byte_stays : (b : ℕ) → is_plain b ≡ true → escape_byte b ≡ b ∷ []
+unfolding escape_byte
+byte_stays b plain = grind (arith, nat_tests)
 
-entry_shape : (o k1 k2 k3 q c e address struct value : List ℕ)
-    → (o ++ ((((k1 ++ address) ++ q) ++ c) ++ ((((k2 ++ struct) ++ q) ++ c) ++ ((k3 ++ value) ++ q)))) ++ e
-    ≡ (o ++ k1) ++ (address ++ ((q ++ (c ++ k2)) ++ (struct ++ ((q ++ (c ++ k3)) ++ (value ++ (q ++ e))))))
-entry_shape o k1 k2 k3 q c e address struct value = simp append_assoc
+pub escape_stays : (text : List ℕ) → IsPlain text → escape text ≡ text
+escape_stays [] plain = refl
+escape_stays (b ∷ bs) plain =
+    ap (λ (l : List ℕ). l ++ escape bs) (byte_stays b (first_so (is_plain b) (list_all is_plain bs) plain)) ∙ ap (λ (l : List ℕ). b ∷ l) (escape_stays bs (second_so (is_plain b) (list_all is_plain bs) plain))
 
-entry_joined : (t address struct value : List ℕ)
-    → ((((((t ++ codes "{\"address\":\"") ++ address) ++ codes "\",\"struct\":\"") ++ struct) ++ codes "\",\"value\":\"") ++ value) ++ codes "\"}"
-    ≡ t ++ object (member (codes "address") address ∷ member (codes "struct") struct ∷ member (codes "value") value ∷ [])
-entry_joined t address struct value =
-    entry_pieces t (codes "{\"address\":\"") address (codes "\",\"struct\":\"") struct (codes "\",\"value\":\"") value (codes "\"}")
-    ∙ ap (λ l. t ++ l)
-    (sym (entry_shape (codes "{") (codes "\"address\":\"") (codes "\"struct\":\"") (codes "\"value\":\"") (codes "\"") (codes ",") (codes "}") address struct value))
+-- ---- one after the other
 
-pub entry_put : (t0 t1 t2 t3 t4 t5 t6 t7 address struct value : List ℕ) → t1 ≡ t0 ++ codes "{\"address\":\"" → t2 ≡ t1 ++ address → t3 ≡ t2 ++ codes "\",\"struct\":\"" → t4 ≡ t3 ++ struct
-    → t5 ≡ t4 ++ codes "\",\"value\":\"" → t6 ≡ t5 ++ value → t7 ≡ t6 ++ codes "\"}"
-    → t7 ≡ t0 ++ object (member (codes "address") address ∷ member (codes "struct") struct ∷ member (codes "value") value ∷ [])
-entry_put t0 t1 t2 t3 t4 t5 t6 t7 address struct value p1 p2 p3 p4 p5 p6 p7 = rw (p7, p6, p5, p4, p3, p2, p1) (entry_joined t0 address struct value)
+-- texts, each after a comma
+abbrev pub each_after : List (List ℕ) → List ℕ
+each_after [] = []
+each_after (t ∷ ts) = 44 ∷ (t ++ each_after ts)
 
--- those of a struct's counts
-counts_pieces : (t p packed q stored r struct u unpacked e : List ℕ) → (((((t ++ (p ++ packed)) ++ (q ++ stored)) ++ r) ++ struct) ++ (u ++ unpacked)) ++ e
-    ≡ t ++ (p ++ (packed ++ (q ++ (stored ++ (r ++ (struct ++ (u ++ (unpacked ++ e))))))))
-counts_pieces t p packed q stored r struct u unpacked e = simp append_assoc
+commas : (t : List ℕ) (ts : List (List ℕ)) → with_commas (t ∷ ts) ≡ t ++ each_after ts
+commas t [] = sym (append-nil t)
+commas t (u ∷ ts) = append_assoc t (codes ",") (with_commas (u ∷ ts)) ∙ ap (λ (l : List ℕ). t ++ (44 ∷ l)) (commas u ts)
 
-counts_shape : (o k1 k2 k3 k4 q c e packed stored struct unpacked : List ℕ)
-    → (o ++ ((((k1 ++ packed) ++ q) ++ c) ++ ((((k2 ++ stored) ++ q) ++ c) ++ ((((k3 ++ struct) ++ q) ++ c) ++ ((k4 ++ unpacked) ++ q))))) ++ e
-    ≡ (o ++ k1) ++ (packed ++ ((q ++ (c ++ k2)) ++ (stored ++ ((q ++ (c ++ k3)) ++ (struct ++ ((q ++ (c ++ k4)) ++ (unpacked ++ (q ++ e))))))))
-counts_shape o k1 k2 k3 k4 q c e packed stored struct unpacked = simp append_assoc
+-- ---- objects of plain texts
 
-counts_joined : (t packed stored struct unpacked : List ℕ)
-    → (((((t ++ (codes "{\"packed\":\"" ++ packed)) ++ (codes "\",\"stored\":\"" ++ stored)) ++ codes "\",\"struct\":\"") ++ struct) ++ (codes "\",\"unpacked\":\"" ++ unpacked)) ++ codes "\"}"
-    ≡ t ++ object (member (codes "packed") packed ∷ member (codes "stored") stored ∷ member (codes "struct") struct ∷ member (codes "unpacked") unpacked ∷ [])
-counts_joined t packed stored struct unpacked =
-    counts_pieces t (codes "{\"packed\":\"") packed (codes "\",\"stored\":\"") stored (codes "\",\"struct\":\"") struct (codes "\",\"unpacked\":\"") unpacked (codes "\"}")
-    ∙ ap (λ l. t ++ l)
-    (sym (counts_shape (codes "{") (codes "\"packed\":\"") (codes "\"stored\":\"") (codes "\"struct\":\"") (codes "\"unpacked\":\"") (codes "\"") (codes ",") (codes "}") packed stored struct unpacked))
+abbrev pub IsPlainMember : List ℕ × List ℕ → Type 0
+IsPlainMember m = IsPlain m.0 × IsPlain m.1
 
-pub counts_put : (t0 t1 t2 t3 t4 t5 t6 : List ℕ) (stored : ℕ) (t : Tallied) → t1 ≡ t0 ++ (codes "{\"packed\":\"" ++ decimal t.packs) → t2 ≡ t1 ++ (codes "\",\"stored\":\"" ++ decimal stored)
-    → t3 ≡ t2 ++ codes "\",\"struct\":\"" → t4 ≡ t3 ++ struct_text t.struct → t5 ≡ t4 ++ (codes "\",\"unpacked\":\"" ++ decimal t.unpacks) → t6 ≡ t5 ++ codes "\"}"
-    → t6 ≡ t0 ++ count_object stored t
-counts_put t0 t1 t2 t3 t4 t5 t6 stored t p1 p2 p3 p4 p5 p6 =
-    rw (p6, p5, p4, p3, p2, p1) (counts_joined t0 (decimal t.packs) (decimal stored) (struct_text t.struct) (decimal t.unpacks))
+abbrev pub member_texts : List (List ℕ × List ℕ) → List (List ℕ)
+member_texts = map (λ m. member m.0 m.1)
 
--- ---- one object after the other
+quoted-member : (k t rest : List ℕ) → IsPlain k → IsPlain t → quoted k ++ 58 ∷ (quoted t ++ rest) ≡ member k t ++ rest
+quoted-member k t rest kp tp =
+    let a = escape_stays k kp in
+    let b = escape_stays t tp in
+    ap (λ (l : List ℕ). (34 ∷ (l ++ 34 ∷ [])) ++ 58 ∷ ((34 ∷ (escape t ++ 34 ∷ [])) ++ rest)) a
+    ∙ ap (λ (l : List ℕ). (34 ∷ (k ++ 34 ∷ [])) ++ 58 ∷ ((34 ∷ (l ++ 34 ∷ [])) ++ rest)) b
+    ∙ simp append_assoc
 
--- texts, the first after a separator and each other after a comma
-abbrev pub separated : List ℕ → List (List ℕ) → List ℕ
-separated separator [] = []
-separated separator (t ∷ ts) = (separator ++ t) ++ separated (codes ",") ts
+members-after : (ms : List (List ℕ × List ℕ)) → AllByRecursion IsPlainMember ms → members_text true (members_of ms) ≡ each_after (member_texts ms) ++ 125 ∷ []
+members-after [] plain = refl
+members-after (m ∷ ms) plain =
+    ap (λ (l : List ℕ). 44 ∷ l) (quoted-member m.0 m.1 (members_text true (members_of ms)) plain.0.0 plain.0.1 ∙ ap (λ (l : List ℕ). member m.0 m.1 ++ l) (members-after ms plain.1)
+    ∙ sym (append_assoc (member m.0 m.1) (each_after (member_texts ms)) (125 ∷ [])))
 
-later : (t : List ℕ) (ts : List (List ℕ)) → with_commas (t ∷ ts) ≡ t ++ separated (codes ",") ts
-later t [] = sym (append-nil t)
-later t (u ∷ ts) = append_assoc t (codes ",") (with_commas (u ∷ ts)) ∙ ap (λ l. t ++ (codes "," ++ l)) (later u ts)
+pub object_text : (ms : List (List ℕ × List ℕ)) → AllByRecursion IsPlainMember ms → compact_text (values.object (members_of ms)) ≡ object (member_texts ms)
+object_text [] plain = refl
+object_text (m ∷ ms) plain =
+    ap (λ (l : List ℕ). 123 ∷ l) (quoted-member m.0 m.1 (members_text true (members_of ms)) plain.0.0 plain.0.1 ∙ ap (λ (l : List ℕ). member m.0 m.1 ++ l) (members-after ms plain.1)
+    ∙ sym (append_assoc (member m.0 m.1) (each_after (member_texts ms)) (125 ∷ [])) ∙ ap (λ (l : List ℕ). l ++ 125 ∷ []) (sym (commas (member m.0 m.1) (member_texts ms))))
 
--- the first after nothing
-all : (ts : List (List ℕ)) → with_commas ts ≡ separated [] ts
-all [] = refl
-all (t ∷ ts) = later t ts
+-- ---- a list of them
 
--- The objects of a list are put after a text: what is there, and what is still to be put, is all of it.
-abbrev pub IsPut : List ℕ → List (List ℕ) → List ℕ → List ℕ → List (List ℕ) → Type 0
-IsPut begin objects text separator left = begin ++ with_commas objects ≡ text ++ separated separator left
+items-after : (ds : List Data) → items_text true (items_of ds) ≡ each_after (map compact_text ds) ++ 93 ∷ []
+items-after [] = refl
+items-after (d ∷ ds) = ap (λ (l : List ℕ). 44 ∷ l) (ap (λ (l : List ℕ). compact_text d ++ l) (items-after ds) ∙ sym (append_assoc (compact_text d) (each_after (map compact_text ds)) (93 ∷ [])))
 
-module _ (begin : List ℕ) (objects : List (List ℕ)) where
-  -- before the first
-  pub none_put : (none text separator : List ℕ) (left : List (List ℕ)) → none ≡ [] → text ≡ none ++ begin → separator ≡ [] → left ≡ objects → IsPut begin objects text separator left
-  none_put none text separator left empty is at_first whole = rw (whole, at_first, is, empty) (ap (λ l. begin ++ l) (all objects))
+items-first : (ds : List Data) → items_text false (items_of ds) ≡ with_commas (map compact_text ds) ++ 93 ∷ []
+items-first [] = refl
+items-first (d ∷ ds) =
+    ap (λ (l : List ℕ). compact_text d ++ l) (items-after ds) ∙ sym (append_assoc (compact_text d) (each_after (map compact_text ds)) (93 ∷ []))
+    ∙ ap (λ (l : List ℕ). l ++ 93 ∷ []) (sym (commas (compact_text d) (map compact_text ds)))
 
-  module _ (text separator : List ℕ) (left : List (List ℕ)) (put : IsPut begin objects text separator left) where
-    -- the next one
-    pub more_put : (parted more next t : List ℕ) (rest : List (List ℕ)) → left ≡ t ∷ rest → parted ≡ text ++ separator → more ≡ parted ++ t → next ≡ codes "," → IsPut begin objects more next rest
-    more_put parted more next t rest first parts is comma =
-        let joined : text ++ ((separator ++ t) ++ separated (codes ",") rest) ≡ ((text ++ separator) ++ t) ++ separated (codes ",") rest = simp append_assoc in
-        put ∙ ap (λ ts. text ++ separated separator ts) first ∙ rw (comma, is, parts) joined
+-- a report of them
+pub list_text : (key : List ℕ) (ds : List Data) → IsPlain key
+    → codes "json " ++ compact_text (values.object (values.member key (values.array (items_of ds)) values.no_members)) ≡ codes "json {\"" ++ key ++ codes "\":[" ++ with_commas (map compact_text ds) ++ codes "]}"
+list_text key ds plain =
+    let all : List ℕ = with_commas (map compact_text ds) in
+    ap (λ (l : List ℕ). codes "json {" ++ ((34 ∷ (l ++ 34 ∷ [])) ++ 58 ∷ ((91 ∷ items_text false (items_of ds)) ++ 125 ∷ []))) (escape_stays key plain)
+    ∙ ap (λ (l : List ℕ). codes "json {" ++ ((34 ∷ (key ++ 34 ∷ [])) ++ 58 ∷ ((91 ∷ l) ++ 125 ∷ []))) (items-first ds)
+    ∙ simp append_assoc
 
-    -- after the last
-    pub all_put : (done : List ℕ) → left ≡ [] → done ≡ text ++ codes "]}" → done ≡ (begin ++ with_commas objects) ++ codes "]}"
-    all_put done nothing is = is ∙ ap (λ l. l ++ codes "]}") (sym (put ∙ ap (λ ts. text ++ separated separator ts) nothing ∙ append-nil text))
+-- texts are no floats
+members_whole : (ms : List (List ℕ × List ℕ)) → members_have_float (members_of ms) ≡ false
+members_whole [] = refl
+members_whole (m ∷ ms) = members_whole ms
+
+-- what holds of each of a list of objects
+pub objects_whole : {A : Type 0} (of : A → List (List ℕ × List ℕ)) (xs : List A) → items_have_float (items_of (map (λ x. values.object (members_of (of x))) xs)) ≡ false
+objects_whole of [] = refl
+objects_whole of (x ∷ xs) = grind (arith, members_whole (of x), objects_whole of xs)
+
+pub objects_text : {A : Type 0} (of : A → List (List ℕ × List ℕ)) (xs : List A) → AllByRecursion (λ x. AllByRecursion IsPlainMember (of x)) xs
+    → map compact_text (map (λ x. values.object (members_of (of x))) xs) ≡ map (λ x. object (member_texts (of x))) xs
+objects_text of [] plain = refl
+objects_text of (x ∷ xs) plain = ap₂ (λ (t : List ℕ) (ts : List (List ℕ)). t ∷ ts) (object_text (of x) plain.0) (objects_text of xs plain.1)

@@ -4,9 +4,13 @@ use Rattle.mv_ledger.proofs.Common.{All-tail, length-enumerate_from, count_by-le
 use Rattle.mv_ledger.proofs.Common.{is_scarce_struct, few_structs, count, Audit, Bad, BadRun, Format, Show, audited, shown, ToldRefused, Tallied, ToldLines, audit_json, audit_lines}
 use Rattle.mv_ledger.proofs.Common.{end_line, json_line, Storage, IsPublishable, tables_in, IsSoundLedger, Replies, audit_from, count_line, count_object, counts_json, stored_of, IsShapeless}
 use Rattle.mv_ledger.proofs.Common.{format_text, AreScarce, LedgerView, all_of, scarce_indices, state_of, Tally}
+use Rattle.mv_ledger.proofs.Common.{Answers, Asks, LedgerState, Publish, Request, Run, Spells, subst}
+use Rattle.std.specs.Prelude.{IsUtf8}
+use Rattle.mv_ledger.specs.Answering.{ended}
 use Rattle.mv_ledger.specs.Formats.{IsNoFormat}
 use Rattle.mv_ledger.proofs.Accepted.Records.{answers_record}
 use Rattle.mv_ledger.proofs.Counting.Ended.{counts-tallied}
+use Rattle.mv_ledger.proofs.Shows.Characters.{shown_utf8, audited_utf8}
 
 -- ---- a payload that asks for no format
 
@@ -77,3 +81,24 @@ few_tallies (p ∷ published) [] passed scarce = omega arith
 few_tallies (p ∷ published) (ts ∷ tss) passed scarce =
     let one : length ts ≤ 65536 = omega (arith, length-map ts (λ t. t.index), ap length scarce.0, few_scarce p.tables, few_structs p.tables (All-head IsPublishable p published passed).spelled) in
     few_more ts (all_of tss) (length (p ∷ published)) (length published) one (few_tallies published tss (All-tail IsPublishable p published passed) scarce.1) (omega arith)
+
+-- ---- what is told is of characters
+
+told_utf8 : (kind : ℕ) (payload : List ℕ) (lines : List (List ℕ)) (old new : LedgerState) (request : Request) → 2 < kind → Asks kind payload request → Answers Spells old request (ToldLines lines) new
+    → IsSoundLedger old → IsUtf8 (ended lines)
+told_utf8 kind payload lines old new (Publish sender offers) late asked answers sound = absurd answers
+told_utf8 kind payload lines old new (Run r) late asked answers sound = absurd (omega (arith, late, asked.0))
+told_utf8 kind payload lines old new (Show format) late asked answers sound =
+    let same : lines ≡ shown old format = cc in
+    subst (λ (ls : List (List ℕ)). IsUtf8 (ended ls)) (sym same) (shown_utf8 old sound format)
+told_utf8 kind payload lines old new (Audit format) late asked answers sound =
+    let same : lines ≡ audited old format = cc in
+    subst (λ (ls : List (List ℕ)). IsUtf8 (ended ls)) (sym same) (audited_utf8 old sound format)
+told_utf8 kind payload lines old new BadRun late asked answers sound = absurd (omega (arith, late, asked.0))
+told_utf8 kind payload lines old new Bad late asked answers sound = cc
+
+-- the lines of a reply that leaves the ledger as it is
+pub replied_utf8 : (kind : ℕ) (payload : List ℕ) (lines : List (List ℕ)) (v : LedgerView) → 2 < kind → Replies kind payload (Some (ToldLines lines)) v v → IsUtf8 (ended lines)
+replied_utf8 kind payload lines v late replies =
+    let a = replies.answers in
+    told_utf8 kind payload lines (state_of v) (state_of v) a.0 late a.1 a.2 a.4

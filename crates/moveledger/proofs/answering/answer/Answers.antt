@@ -37,48 +37,48 @@ returns-then-kind-eq-RUN-clause-write g c failed =
 
 pub returns-then-kind-eq-SHOW-clause-ok : goal.returns-then-kind-eq-SHOW-clause-ok
 returns-then-kind-eq-SHOW-clause-ok g c =
-    written_answers c.args.number c.args.kind 3 c.args.payload.now (told_lines c.show.result) c.args.ledger.now c.args.ledger.now (g.W.Write.contents c.args.writer.now) (g.W.Write.contents c.write_report.new.writer)
-    c.write_report.result c.if-kind-eq-SHOW.true c.show.ensures c.write_report.ensures.ok
+    written_answers c.args.number c.args.kind 3 c.args.payload.now (told_lines c.show_lines.result) c.args.ledger.now c.args.ledger.now (g.W.Write.contents c.args.writer.now) (g.W.Write.contents c.write_report.new.writer)
+    c.write_report.result c.if-kind-eq-SHOW.true c.show_lines.ensures c.write_report.ensures.ok
 
 pub returns-then-kind-eq-SHOW-clause-err : goal.returns-then-kind-eq-SHOW-clause-err
 returns-then-kind-eq-SHOW-clause-err g c =
-    begun_answers Read c.args.number c.args.kind 3 c.args.payload.now (told_lines c.show.result) c.args.ledger.now c.args.ledger.now (g.W.Write.contents c.args.writer.now) (g.W.Write.contents c.write_report.new.writer)
-    c.write_report.result c.if-kind-eq-SHOW.true c.show.ensures c.write_report.ensures.err
+    begun_answers Read c.args.number c.args.kind 3 c.args.payload.now (told_lines c.show_lines.result) c.args.ledger.now c.args.ledger.now (g.W.Write.contents c.args.writer.now) (g.W.Write.contents c.write_report.new.writer)
+    c.write_report.result c.if-kind-eq-SHOW.true c.show_lines.ensures c.write_report.ensures.err
 
 pub returns-then-kind-eq-SHOW-clause-write : goal.returns-then-kind-eq-SHOW-clause-write
 returns-then-kind-eq-SHOW-clause-write g c failed =
-    failed_write_begins Read Write c.args.number c.args.kind 3 c.args.payload.now (told_lines c.show.result) c.args.ledger.now c.args.ledger.now (g.W.Write.contents c.args.writer.now) (g.W.Write.contents c.write_report.new.writer)
-    c.write_report.result c.if-kind-eq-SHOW.true c.show.ensures c.write_report.ensures.err c.write_report.ensures.write failed
+    failed_write_begins Read Write c.args.number c.args.kind 3 c.args.payload.now (told_lines c.show_lines.result) c.args.ledger.now c.args.ledger.now (g.W.Write.contents c.args.writer.now) (g.W.Write.contents c.write_report.new.writer)
+    c.write_report.result c.if-kind-eq-SHOW.true c.show_lines.ensures c.write_report.ensures.err c.write_report.ensures.write failed
 
 pub returns-then-kind-eq-AUDIT-clause-ok : goal.returns-then-kind-eq-AUDIT-clause-ok
 returns-then-kind-eq-AUDIT-clause-ok g c =
-    written_answers c.args.number c.args.kind 4 c.args.payload.now (told_lines c.audit.result) c.args.ledger.now c.args.ledger.now (g.W.Write.contents c.args.writer.now) (g.W.Write.contents c.write_report-then-kind-eq-AUDIT.new.writer)
-    c.write_report-then-kind-eq-AUDIT.result c.if-kind-eq-AUDIT.true c.audit.ensures c.write_report-then-kind-eq-AUDIT.ensures.ok
+    written_answers c.args.number c.args.kind 4 c.args.payload.now (told_lines c.audit_lines.result) c.args.ledger.now c.args.ledger.now (g.W.Write.contents c.args.writer.now) (g.W.Write.contents c.write_report-then-kind-eq-AUDIT.new.writer)
+    c.write_report-then-kind-eq-AUDIT.result c.if-kind-eq-AUDIT.true c.audit_lines.ensures c.write_report-then-kind-eq-AUDIT.ensures.ok
 
 pub returns-then-kind-eq-AUDIT-clause-err : goal.returns-then-kind-eq-AUDIT-clause-err
 returns-then-kind-eq-AUDIT-clause-err g c =
-    begun_answers Read c.args.number c.args.kind 4 c.args.payload.now (told_lines c.audit.result) c.args.ledger.now c.args.ledger.now (g.W.Write.contents c.args.writer.now) (g.W.Write.contents c.write_report-then-kind-eq-AUDIT.new.writer)
-    c.write_report-then-kind-eq-AUDIT.result c.if-kind-eq-AUDIT.true c.audit.ensures c.write_report-then-kind-eq-AUDIT.ensures.err
+    begun_answers Read c.args.number c.args.kind 4 c.args.payload.now (told_lines c.audit_lines.result) c.args.ledger.now c.args.ledger.now (g.W.Write.contents c.args.writer.now) (g.W.Write.contents c.write_report-then-kind-eq-AUDIT.new.writer)
+    c.write_report-then-kind-eq-AUDIT.result c.if-kind-eq-AUDIT.true c.audit_lines.ensures c.write_report-then-kind-eq-AUDIT.ensures.err
 
 pub returns-then-kind-eq-AUDIT-clause-write : goal.returns-then-kind-eq-AUDIT-clause-write
 returns-then-kind-eq-AUDIT-clause-write g c failed =
-    failed_write_begins Read Write c.args.number c.args.kind 4 c.args.payload.now (told_lines c.audit.result) c.args.ledger.now c.args.ledger.now (g.W.Write.contents c.args.writer.now) (g.W.Write.contents c.write_report-then-kind-eq-AUDIT.new.writer)
-    c.write_report-then-kind-eq-AUDIT.result c.if-kind-eq-AUDIT.true c.audit.ensures c.write_report-then-kind-eq-AUDIT.ensures.err c.write_report-then-kind-eq-AUDIT.ensures.write failed
+    failed_write_begins Read Write c.args.number c.args.kind 4 c.args.payload.now (told_lines c.audit_lines.result) c.args.ledger.now c.args.ledger.now (g.W.Write.contents c.args.writer.now) (g.W.Write.contents c.write_report-then-kind-eq-AUDIT.new.writer)
+    c.write_report-then-kind-eq-AUDIT.result c.if-kind-eq-AUDIT.true c.audit_lines.ensures c.write_report-then-kind-eq-AUDIT.ensures.err c.write_report-then-kind-eq-AUDIT.ensures.write failed
 
 pub returns-clause-ok : goal.returns-clause-ok
 returns-clause-ok g c =
-    let other = other_replied c.args.kind c.args.payload.now c.args.ledger.now c.if-kind-eq-PUBLISH.false c.if-kind-eq-RUN.false c.if-kind-eq-SHOW.false c.if-kind-eq-AUDIT.false c.is_sound.ensures.balanced in
+    let other = other_replied c.args.kind c.args.payload.now c.args.ledger.now c.if-kind-eq-PUBLISH.false c.if-kind-eq-RUN.false c.if-kind-eq-SHOW.false c.if-kind-eq-AUDIT.false c.is_sound.ensures in
     written_answers c.args.number c.args.kind c.args.kind c.args.payload.now (Some (Refused 1)) c.args.ledger.now c.args.ledger.now (g.W.Write.contents c.args.writer.now) (g.W.Write.contents c.write_reply-2.new.writer)
     c.write_reply-2.result refl other c.write_reply-2.ensures.ok
 
 pub returns-clause-err : goal.returns-clause-err
 returns-clause-err g c =
-    let other = other_replied c.args.kind c.args.payload.now c.args.ledger.now c.if-kind-eq-PUBLISH.false c.if-kind-eq-RUN.false c.if-kind-eq-SHOW.false c.if-kind-eq-AUDIT.false c.is_sound.ensures.balanced in
+    let other = other_replied c.args.kind c.args.payload.now c.args.ledger.now c.if-kind-eq-PUBLISH.false c.if-kind-eq-RUN.false c.if-kind-eq-SHOW.false c.if-kind-eq-AUDIT.false c.is_sound.ensures in
     begun_answers Read c.args.number c.args.kind c.args.kind c.args.payload.now (Some (Refused 1)) c.args.ledger.now c.args.ledger.now (g.W.Write.contents c.args.writer.now) (g.W.Write.contents c.write_reply-2.new.writer)
     c.write_reply-2.result refl other c.write_reply-2.ensures.err
 
 pub returns-clause-write : goal.returns-clause-write
 returns-clause-write g c failed =
-    let other = other_replied c.args.kind c.args.payload.now c.args.ledger.now c.if-kind-eq-PUBLISH.false c.if-kind-eq-RUN.false c.if-kind-eq-SHOW.false c.if-kind-eq-AUDIT.false c.is_sound.ensures.balanced in
+    let other = other_replied c.args.kind c.args.payload.now c.args.ledger.now c.if-kind-eq-PUBLISH.false c.if-kind-eq-RUN.false c.if-kind-eq-SHOW.false c.if-kind-eq-AUDIT.false c.is_sound.ensures in
     failed_write_begins Read Write c.args.number c.args.kind c.args.kind c.args.payload.now (Some (Refused 1)) c.args.ledger.now c.args.ledger.now (g.W.Write.contents c.args.writer.now) (g.W.Write.contents c.write_reply-2.new.writer)
     c.write_reply-2.result refl other c.write_reply-2.ensures.err c.write_reply-2.ensures.write failed

@@ -1,18 +1,20 @@
-use Rattle.mv_ledger.proofs.Common.{List, ap, codes, map, refl, ℕ, FlatEntry, storage_of, entry_object, tables_in}
-use Rattle.mv_ledger.proofs.Shows.Objects.{none_put, more_put, all_put}
+use Rattle.mv_ledger.proofs.Common.{[], ◌++◌, ◌∙◌, ◌∷◌, AllByRecursion, Entry, IfOk-weaker, IsStore, List, PublishedModule, Storage, ap, codes, json_line, map, refl, storage_of, tables_in, ℕ}
+use Rattle.mv_ledger.specs.Sending.{entry_data, entry_texts}
+use Rattle.mv_ledger.proofs.Shows.Names.{plain-address, plain-key, plain-value}
+use Rattle.mv_ledger.proofs.Shows.Sends.{report_text}
+use Rattle.mv_ledger.proofs.Shows.Objects.{IsPlainMember, list_text, objects_text, objects_whole}
 use Rattle.mv_ledger.proofs.json_lines.json_of_storage.Goals as goal
 
-pub each-init : goal.each-init
-each-init c =
-    let objects : List FlatEntry → List (List ℕ) = λ es. map (entry_object (tables_in c.args.store.now)) (storage_of (tables_in c.args.store.now) es) in
-    none_put _ _ _ _ _ _ c.new-text.ensures.items c.in_ok-extend_from_slice.ensures.items refl (ap objects c.iter-entries.ensures.value)
+each-plain : (published : List PublishedModule) → IsStore published → (es : Storage) → AllByRecursion (λ (e : Entry). AllByRecursion IsPlainMember (entry_texts (tables_in published) e)) es
+each-plain published store [] = tt
+each-plain published store (e ∷ es) = (((refl, plain-address e.key.address), ((refl, plain-key published store e.key), ((refl, plain-value e.value), tt))), each-plain published store es)
 
-pub each-preserved : goal.each-preserved
-each-preserved c =
-    let objects : List FlatEntry → List (List ℕ) = λ es. map (entry_object (tables_in c.args.store.now)) (storage_of (tables_in c.args.store.now) es) in
-    more_put (codes "json {\"show\":[") (objects c.args.storage.now) _ _ _ c.each.invariant _ _ _ _ _ (ap objects c.in-Some.ensures) c.in_ok-extend_from_slice-2.ensures.items c.in_ok-put_entry.ensures refl
-
-pub returns : goal.returns
-returns c =
-    let objects : List FlatEntry → List (List ℕ) = λ es. map (entry_object (tables_in c.args.store.now)) (storage_of (tables_in c.args.store.now) es) in
-    all_put (codes "json {\"show\":[") (objects c.args.storage.now) _ _ _ c.each.invariant _ (ap objects c.in_default.ensures.0) c.in_ok-extend_from_slice-3.ensures.items
+pub returns-in-Ok : goal.returns-in-Ok
+returns-in-Ok c =
+    let published : List PublishedModule = c.args.store.now in
+    let entries : Storage = storage_of (tables_in published) c.args.storage.now in
+    let sent = c.in-Ok.ensures.events in
+    IfOk-weaker c.in_line.result _ _
+    (λ line is. is ∙ ap (λ (l : List ℕ). codes "json " ++ l) (report_text (codes "show") (map (entry_data (tables_in published)) entries) sent.0 c.in-Ok.json.items sent.1 sent.2 (objects_whole (entry_texts (tables_in published)) entries))
+    ∙ list_text (codes "show") (map (entry_data (tables_in published)) entries) refl
+    ∙ ap (json_line (codes "show")) (objects_text (entry_texts (tables_in published)) entries (each-plain published c.len-len.ensures.store entries))) c.in_line.ensures

@@ -1,19 +1,20 @@
-use Rattle.mv_ledger.proofs.Common.{List, ap, codes, map, refl, ℕ, Tallied, tables_in, count_object, stored_of, all_of, tallied}
-use Rattle.mv_ledger.proofs.Shows.Objects.{none_put, more_put, all_put}
+use Rattle.mv_ledger.proofs.Common.{[], ◌++◌, ◌∙◌, ◌∷◌, AllByRecursion, IfOk-weaker, List, PublishedModule, Tallied, all_of, ap, codes, json_line, map, refl, stored_of, tables_in, tallied, ℕ}
+use Rattle.mv_ledger.specs.Sending.{count_data, count_texts}
+use Rattle.mv_ledger.proofs.Shows.Names.{IsPlainStruct, plain-decimal, plain-tallied}
+use Rattle.mv_ledger.proofs.Shows.Sends.{report_text}
+use Rattle.mv_ledger.proofs.Shows.Objects.{IsPlainMember, list_text, objects_text, objects_whole}
 use Rattle.mv_ledger.proofs.json_lines.json_of_tallies.Goals as goal
 
-abbrev objects : List Tallied → List (List ℕ)
-objects ts = map (λ t. count_object (stored_of t) t) ts
+each-plain : (ts : List Tallied) → AllByRecursion (λ (t : Tallied). IsPlainStruct t.struct) ts → AllByRecursion (λ (t : Tallied). AllByRecursion IsPlainMember (count_texts t)) ts
+each-plain [] plain = tt
+each-plain (t ∷ ts) plain = (((refl, plain-decimal t.packs), ((refl, plain-decimal (stored_of t)), ((refl, plain.0), ((refl, plain-decimal t.unpacks), tt)))), each-plain ts plain.1)
 
-pub each-init : goal.each-init
-each-init c = none_put _ _ _ _ _ _ c.new-text.ensures.items c.in_ok-extend_from_slice.ensures.items refl (ap objects c.new-counts.ensures)
-
-pub each-preserved : goal.each-preserved
-each-preserved c =
-    more_put (codes "json {\"audit\":[") (objects (map (tallied (tables_in c.args.store.now)) (all_of c.args.tallies.now))) _ _ _ c.each.invariant _ _ _ _ _
-    (ap objects c.in-Some.ensures) c.in_ok-extend_from_slice-2.ensures.items c.in_ok-put_counts.ensures refl
-
-pub returns : goal.returns
-returns c =
-    all_put (codes "json {\"audit\":[") (objects (map (tallied (tables_in c.args.store.now)) (all_of c.args.tallies.now))) _ _ _ c.each.invariant _
-    (ap objects c.in_default.ensures.0) c.in_ok-extend_from_slice-3.ensures.items
+pub returns-in-Ok : goal.returns-in-Ok
+returns-in-Ok c =
+    let published : List PublishedModule = c.args.store.now in
+    let counts : List Tallied = map (tallied (tables_in published)) (all_of c.args.tallies.now) in
+    let sent = c.in-Ok.ensures.events in
+    IfOk-weaker c.in_line.result _ _
+    (λ line is. is ∙ ap (λ (l : List ℕ). codes "json " ++ l) (report_text (codes "audit") (map count_data counts) sent.0 c.in-Ok.json.items sent.1 sent.2 (objects_whole count_texts counts))
+    ∙ list_text (codes "audit") (map count_data counts) refl
+    ∙ ap (json_line (codes "audit")) (objects_text count_texts counts (each-plain counts (plain-tallied published c.len-len.ensures.store (all_of c.args.tallies.now))))) c.in_line.ensures

@@ -1,0 +1,9 @@
+use Rattle.mv_ledger.proofs.Common.{◌++◌, ◌≡◌, length}
+use Rattle.mv_ledger.specs.Answering.{ended}
+use Rattle.mv_ledger.proofs.lines.Lines.into_text.Given as goal
+
+abbrev pub invariant-each : goal.invariant-each
+invariant-each l = l.text.items ++ ended l.self ≡ ended l.fn.self
+
+abbrev pub decreases-each : goal.decreases-each
+decreases-each l = length l.self
