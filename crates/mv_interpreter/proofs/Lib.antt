@@ -10,3 +10,4 @@ pub mod Guided
 pub mod Lists
 pub mod Homes
 pub mod Joined
+mod StoredPieces

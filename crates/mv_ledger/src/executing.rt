@@ -1,16 +1,16 @@
 // Runs: which are begun, and what they change.
-ghost use Rattle.std.specs.Prelude.{◌≡◌, ◌<◌, ◌≤◌, ◌+◌, ℕ, All, IsTrue, length, map, IfOk, OnOk};
+ghost use Rattle.std.specs.Prelude.{◌≡◌, ◌<◌, ◌≤◌, ◌+◌, ℕ, All, IsTrue, length, map, IfOk, OnOk, OnErr};
 ghost use Rattle.std.specs.List.{list_all};
 ghost use Rattle.mv_move_types.specs.Limits.{most_modules, most_runs, most_steps};
 ghost use Rattle.mv_machine.specs.Ledger.{is_argument, are_arguments, with_signer as with_sender};
 ghost use Rattle.mv_linker.specs.Link.{IsStore, tables_in};
-ghost use Rattle.mv_frames.specs.Counters.{IsClear};
+ghost use Rattle.mv_frames.specs.Counters.{IsClear, KeepsCounts};
 ghost use Rattle.mv_interpreter.specs.declared.Arg.{Arg as Argument};
-ghost use Rattle.mv_interpreter.specs.Runs.{IsCall, IsFineWords, number_fits, arg_value};
+ghost use Rattle.mv_interpreter.specs.Runs.{IsCall, IsFineWords, Agrees, HasEnded, AtMost, number_fits, arg_value};
 ghost use Rattle.mv_ledger.specs.Changes.{RunsTo};
 ghost use Rattle.mv_ledger.specs.Answering.{told};
 ghost use Rattle.mv_ledger.specs.Asking.{request_of};
-ghost use Rattle.mv_ledger.specs.Running.{IsAdmitted, IsSettled};
+ghost use Rattle.mv_ledger.specs.Running.{IsAdmitted, IsSettled, left_by, run_of};
 ghost use Rattle.mv_ledger.specs.Tallying.{HasRoomLeft};
 ghost use Rattle.mv_ledger.specs.View.{all_of, IsNamed, IsSmall, AreScarce, AreCountable};
 
@@ -18,13 +18,12 @@ use crate::Reply;
 use crate::payload::RunRecord;
 use crate::tallies::Tallies;
 use mv_frames::Counters;
-use mv_interpreter::{Arg, RunError, run};
+use mv_interpreter::{Arg, FuncId, RunError, Tally, run};
 use mv_linker::Store;
-use mv_machine::Ending;
+use mv_machine::{Ending, Outcome};
 use mv_move_types::{Definition, LeafKind, Token, ValueType};
-use mv_storage::Storage;
-use std::alloc::{AllocError, Global};
-use std::mem;
+use mv_storage::{Overlay, Storage};
+use std::alloc::AllocError;
 
 // How many steps a run may ask for at most.
 const MOST_STEPS: u64 = 10_000_000;
@@ -35,7 +34,7 @@ const MOST_RUNS: u64 = 4_294_967_296;
 /// A call that may be run.
 #[derive(Drop)]
 pub struct Call {
-    pub function: Definition,
+    pub function: FuncId,
     pub arguments: Vec<Arg>,
     pub budget: u64,
 }
@@ -151,10 +150,55 @@ pub fn admitted(store: &Store, runs: u64, asked: RunRecord<'_>) -> Result<Call, 
     })
 }
 
+/// Keeps what a run has made of the storage, if it ended by a return.
+fn keep_returned(overlay: &mut Overlay<'_>, ending: Ending) -> Result<(), AllocError>
+    ensures left { OnOk result (overlay.new.storage.now.committed ≡ left_by ending overlay.old.storage.now) }
+    ensures loan { overlay.new.storage.ghost_name ≡ overlay.old.storage.ghost_name }
+    ensures err { OnErr result (overlay.new.storage.now.committed ≡ overlay.old.storage.now.committed) }
+{
+    match ending {
+        Ending::Returned => overlay.commit(),
+        Ending::Aborted(_, _) | Ending::Exhausted(_) => Ok(()),
+    }
+}
+
+/// Runs a call over the storage, which keeps what a run that returns has made of it; any other run leaves it, and so does an
+/// error.
+fn run_over(
+    store: &Store,
+    storage: &mut Storage,
+    counters: &mut Counters,
+    call: &Call,
+) -> Result<(Outcome, Tally), RunError>
+    requires call { IsCall (tables_in store.now) call.now.function call.now.arguments.items }
+    requires few { length store.now ≤ most_modules }
+    requires stored { All (IsFineWords (tables_in store.now)) storage.old.committed }
+    requires clear { IsClear counters.old }
+    ensures machine { IfOk result (λ r. Agrees (tables_in store.now) (run_of store.now storage.old.committed call.now) r.0 r.1.items
+        (record { committed = storage.old.committed; current = storage.new.committed })) }
+    ensures fine { IfOk result (λ r. All (IsFineWords (tables_in store.now)) storage.new.committed) }
+    ensures few { IfOk result (λ r. AtMost call.now.budget r.1.items) }
+    ensures other { IfOk result (λ r. (HasEnded r.0 → ⊥) → storage.new.committed ≡ storage.old.committed) }
+    ensures err { OnErr result (storage.new.committed ≡ storage.old.committed) }
+    ensures clear { IsClear counters.new }
+    ensures kept { KeepsCounts counters.old counters.new }
+{
+    let mut overlay = storage.overlay();
+    let ended = run(
+        store,
+        &mut overlay,
+        counters,
+        call.function,
+        &call.arguments,
+        call.budget,
+    )?;
+    keep_returned(&mut overlay, ended.0.ending)?;
+    Ok(ended)
+}
+
 /// Runs a call. A run that returns keeps what it made of the storage, and its tally is added; any other leaves both. The
 /// counters are zero again after each, and have the room that they had.
 pub fn execute(
-    alloc: Global,
     store: &Store,
     storage: &mut Storage,
     tallies: &mut Tallies,
@@ -164,7 +208,7 @@ pub fn execute(
     requires store { IsStore store.now }
     requires few { length store.now ≤ most_modules }
     requires call { IsCall (tables_in store.now) call.now.function call.now.arguments.items }
-    requires stored { All (IsFineWords (tables_in store.now)) storage.old }
+    requires stored { All (IsFineWords (tables_in store.now)) storage.old.committed }
     requires named { All (IsNamed (tables_in store.now)) (all_of tallies.old) }
     requires room { All HasRoomLeft (all_of tallies.old) }
     requires budget { call.now.budget ≤ most_steps }
@@ -174,36 +218,22 @@ pub fn execute(
     ensures clear { IsClear counters.new }
     ensures countable { AreCountable counters.new tallies.new }
     ensures scarce { AreScarce (tables_in store.now) tallies.new }
-    ensures stored { All (IsFineWords (tables_in store.now)) storage.new }
+    ensures stored { All (IsFineWords (tables_in store.now)) storage.new.committed }
     ensures placed { length tallies.new ≡ length tallies.old }
     ensures named { All (IsNamed (tables_in store.now)) (all_of tallies.new) }
     ensures small { (runs : ℕ) → All (IsSmall runs) (all_of tallies.old) → All (IsSmall (runs + 1)) (all_of tallies.new) }
-    ensures settled { IsSettled store.now call.now (told result) storage.old storage.new (all_of tallies.old) (all_of tallies.new) }
-    ensures kept { RunsTo (told result) storage.old storage.new (all_of tallies.old) (all_of tallies.new) }
+    ensures settled { IsSettled store.now call.now (told result) storage.old.committed storage.new.committed (all_of tallies.old) (all_of tallies.new) }
+    ensures kept { RunsTo (told result) storage.old.committed storage.new.committed (all_of tallies.old) (all_of tallies.new) }
 {
     // For the prover: each tally stands with its module.
     let _modules = tallies.len();
-    let mut overlay = mem::replace(storage, Storage::new(alloc)).overlay();
-    match run(
-        store,
-        &mut overlay,
-        counters,
-        call.function,
-        &call.arguments,
-        call.budget,
-    ) {
+    match run_over(store, storage, counters, call) {
         Ok((outcome, tally)) => {
             if outcome.ending == Ending::Returned {
-                *storage = overlay.commit();
                 tallies.add_run(&tally);
-            } else {
-                *storage = overlay.discard();
             }
             Reply::Ran(outcome)
         }
-        Err(RunError::Memory) => {
-            *storage = overlay.discard();
-            Reply::Memory
-        }
+        Err(RunError::Memory) => Reply::Memory,
     }
 }

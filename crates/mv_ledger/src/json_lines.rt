@@ -162,7 +162,7 @@ fn send_storage<S: Serializer>(
     storage: &Storage,
     out: &mut S,
 ) -> Result<(), S::Error>
-    ensures { OnOk result (SendsItems (items_of (map (entry_data (tables_in store.now)) (storage_of (tables_in store.now) storage.now))) (S.written out.old) (S.written out.new)) }
+    ensures { OnOk result (SendsItems (items_of (map (entry_data (tables_in store.now)) (storage_of (tables_in store.now) storage.now.committed))) (S.written out.old) (S.written out.new)) }
 {
     let mut entries = storage.iter();
     'each: while let Some((key, words)) = entries.next() {
@@ -204,7 +204,7 @@ impl<'a> Described for StorageShow<'a> {
     ghost use Rattle.mv_machine.specs.Flat.{storage_of};
     ghost use Rattle.mv_ledger.specs.Sending.{entry_data, SendsReport};
 
-    ghost writes = { λ s. SendsReport (codes "show") (map (entry_data (tables_in s.store.now)) (storage_of (tables_in s.store.now) s.storage.now)) };
+    ghost writes = { λ s. SendsReport (codes "show") (map (entry_data (tables_in s.store.now)) (storage_of (tables_in s.store.now) s.storage.now.committed)) };
 }
 
 impl<'a> Serialize for StorageShow<'a> {
@@ -262,7 +262,7 @@ pub fn json_of_storage(
     store: &Store,
     storage: &Storage,
 ) -> Result<Vec<u8>, AllocError>
-    ensures { IfOk result (λ text. text.items ≡ show_json (tables_in store.now) (storage_of (tables_in store.now) storage.now)) }
+    ensures { IfOk result (λ text. text.items ≡ show_json (tables_in store.now) (storage_of (tables_in store.now) storage.now.committed)) }
 {
     // For the prover: what it holds is a store.
     let _len = store.len();

@@ -100,9 +100,9 @@ impl Model for Ledger {
 
     ghost Value = { LedgerView };
 
-    ghost view = { λ l. view_of l.store l.storage (all_of l.tallies) l.runs };
+    ghost view = { λ l. view_of l.store l.storage.committed (all_of l.tallies) l.runs };
 
-    ghost invariant = { λ l. IsLedger l.store l.storage l.tallies l.counters l.runs };
+    ghost invariant = { λ l. IsLedger l.store l.storage.committed l.tallies l.counters l.runs };
 }
 
 impl Ledger {
@@ -170,7 +170,6 @@ impl Ledger {
         match admitted(&self.store, self.runs, asked) {
             Ok(call) => {
                 let reply = executing::execute(
-                    self.alloc,
                     &self.store,
                     &mut self.storage,
                     &mut self.tallies,

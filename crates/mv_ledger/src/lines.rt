@@ -216,7 +216,7 @@ impl<'a> Model for Lines<'a> {
 impl<'a> Lines<'a> {
     /// The lines of a show of all that is stored.
     pub fn of_storage(alloc: Global, store: &'a Store, storage: &'a Storage) -> Self
-        ensures { result ≡ show_lines (tables_in store.entry.now) (storage_of (tables_in store.entry.now) storage.entry.now) }
+        ensures { result ≡ show_lines (tables_in store.entry.now) (storage_of (tables_in store.entry.now) storage.entry.now.committed) }
     {
         Lines {
             alloc,

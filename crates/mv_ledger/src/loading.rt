@@ -95,9 +95,9 @@ fn read_stored(
 ) -> Result<Storage, LoadError>
     requires begun { (bytes : List ℕ) × BeginsWith bytes (head_of head.now) reader.old }
     requires joined { AreJoined (offers_of head.now.offers.items) joined.old.store joined.old.tallies joined.old.counters }
-    ensures whole { IfOk result (λ s. IsLedger joined.new.store s joined.new.tallies joined.new.counters head.now.runs) }
+    ensures whole { IfOk result (λ s. IsLedger joined.new.store s.committed joined.new.tallies joined.new.counters head.now.runs) }
     ensures loaded { (bytes : List ℕ) → BeginsWith bytes (head_of head.now) reader.old
-        → IfOk result (λ s. IsLoaded bytes (state_of (view_of joined.new.store s (all_of joined.new.tallies) head.now.runs))) }
+        → IfOk result (λ s. IsLoaded bytes (state_of (view_of joined.new.store s.committed (all_of joined.new.tallies) head.now.runs))) }
     ensures refused { (bytes : List ℕ) → BeginsWith bytes (head_of head.now) reader.old → IfErr result (IsLoadRefusal bytes) }
 {
     let storage = match read_body(alloc, reader, head.form, &joined.store, &mut joined.tallies) {

@@ -232,8 +232,8 @@ fn sections_in(
     layouts: &Layouts<'_>,
     storage: &Storage,
 ) -> Result<Vec<Vec<Section>>, AllocError>
-    requires { All (IsFineWords layouts.now) storage.now }
-    ensures { IfOk result (λ v. AreSections layouts.now storage.now (sections_of v.items)) }
+    requires { All (IsFineWords layouts.now) storage.now.committed }
+    ensures { IfOk result (λ v. AreSections layouts.now storage.now.committed (sections_of v.items)) }
 {
     // For the prover: the modules are a store's, so each stored value has the leaves that its struct says.
     let _modules = layouts.len();
@@ -372,9 +372,9 @@ pub fn text_of(
     runs: u64,
 ) -> Result<Vec<u8>, AllocError>
     requires few { length store.now ≤ 65536 }
-    requires fine { All (IsFineWords (tables_in store.now)) storage.now }
+    requires fine { All (IsFineWords (tables_in store.now)) storage.now.committed }
     requires writable { All IsWritable (all_of tallies.now) }
-    ensures { IfOk result (λ v. v.items ≡ written runs store.now storage.now (all_of tallies.now)) }
+    ensures { IfOk result (λ v. v.items ≡ written runs store.now storage.now.committed (all_of tallies.now)) }
 {
     let layouts = Layouts::new(alloc, store)?;
     let rows = sections_in(alloc, &layouts, storage)?;

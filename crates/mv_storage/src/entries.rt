@@ -11,7 +11,7 @@ use std::marker::Model;
 /// The committed values by ascending key, each with its key. Its model is the list of those that are left.
 #[derive(Drop)]
 pub struct Entries<'a> {
-    pub(crate) places: Iter<'a, Key, u32>,
+    pub(crate) places: Iter<'a, Key, usize>,
     pub(crate) slots: &'a [Slot],
 }
 
@@ -42,10 +42,10 @@ impl<'a> Entries<'a> {
 }
 
 // The committed words of the slot at a place.
-fn committed_at(slots: &[Slot], place: u32) -> Option<&[u128]>
+fn committed_at(slots: &[Slot], place: usize) -> Option<&[u128]>
     ensures { option_copied result ≡ layer_at Committed (slice_get slots.now place) }
 {
-    match slots.get(place as usize) {
+    match slots.get(place) {
         Some(slot) => slot.committed(),
         None => None,
     }

@@ -5,13 +5,16 @@
 //! use mv_storage::{Storage, Value};
 //! use std::alloc::AllocError;
 //!
-//! /// A run that stores 7 under a key is given up, and had again to be kept.
-//! fn example(storage: Storage, key: Key) -> Result<Storage, AllocError> {
+//! /// A run that takes the value under a key is given up; one that puts 7 where nothing is stored is kept.
+//! fn example(storage: &mut Storage, key: Key) -> Result<(), AllocError> {
 //!     let mut overlay = storage.overlay();
-//!     overlay.put(key, Value::leaf(7))?;
-//!     let mut overlay = overlay.discard().overlay();
-//!     overlay.put(key, Value::leaf(7))?;
-//!     Ok(overlay.commit())
+//!     overlay.take(&key)?;
+//!     overlay.discard();
+//!     let mut overlay = storage.overlay();
+//!     if !overlay.exists(&key) {
+//!         overlay.put(key, Value::leaf(7))?;
+//!     }
+//!     overlay.commit()
 //! }
 //! ```
 #![tactic(auto)]
@@ -21,8 +24,10 @@ mod overlay;
 mod places;
 mod slot;
 mod slots;
+mod storage;
 mod value;
 
 pub use entries::Entries;
-pub use overlay::{Overlay, Storage};
+pub use overlay::Overlay;
+pub use storage::Storage;
 pub use value::Value;

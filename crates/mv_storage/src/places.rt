@@ -16,10 +16,10 @@ use std::mem::replace;
 // The slots of keys: a search for a key finds a place in the list.
 #[derive(Drop)]
 pub(crate) struct Places {
-    pub(crate) tree: BTreeMap<Key, u32>,
+    pub(crate) tree: BTreeMap<Key, usize>,
     pub(crate) slots: Vec<Slot>,
     // a free place, if there is one
-    free: u32,
+    free: usize,
 }
 
 impl Places {
@@ -31,13 +31,13 @@ impl Places {
         Places {
             tree: BTreeMap::new(alloc),
             slots: Vec::new(alloc),
-            free: u32::MAX,
+            free: usize::MAX,
         }
     }
 
     // The place of a key's slot.
     #[inline]
-    pub(crate) fn place(&self, key: &Key) -> Option<u32>
+    pub(crate) fn place(&self, key: &Key) -> Option<usize>
         ensures { result ≡ get key_cmp self.now.tree key.now }
     {
         match self.tree.get(key) {
@@ -52,26 +52,26 @@ impl Places {
         ensures { option_copied result ≡ slot_at self.now key.now }
     {
         match self.place(key) {
-            Some(place) => self.slots.get(place as usize),
+            Some(place) => self.slots.get(place),
             None => None,
         }
     }
 
     // The slot under a key, of which the place may be remembered.
     #[inline]
-    pub(crate) fn find_known(&self, last: &Option<(Key, u32)>, key: &Key) -> Option<&Slot>
+    pub(crate) fn find_known(&self, last: &Option<(Key, usize)>, key: &Key) -> Option<&Slot>
         requires { IsRemembered self.now.tree last.now }
         ensures { option_copied result ≡ slot_at self.now key.now }
     {
         match recalled(last, key) {
-            Some(place) => self.slots.get(place as usize),
+            Some(place) => self.slots.get(place),
             None => self.find(key),
         }
     }
 
     // The place of a key's slot, which is remembered from then on.
     #[inline(always)]
-    pub(crate) fn recall(&self, last: &mut Option<(Key, u32)>, key: &Key) -> Option<u32>
+    pub(crate) fn recall(&self, last: &mut Option<(Key, usize)>, key: &Key) -> Option<usize>
         requires { IsRemembered self.now.tree last.old }
         ensures remembered { IsRemembered self.now.tree last.new }
         ensures place { result ≡ get key_cmp self.now.tree key.now }
@@ -85,7 +85,7 @@ impl Places {
     // The same by a search.
     #[cold]
     #[inline(never)]
-    fn search(&self, last: &mut Option<(Key, u32)>, key: Key) -> Option<u32>
+    fn search(&self, last: &mut Option<(Key, usize)>, key: Key) -> Option<usize>
         requires { IsRemembered self.now.tree last.old }
         ensures remembered { IsRemembered self.now.tree last.new }
         ensures place { result ≡ get key_cmp self.now.tree key }
@@ -97,19 +97,19 @@ impl Places {
 
     // Whether a place is free.
     #[inline]
-    fn is_vacant(&self, place: u32) -> bool
+    fn is_vacant(&self, place: usize) -> bool
         ensures { IsTrue result ↔ IsVacantAt self.now.slots.items place }
     {
-        match self.slots.get(place as usize) {
+        match self.slots.get(place) {
             Some(slot) => slot.is_vacant(),
             None => false,
         }
     }
 
-    // A free place: one that was left, which takes no memory, or a new one. It fails where memory runs out or 2^32 places are
-    // in use, and nothing changes then.
+    // A free place: one that was left, which takes no memory, or a new one. It fails only where memory runs out, and nothing
+    // changes then.
     #[inline]
-    pub(crate) fn vacancy(&mut self) -> Result<u32, AllocError>
+    pub(crate) fn vacancy(&mut self) -> Result<usize, AllocError>
         requires { IsSound self.old }
         ensures sound { IsSound self.new }
         ensures same { (q : Key) → slot_at self.new q ≡ slot_at self.old q }
@@ -122,29 +122,26 @@ impl Places {
             return Ok(self.free);
         }
         let place = self.slots.len();
-        if place > u32::MAX as usize {
-            return Err(AllocError);
-        }
         self.slots.push(Slot::Vacant(self.free))?;
-        self.free = place as u32;
+        self.free = place;
         Ok(self.free)
     }
 
     // Puts a slot at a free place. The one that was left before it is the next to be used.
     #[inline]
-    pub(crate) fn fill(&mut self, place: u32, slot: Slot)
+    pub(crate) fn fill(&mut self, place: usize, slot: Slot)
         requires { place < length self.old.slots.items }
         ensures tree { self.new.tree ≡ self.old.tree }
         ensures slots { self.new.slots.items ≡ slice_set self.old.slots.items place slot }
         ensures free { self.new.free ≡ free_after self.old place }
     {
-        if let Slot::Vacant(next) = replace(&mut self.slots[place as usize], slot) {
+        if let Slot::Vacant(next) = replace(&mut self.slots[place], slot) {
             self.free = next;
         }
     }
 
     // Takes a key out, with its slot. Its place is free, and the next to be used.
-    pub(crate) fn remove(&mut self, key: &Key, place: u32)
+    pub(crate) fn remove(&mut self, key: &Key, place: usize)
         requires { place < length self.old.slots.items }
         ensures ordered { IsOrdered key_cmp self.new.tree }
         ensures tree { (q : Key) → get key_cmp self.new.tree q ≡ cond (same_key key.now q) None (get key_cmp self.old.tree q) }
@@ -152,14 +149,14 @@ impl Places {
         ensures free { self.new.free ≡ place }
     {
         self.tree.remove(key);
-        self.slots[place as usize] = Slot::Vacant(self.free);
+        self.slots[place] = Slot::Vacant(self.free);
         self.free = place;
     }
 }
 
 // The place that is remembered, if it is this key's.
 #[inline(always)]
-pub(crate) fn recalled(last: &Option<(Key, u32)>, key: &Key) -> Option<u32>
+pub(crate) fn recalled(last: &Option<(Key, usize)>, key: &Key) -> Option<usize>
     ensures { MatchOption result (Unit {0}) (λ place. last.now ≡ Some (key.now, place)) }
 {
     let Some((known, place)) = last else {
@@ -174,7 +171,7 @@ pub(crate) fn recalled(last: &Option<(Key, u32)>, key: &Key) -> Option<u32>
 // Gives a key a place if it has none, and tells the one that it had. It fails only where memory runs out, and nothing
 // changes then.
 #[inline]
-fn enter(tree: &mut BTreeMap<Key, u32>, key: Key, place: u32) -> Result<Option<u32>, AllocError>
+fn enter(tree: &mut BTreeMap<Key, usize>, key: Key, place: usize) -> Result<Option<usize>, AllocError>
     ensures ordered { IsOrdered key_cmp tree.new }
     ensures had { IfOk result (λ had. had ≡ get key_cmp tree.old key) }
     ensures has { IfOk result (λ had. (q : Key) → get key_cmp tree.new q ≡ cond (same_key key q) (Some (unwrap_or had place)) (get key_cmp tree.old q)) }
@@ -193,11 +190,11 @@ fn enter(tree: &mut BTreeMap<Key, u32>, key: Key, place: u32) -> Result<Option<u
 // nothing changes then.
 #[inline]
 pub(crate) fn enter_noted(
-    tree: &mut BTreeMap<Key, u32>,
-    touched: &mut Vec<(Key, u32)>,
+    tree: &mut BTreeMap<Key, usize>,
+    touched: &mut Vec<(Key, usize)>,
     key: Key,
-    place: u32,
-) -> Result<Option<u32>, AllocError>
+    place: usize,
+) -> Result<Option<usize>, AllocError>
     requires { IsOrdered key_cmp tree.old }
     ensures ordered { IsOrdered key_cmp tree.new }
     ensures had { IfOk result (λ had. had ≡ get key_cmp tree.old key) }

@@ -56,7 +56,7 @@ impl Versions {
 // alone, with one leaf in place; one that the run has put where nothing was; or both versions of one that it has changed.
 #[derive(Drop)]
 pub(crate) enum Slot {
-    Vacant(u32),
+    Vacant(usize),
     Empty,
     One(u128),
     Many(Vec<u128>),
@@ -178,25 +178,18 @@ impl Slot {
         Ok(())
     }
 
-    // Puts a value where the run sees none, and says whether it did.
-    pub(crate) fn put(&mut self, value: Value) -> bool
-        requires { is_vacant self.old ≡ false }
-        ensures done { result ≡ not (is_some (of_layer Current self.old)) }
-        ensures current { of_layer Current self.new ≡ cond result (Some value) (of_layer Current self.old) }
+    // Puts a value where the run sees none.
+    pub(crate) fn put(&mut self, value: Value)
+        requires { (of_layer Current self.old ≡ None) × (is_vacant self.old ≡ false) }
+        ensures current { of_layer Current self.new ≡ Some value }
         ensures committed { of_layer Committed self.new ≡ of_layer Committed self.old }
         ensures change { is_change self.new ≡ is_change self.old }
         ensures used { is_vacant self.new ≡ false }
     {
         match self {
-            Slot::Empty => {
-                *self = Slot::added(value);
-                true
-            }
-            Slot::Changed(versions) if versions.current.is_none() => {
-                versions.current = Some(value);
-                true
-            }
-            _ => false,
+            Slot::Empty => *self = Slot::added(value),
+            Slot::Changed(versions) => versions.current = Some(value),
+            _ => unreachable!(),
         }
     }
 

@@ -17,7 +17,7 @@ use std::alloc::{AllocError, Global};
 
 // Makes sure that the key of a slot that is about to be changed is among the keys touched.
 #[inline(always)]
-fn note(slot: &Slot, touched: &mut Vec<(Key, u32)>, key: &Key, place: u32) -> Result<(), AllocError>
+fn note(slot: &Slot, touched: &mut Vec<(Key, usize)>, key: &Key, place: usize) -> Result<(), AllocError>
     ensures noted { OnOk result (is_change slot.now ≡ false → list_any (λ t. same_key key.now t.0) touched.new.items ≡ true) }
     ensures kept { (q : Key) → list_any (λ t. same_key q t.0) touched.old.items ≡ true → list_any (λ t. same_key q t.0) touched.new.items ≡ true }
     ensures placed { (tree : BTreeMap Key ℕ) → get key_cmp tree key.now ≡ Some place → ArePlaced tree touched.old.items → ArePlaced tree touched.new.items }
@@ -33,9 +33,9 @@ fn note(slot: &Slot, touched: &mut Vec<(Key, u32)>, key: &Key, place: u32) -> Re
 #[inline(never)]
 fn note_any(
     slot: &Slot,
-    touched: &mut Vec<(Key, u32)>,
+    touched: &mut Vec<(Key, usize)>,
     key: Key,
-    place: u32,
+    place: usize,
 ) -> Result<(), AllocError>
     ensures noted { OnOk result (is_change slot.now ≡ false → list_any (λ t. same_key key t.0) touched.new.items ≡ true) }
     ensures kept { (q : Key) → list_any (λ t. same_key q t.0) touched.old.items ≡ true → list_any (λ t. same_key q t.0) touched.new.items ≡ true }
@@ -50,8 +50,8 @@ fn note_any(
 // Takes out what the run sees under a key.
 pub(crate) fn take_from(
     places: &mut Places,
-    touched: &mut Vec<(Key, u32)>,
-    last: &mut Option<(Key, u32)>,
+    touched: &mut Vec<(Key, usize)>,
+    last: &mut Option<(Key, usize)>,
     key: &Key,
     alloc: Global,
 ) -> Result<Option<Value>, AllocError>
@@ -67,16 +67,16 @@ pub(crate) fn take_from(
     let Some(place) = places.recall(last, key) else {
         return Ok(None);
     };
-    note(&places.slots[place as usize], touched, key, place)?;
-    places.slots[place as usize].take(alloc)
+    note(&places.slots[place], touched, key, place)?;
+    places.slots[place].take(alloc)
 }
 
 // Puts words in place of as many that the run sees under a key, if they are there, and says whether it did.
 #[inline(always)]
 pub(crate) fn edit_in(
     places: &mut Places,
-    touched: &mut Vec<(Key, u32)>,
-    last: &mut Option<(Key, u32)>,
+    touched: &mut Vec<(Key, usize)>,
+    last: &mut Option<(Key, usize)>,
     key: &Key,
     from: usize,
     new: &[u128],
@@ -94,30 +94,31 @@ pub(crate) fn edit_in(
     let Some(place) = places.recall(last, key) else {
         return Ok(false);
     };
-    note(&places.slots[place as usize], touched, key, place)?;
-    places.slots[place as usize].edit(from, new, alloc)
+    note(&places.slots[place], touched, key, place)?;
+    places.slots[place].edit(from, new, alloc)
 }
 
-// Puts a value under a key where the run sees none, and says whether it did.
+// Puts a value under a key where the run sees none.
 #[inline]
 pub(crate) fn put_into(
     places: &mut Places,
-    touched: &mut Vec<(Key, u32)>,
-    last: &mut Option<(Key, u32)>,
+    touched: &mut Vec<(Key, usize)>,
+    last: &mut Option<(Key, usize)>,
     key: Key,
     value: Value,
-) -> Result<bool, AllocError>
+) -> Result<(), AllocError>
     requires tracked { IsTracked places.old touched.old.items }
     requires remembered { IsRemembered places.old.tree last.old }
+    requires absent { value_at Current places.old key ≡ None }
     ensures tracked { IsTracked places.new touched.new.items }
     ensures remembered { IsRemembered places.new.tree last.new }
-    ensures done { IfOk result (λ done. done ≡ not (is_some (value_at Current places.old key))) }
-    ensures current { IfOk result (λ done. ShowsAt Current key (cond done (Some value) (value_at Current places.old key)) places.old places.new) }
+    ensures current { OnOk result (ShowsAt Current key (Some value) places.old places.new) }
     ensures committed { ShowsSame Committed places.old places.new }
     ensures err { OnErr result (ShowsSame Current places.old places.new) }
 {
     if let Some(place) = recalled(last, &key) {
-        return Ok(places.slots[place as usize].put(value));
+        places.slots[place].put(value);
+        return Ok(());
     }
     put_new(places, touched, last, key, value)
 }
@@ -126,17 +127,17 @@ pub(crate) fn put_into(
 #[inline]
 fn put_new(
     places: &mut Places,
-    touched: &mut Vec<(Key, u32)>,
-    last: &mut Option<(Key, u32)>,
+    touched: &mut Vec<(Key, usize)>,
+    last: &mut Option<(Key, usize)>,
     key: Key,
     value: Value,
-) -> Result<bool, AllocError>
+) -> Result<(), AllocError>
     requires tracked { IsTracked places.old touched.old.items }
     requires remembered { IsRemembered places.old.tree last.old }
+    requires absent { value_at Current places.old key ≡ None }
     ensures tracked { IsTracked places.new touched.new.items }
     ensures remembered { IsRemembered places.new.tree last.new }
-    ensures done { IfOk result (λ done. done ≡ not (is_some (value_at Current places.old key))) }
-    ensures current { IfOk result (λ done. ShowsAt Current key (cond done (Some value) (value_at Current places.old key)) places.old places.new) }
+    ensures current { OnOk result (ShowsAt Current key (Some value) places.old places.new) }
     ensures committed { ShowsSame Committed places.old places.new }
     ensures err { OnErr result (ShowsSame Current places.old places.new) }
 {
@@ -147,17 +148,18 @@ fn put_new(
         None => {
             places.fill(fresh, Slot::added(value));
             *last = Some((key, fresh));
-            Ok(true)
+            Ok(())
         }
         Some(place) => {
             *last = Some((key, place));
-            Ok(places.slots[place as usize].put(value))
+            places.slots[place].put(value);
+            Ok(())
         }
     }
 }
 
 // Makes one layer of the touched slots the committed one, and takes out those that are then empty.
-pub(crate) fn settle(places: &mut Places, touched: &mut Vec<(Key, u32)>, layer: Layer)
+pub(crate) fn settle(places: &mut Places, touched: &mut Vec<(Key, usize)>, layer: Layer)
     requires { IsTracked places.old touched.old.items }
     ensures settled { IsSettled places.new touched.new.items }
     ensures same { ShowsSame layer places.old places.new }
@@ -169,12 +171,12 @@ pub(crate) fn settle(places: &mut Places, touched: &mut Vec<(Key, u32)>, layer: 
 
 // Makes one layer of a slot the committed one, and takes the slot out if it is then empty.
 #[inline]
-fn settle_one(places: &mut Places, key: &Key, place: u32, layer: Layer)
+fn settle_one(places: &mut Places, key: &Key, place: usize, layer: Layer)
     requires sound { IsSound places.old }
     requires settling { IsSettling places.old key.now place }
     ensures { IsSettledAt layer key.now places.old places.new }
 {
-    let slot = &mut places.slots[place as usize];
+    let slot = &mut places.slots[place];
     if slot.is_vacant() {
         return;
     }

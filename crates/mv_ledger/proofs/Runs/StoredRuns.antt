@@ -2,7 +2,9 @@
 use Rattle.mv_ledger.proofs.Common.{◌+◌, ◌∙◌, ◌≡◌, List, Option, Some, ap, ap₂, arith, map, sym, true, ℕ, All-weaker, All, Module, PublishedModule, is_scarce_in, StructTally, Layers, FlatEntry}
 use Rattle.mv_ledger.proofs.Common.{storage_of, LedgerState, settled, Told, Tallied, Aborted, Exhausted, Faulted, Returned, RunOutcome, run, Storage, HasAborted, HasExhausted, HasReturned}
 use Rattle.mv_ledger.proofs.Common.{tables_in, Agrees, call_of, Arg, told, told_ending, IsSettled, run_of, tally_after, IsNamed, IsSmall, all_of, state_of, tallied, view_of, Call, Tally}
+use Rattle.std.proofs.Common.{subst}
 use Rattle.mv_machine.specs.declared.Outcome.{Outcome}
+use Rattle.mv_ledger.specs.Running.{left_by}
 use Rattle.mv_ledger.specs.declared.Reply.TheVariants.{Ran}
 use Rattle.mv_ledger.proofs.Runs.TalliesAfter.{tallies-after}
 use Rattle.mv_ledger.proofs.Runs.TalliesByModule.{all-map}
@@ -28,6 +30,21 @@ module _ (published : List PublishedModule) (call : Call) (stored new : List Fla
   pub run-same : (seen : List FlatEntry) (args : List Arg) → seen ≡ stored → args ≡ call.arguments.items → run modules (storage_of modules seen)
       (call_of call.function args) call.budget ≡ run_of published stored call
   run-same seen args seen_is args_are = ap₂ (λ (entries : List FlatEntry) (as' : List Arg). run modules (storage_of modules entries) (call_of call.function as') call.budget) seen_is args_are
+
+  -- what the overlay began with is what was stored, and what the storage holds after it is what the run left
+  pub agrees-left : (own : List FlatEntry) (args : List Arg) (outcome : Outcome) (tally : List StructTally) (seen : Layers) → own ≡ stored → args ≡ call.arguments.items
+      → new ≡ left_by outcome.ending seen
+      → Agrees modules (run modules (storage_of modules own) (call_of call.function args) call.budget) outcome tally seen
+      → Agrees modules (run_of published stored call) outcome tally (record { committed = stored; current = new })
+  agrees-left own args outcome tally seen own_is args_are new_is agrees =
+      by_outcome (run_of published stored call) (subst (λ (o : RunOutcome). Agrees modules o outcome tally seen) (run-same own args own_is args_are) agrees)
+    where
+      by_outcome : (o : RunOutcome) → Agrees modules o outcome tally seen → Agrees modules o outcome tally (record { committed = stored; current = new })
+      by_outcome (Returned steps storage events) h =
+          (h.0, h.1 ∙ ap (storage_of modules) (sym (new_is ∙ ap (λ (x : Outcome). left_by x.ending seen) h.0)), h.2)
+      by_outcome (Aborted kind n steps) h = h
+      by_outcome (Exhausted stop steps) h = h
+      by_outcome (Faulted fault steps) h = h
 
   -- what is told, and the ledger after it
   abbrev telling : Told → LedgerState → Option (Told × LedgerState)

@@ -31,11 +31,11 @@ pub fn read_body(
     tallies: &mut Tallies,
 ) -> Result<Storage, Refusal>
     requires few { length store.now ≤ 65536 }
-    ensures ok { IfOk result (λ s. body_from (form_of form) (tables_in store.now) (length (all_of tallies.old)) reader.old ≡ Some ((map counts_of (all_of tallies.new), s), [])) }
+    ensures ok { IfOk result (λ s. body_from (form_of form) (tables_in store.now) (length (all_of tallies.old)) reader.old ≡ Some ((map counts_of (all_of tallies.new), s.committed), [])) }
     ensures refused { result ≡ Err (Refusal.Phase 2) → IsNoBody (form_of form) (tables_in store.now) (length (all_of tallies.old)) reader.old }
     ensures errors { IfErr result (λ e. (e ≡ Refusal.Phase 2) ⊎ (e ≡ Refusal.Memory)) }
     ensures kept { map (map struct_of) tallies.new ≡ map (map struct_of) tallies.old }
-    ensures few { IfOk result (λ s. length s < 2 ^ 64) }
+    ensures few { IfOk result (λ s. length s.committed < 2 ^ 64) }
 {
     tallies.read(reader, form)?;
     let layouts = Layouts::new(alloc, store)?;

@@ -137,7 +137,7 @@ pub fn stored_counts(
     layouts: &Layouts<'_>,
     storage: &Storage,
 ) -> Result<Counts, AllocError>
-    ensures { IfOk result (AreStored layouts.now storage.now) }
+    ensures { IfOk result (AreStored layouts.now storage.now.committed) }
 {
     let mut counts = Counts::new(alloc, layouts)?;
     let mut entries = storage.iter();
@@ -154,8 +154,8 @@ pub fn stored_counts(
 /// How many values of each struct are stored, at any depth: the fields of a struct are gone over once, however many values are
 /// stored of it.
 fn all_counts(alloc: Global, layouts: &Layouts<'_>, storage: &Storage) -> Result<Counts, AllocError>
-    requires { All (IsFineWords layouts.now) storage.now }
-    ensures { IfOk result (AreAll layouts.now storage.now) }
+    requires { All (IsFineWords layouts.now) storage.now.committed }
+    ensures { IfOk result (AreAll layouts.now storage.now.committed) }
 {
     // For the prover: the modules are a store's.
     let _modules = layouts.len();
@@ -208,10 +208,10 @@ pub fn are_tallied(
     runs: u64,
 ) -> Result<bool, AllocError>
     requires few { length store.now ≤ most_modules }
-    requires stored { All (IsFineWords (tables_in store.now)) storage.now }
+    requires stored { All (IsFineWords (tables_in store.now)) storage.now.committed }
     requires named { All (IsNamed (tables_in store.now)) (all_of tallies.now) }
     requires scarce { AreScarce (tables_in store.now) tallies.now }
-    ensures { IfOk result (λ b. IsTrue b ↔ AreCounted runs (storage_of (tables_in store.now) storage.now) (map (tallied (tables_in store.now)) (all_of tallies.now))) }
+    ensures { IfOk result (λ b. IsTrue b ↔ AreCounted runs (storage_of (tables_in store.now) storage.now.committed) (map (tallied (tables_in store.now)) (all_of tallies.now))) }
 {
     let layouts = Layouts::new(alloc, store)?;
     let counts = all_counts(alloc, &layouts, storage)?;

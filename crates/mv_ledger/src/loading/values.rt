@@ -109,28 +109,33 @@ fn follows(last: Option<Key>, key: &Key) -> bool
 }
 
 /// Puts the value of a number where none is stored under its key, and says whether it did.
-fn put(storage: &mut Overlay, number: u64, next: Stored) -> Result<bool, AllocError>
-    ensures done { IfOk result (λ done. done ≡ not (is_some (words_under storage.old.current next.key))) }
-    ensures current { IfOk result (λ done. storage.new.current ≡ cond done (with_words storage.old.current next.key next.value) storage.old.current) }
+fn put(overlay: &mut Overlay<'_>, number: u64, next: Stored) -> Result<bool, AllocError>
+    ensures done { IfOk result (λ done. done ≡ not (is_some (words_under overlay.old.storage.now.current next.key))) }
+    ensures current { IfOk result (λ done. overlay.new.storage.now.current ≡ cond done (with_words overlay.old.storage.now.current next.key next.value) overlay.old.storage.now.current) }
+    ensures loan { overlay.new.storage.ghost_name ≡ overlay.old.storage.ghost_name }
 {
-    let is_put = storage.put(next.key, next.value)?;
-    if number % KEPT_AFTER == 0 {
-        storage.keep();
+    if overlay.exists(&next.key) {
+        return Ok(false);
     }
-    Ok(is_put)
+    overlay.put(next.key, next.value)?;
+    if number % KEPT_AFTER == 0 {
+        overlay.commit()?;
+    }
+    Ok(true)
 }
 
-/// Reads values by ascending key after their number, and puts them into a storage.
+/// Reads values by ascending key after their number, and puts them into the storage of an overlay.
 fn group(
     alloc: Global,
     layouts: &Layouts<'_>,
     reader: &mut Reader<'_>,
     known: Option<Definition>,
-    storage: &mut Overlay,
+    overlay: &mut Overlay<'_>,
 ) -> Result<(), Refusal>
-    ensures ok { OnOk result (group_into (entry_from layouts.now known) storage.old.current reader.old ≡ Some (storage.new.current, reader.new)) }
-    ensures refused { result ≡ Err (Refusal.Phase 2) → group_into (entry_from layouts.now known) storage.old.current reader.old ≡ None }
+    ensures ok { OnOk result (group_into (entry_from layouts.now known) overlay.old.storage.now.current reader.old ≡ Some (overlay.new.storage.now.current, reader.new)) }
+    ensures refused { result ≡ Err (Refusal.Phase 2) → group_into (entry_from layouts.now known) overlay.old.storage.now.current reader.old ≡ None }
     ensures errors { IfErr result (λ e. (e ≡ Refusal.Phase 2) ⊎ (e ≡ Refusal.Memory)) }
+    ensures loan { overlay.new.storage.ghost_name ≡ overlay.old.storage.ghost_name }
 {
     let count = reader.number(u64::MAX)?;
     let mut last = None;
@@ -140,25 +145,26 @@ fn group(
             return Err(MALFORMED);
         }
         last = Some(next.key);
-        put(storage, number, next)?;
+        put(overlay, number, next)?;
     }
     Ok(())
 }
 
-/// Reads the values of each of these structs, and puts them into a storage.
+/// Reads the values of each of these structs, and puts them into the storage of an overlay.
 fn groups(
     alloc: Global,
     layouts: &Layouts<'_>,
     reader: &mut Reader<'_>,
     structs: &[Definition],
-    storage: &mut Overlay,
+    overlay: &mut Overlay<'_>,
 ) -> Result<(), Refusal>
-    ensures ok { OnOk result (groups_into layouts.now structs.now storage.old.current reader.old ≡ Some (storage.new.current, reader.new)) }
-    ensures refused { result ≡ Err (Refusal.Phase 2) → groups_into layouts.now structs.now storage.old.current reader.old ≡ None }
+    ensures ok { OnOk result (groups_into layouts.now structs.now overlay.old.storage.now.current reader.old ≡ Some (overlay.new.storage.now.current, reader.new)) }
+    ensures refused { result ≡ Err (Refusal.Phase 2) → groups_into layouts.now structs.now overlay.old.storage.now.current reader.old ≡ None }
     ensures errors { IfErr result (λ e. (e ≡ Refusal.Phase 2) ⊎ (e ≡ Refusal.Memory)) }
+    ensures loan { overlay.new.storage.ghost_name ≡ overlay.old.storage.ghost_name }
 {
     'each: for at in structs {
-        group(alloc, layouts, reader, Some(*at), storage)?;
+        group(alloc, layouts, reader, Some(*at), overlay)?;
     }
     Ok(())
 }
@@ -174,14 +180,32 @@ pub fn read_storage(
     reader: &mut Reader<'_>,
     form: SavedForm,
 ) -> Result<Storage, Refusal>
-    ensures ok { IfOk result (λ s. storage_into layouts.now (form_of form) [] reader.old ≡ Some (s, reader.new)) }
+    ensures ok { IfOk result (λ s. storage_into layouts.now (form_of form) [] reader.old ≡ Some (s.committed, reader.new)) }
     ensures refused { result ≡ Err (Refusal.Phase 2) → storage_into layouts.now (form_of form) [] reader.old ≡ None }
     ensures errors { IfErr result (λ e. (e ≡ Refusal.Phase 2) ⊎ (e ≡ Refusal.Memory)) }
 {
-    let mut storage = Storage::new(alloc).overlay();
+    let mut storage = Storage::new(alloc);
+    fill(alloc, layouts, reader, form, &mut storage)?;
+    Ok(storage)
+}
+
+/// Reads all stored values into a storage that holds none.
+fn fill(
+    alloc: Global,
+    layouts: &Layouts<'_>,
+    reader: &mut Reader<'_>,
+    form: SavedForm,
+    storage: &mut Storage,
+) -> Result<(), Refusal>
+    ensures ok { OnOk result (storage_into layouts.now (form_of form) storage.old.committed reader.old ≡ Some (storage.new.committed, reader.new)) }
+    ensures refused { result ≡ Err (Refusal.Phase 2) → storage_into layouts.now (form_of form) storage.old.committed reader.old ≡ None }
+    ensures errors { IfErr result (λ e. (e ≡ Refusal.Phase 2) ⊎ (e ≡ Refusal.Memory)) }
+{
+    let mut overlay = storage.overlay();
     match form {
-        SavedForm::First => group(alloc, layouts, reader, None, &mut storage)?,
-        SavedForm::Second => groups(alloc, layouts, reader, layouts.keyed(), &mut storage)?,
+        SavedForm::First => group(alloc, layouts, reader, None, &mut overlay)?,
+        SavedForm::Second => groups(alloc, layouts, reader, layouts.keyed(), &mut overlay)?,
     }
-    Ok(storage.commit())
+    overlay.commit()?;
+    Ok(())
 }

@@ -4,8 +4,7 @@ ghost use Rattle.mv_storage.specs.FlatStorage.{with_words};
 
 use mv_move_types::Key;
 use mv_storage::{Overlay, Storage, Value};
-use std::alloc::{AllocError, Global};
-use std::mem;
+use std::alloc::AllocError;
 use std::test::Fail;
 
 // Keys that differ in the address, the place or the index alone.
@@ -36,41 +35,62 @@ const FOURTH: Key = Key {
 const VALUES: [(Key, u128); 4] = [(FIRST, 0), (SECOND, 1), (THIRD, 2), (FOURTH, 3)];
 
 // What a ledger does: it lends its storage to a run, and keeps what the run has made, or has it back as it was.
-fn run(storage: &mut Storage, alloc: Global, key: Key, value: Value) -> Result<bool, AllocError>
+fn run(storage: &mut Storage, key: Key, value: Value) -> Result<bool, AllocError>
     ensures ok { IfOk result (λ done. storage.new ≡ cond done (with_words storage.old key value) storage.old) }
     ensures err { OnErr result (storage.new ≡ storage.old) }
 {
-    let mut overlay = mem::replace(storage, Storage::new(alloc)).overlay();
-    let result = overlay.put(key, value);
-    *storage = match result {
-        Ok(_) => overlay.commit(),
-        Err(_) => overlay.discard(),
-    };
-    result
+    let mut overlay = storage.overlay();
+    if overlay.exists(&key) {
+        return Ok(false);
+    }
+    overlay.put(key, value)?;
+    overlay.commit()?;
+    Ok(true)
 }
 
 // A run that edits a value and is given up leaves the storage as it was.
-fn try_out(storage: Storage, key: &Key, new: &[u128]) -> Storage
-    ensures { result ≡ storage }
+fn try_out(storage: &mut Storage, key: &Key, new: &[u128])
+    ensures { storage.new ≡ storage.old }
 {
     let mut overlay = storage.overlay();
     let _ = overlay.edit(key, 0, new);
-    overlay.discard()
+    overlay.discard();
+}
+
+// Puts a value where none is, and says whether it did.
+fn put(overlay: &mut Overlay<'_>, key: Key, value: Value) -> Result<bool, AllocError> {
+    if overlay.exists(&key) {
+        return Ok(false);
+    }
+    overlay.put(key, value)?;
+    Ok(true)
 }
 
 // Whether a value with these leaves is taken out.
-fn is_taken(overlay: &mut Overlay, key: &Key, words: &[u128]) -> Result<bool, AllocError> {
+fn is_taken(overlay: &mut Overlay<'_>, key: &Key, words: &[u128]) -> Result<bool, AllocError> {
     let taken = overlay.take(key)?;
     Ok(taken.is_some_and(|value| value.as_slice() == words))
 }
 
 // What a run reads of a value of one leaf.
-fn word(overlay: &mut Overlay, key: &Key) -> Option<u128> {
+fn word(overlay: &mut Overlay<'_>, key: &Key) -> Option<u128> {
     overlay.recall(key);
+    if overlay.len(key)? != 1 {
+        return None;
+    }
     match overlay.view(key, 0, 1) {
         Some([word]) => Some(*word),
         _ => None,
     }
+}
+
+// The leaves of a value from a place on, so many, if they are there.
+fn view<'a>(overlay: &'a Overlay<'_>, key: &Key, from: usize, width: usize) -> Option<&'a [u128]> {
+    let len = overlay.len(key)?;
+    if from > len || width > len - from {
+        return None;
+    }
+    overlay.view(key, from, width)
 }
 
 #[test]
@@ -90,22 +110,40 @@ fn values_have_their_words(rt: HostRuntime) -> Result<(), Fail> {
 fn runs_are_kept_and_given_up(rt: HostRuntime) -> Result<(), Fail> {
     let alloc = rt.alloc();
     let mut storage = Storage::new(alloc);
-    assert!(rt; run(&mut storage, alloc, FIRST, Value::leaf(5))?);
-    assert!(rt; !run(&mut storage, alloc, FIRST, Value::leaf(6))?);
-    let storage = try_out(storage, &FIRST, &[8]);
+    assert!(rt; run(&mut storage, FIRST, Value::leaf(5))?);
+    assert!(rt; !run(&mut storage, FIRST, Value::leaf(6))?);
+    try_out(&mut storage, &FIRST, &[8]);
     assert!(rt; storage.get(&SECOND).is_none());
     let mut overlay = storage.overlay();
     assert!(rt; is_taken(&mut overlay, &FIRST, &[5])?);
     assert!(rt; !overlay.exists(&FIRST));
-    assert!(rt; overlay.put(FIRST, Value::leaf(4))?);
-    assert_eq!(rt; overlay.discard().get(&FIRST), Some([5].as_slice()));
+    assert!(rt; put(&mut overlay, FIRST, Value::leaf(4))?);
+    overlay.discard();
+    assert_eq!(rt; storage.get(&FIRST), Some([5].as_slice()));
     // What is put and given up.
-    let mut overlay = Storage::new(alloc).overlay();
-    assert!(rt; overlay.put(FIRST, Value::leaf(5))?);
-    assert!(rt; overlay.put(SECOND, Value::words([1, 2].to_vec(alloc)?))?);
-    let storage = overlay.discard();
+    let mut storage = Storage::new(alloc);
+    let mut overlay = storage.overlay();
+    assert!(rt; put(&mut overlay, FIRST, Value::leaf(5))?);
+    assert!(rt; put(&mut overlay, SECOND, Value::words([1, 2].to_vec(alloc)?))?);
+    overlay.discard();
     assert!(rt; storage.get(&FIRST).is_none() && storage.get(&SECOND).is_none());
     assert!(rt; storage.iter().next().is_none());
+    Ok(())
+}
+
+// What is committed stays, whatever the overlay makes of it after.
+#[test]
+fn commits_are_kept_one_by_one(rt: HostRuntime) -> Result<(), Fail> {
+    let alloc = rt.alloc();
+    let mut storage = Storage::new(alloc);
+    let mut overlay = storage.overlay();
+    assert!(rt; put(&mut overlay, FIRST, Value::leaf(5))?);
+    overlay.commit()?;
+    assert!(rt; is_taken(&mut overlay, &FIRST, &[5])?);
+    assert!(rt; put(&mut overlay, SECOND, Value::leaf(6))?);
+    overlay.discard();
+    assert_eq!(rt; storage.get(&FIRST), Some([5].as_slice()));
+    assert!(rt; storage.get(&SECOND).is_none());
     Ok(())
 }
 
@@ -114,34 +152,38 @@ fn values_are_edited_in_place(rt: HostRuntime) -> Result<(), Fail> {
     let alloc = rt.alloc();
     let mut storage = Storage::new(alloc);
     let value = Value::words([1, 2, 3].to_vec(alloc)?);
-    assert!(rt; run(&mut storage, alloc, FIRST, value)?);
+    assert!(rt; run(&mut storage, FIRST, value)?);
     let mut overlay = storage.overlay();
     assert!(rt; overlay.edit(&FIRST, 1, &[7, 8])?);
     assert!(rt; overlay.edit(&FIRST, 0, &[6])?);
     assert!(rt; !overlay.edit(&FIRST, 2, &[0, 0])?);
     assert!(rt; !overlay.edit(&SECOND, 0, &[0])?);
-    assert_eq!(rt; overlay.view(&FIRST, 0, 3), Some([6, 7, 8].as_slice()));
-    assert!(rt; overlay.view(&FIRST, 2, 2).is_none());
+    assert_eq!(rt; view(&overlay, &FIRST, 0, 3), Some([6, 7, 8].as_slice()));
+    assert!(rt; view(&overlay, &FIRST, 2, 2).is_none());
     assert!(rt; overlay.key_at(7, 0, 0) == Some(FIRST));
     assert!(rt; overlay.key_at(7, 65536, 0).is_none());
-    assert_eq!(rt; overlay.commit().get(&FIRST), Some([6, 7, 8].as_slice()));
+    overlay.commit()?;
+    overlay.discard();
+    assert_eq!(rt; storage.get(&FIRST), Some([6, 7, 8].as_slice()));
     Ok(())
 }
 
 #[test]
 fn values_are_put_and_taken_again(rt: HostRuntime) -> Result<(), Fail> {
     let alloc = rt.alloc();
-    let mut overlay = Storage::new(alloc).overlay();
-    assert!(rt; overlay.put(FIRST, Value::leaf(5))?);
-    assert!(rt; overlay.put(SECOND, Value::words([1, 2].to_vec(alloc)?))?);
-    assert!(rt; !overlay.put(SECOND, Value::leaf(0))?);
+    let mut storage = Storage::new(alloc);
+    let mut overlay = storage.overlay();
+    assert!(rt; put(&mut overlay, FIRST, Value::leaf(5))?);
+    assert!(rt; put(&mut overlay, SECOND, Value::words([1, 2].to_vec(alloc)?))?);
+    assert!(rt; !put(&mut overlay, SECOND, Value::leaf(0))?);
     assert!(rt; overlay.edit(&FIRST, 0, &[6])?);
     assert!(rt; overlay.edit(&SECOND, 1, &[9])?);
     assert!(rt; is_taken(&mut overlay, &FIRST, &[6])?);
     assert!(rt; overlay.take(&FIRST)?.is_none());
-    assert!(rt; overlay.put(FIRST, Value::leaf(7))?);
+    assert!(rt; put(&mut overlay, FIRST, Value::leaf(7))?);
     assert!(rt; is_taken(&mut overlay, &SECOND, &[1, 9])?);
-    let storage = overlay.commit();
+    overlay.commit()?;
+    overlay.discard();
     assert!(rt; storage.get(&SECOND).is_none());
     assert_eq!(rt; storage.get(&FIRST), Some([7].as_slice()));
     Ok(())
@@ -150,9 +192,10 @@ fn values_are_put_and_taken_again(rt: HostRuntime) -> Result<(), Fail> {
 // Each key has its own value, whichever was looked up before it.
 #[test]
 fn keys_follow_one_another(rt: HostRuntime) -> Result<(), Fail> {
-    let mut overlay = Storage::new(rt.alloc()).overlay();
+    let mut storage = Storage::new(rt.alloc());
+    let mut overlay = storage.overlay();
     for (key, value) in VALUES {
-        assert!(rt; overlay.put(key, Value::leaf(value))?);
+        assert!(rt; put(&mut overlay, key, Value::leaf(value))?);
     }
     for (one, value) in VALUES {
         for (other, other_value) in VALUES {
@@ -171,7 +214,7 @@ fn keys_follow_one_another(rt: HostRuntime) -> Result<(), Fail> {
 fn keys_are_used_again(rt: HostRuntime) -> Result<(), Fail> {
     let alloc = rt.alloc();
     let mut storage = Storage::new(alloc);
-    assert!(rt; run(&mut storage, alloc, FIRST, Value::leaf(5))?);
+    assert!(rt; run(&mut storage, FIRST, Value::leaf(5))?);
     let mut overlay = storage.overlay();
     assert_eq!(rt; word(&mut overlay, &FIRST), Some(5));
     assert!(rt; overlay.edit(&FIRST, 0, &[6])?);
@@ -180,16 +223,16 @@ fn keys_are_used_again(rt: HostRuntime) -> Result<(), Fail> {
     assert!(rt; !overlay.edit(&FIRST, 0, &[7])?);
     assert!(rt; !overlay.exists(&FIRST));
     assert!(rt; overlay.take(&FIRST)?.is_none());
-    assert!(rt; overlay.put(FIRST, Value::leaf(8))?);
-    assert!(rt; !overlay.put(FIRST, Value::leaf(9))?);
-    assert!(rt; overlay.put(SECOND, Value::leaf(10))?);
+    assert!(rt; put(&mut overlay, FIRST, Value::leaf(8))?);
+    assert!(rt; !put(&mut overlay, FIRST, Value::leaf(9))?);
+    assert!(rt; put(&mut overlay, SECOND, Value::leaf(10))?);
     assert_eq!(rt; word(&mut overlay, &FIRST), Some(8));
     assert!(rt; overlay.take(&SECOND)?.is_some());
-    assert!(rt; !overlay.put(FIRST, Value::leaf(11))?);
+    assert!(rt; !put(&mut overlay, FIRST, Value::leaf(11))?);
     // The second goes, and its place is given to another key.
-    let mut overlay = overlay.commit().overlay();
+    overlay.commit()?;
     assert!(rt; !overlay.exists(&SECOND));
-    assert!(rt; overlay.put(THIRD, Value::leaf(12))?);
+    assert!(rt; put(&mut overlay, THIRD, Value::leaf(12))?);
     assert_eq!(rt; word(&mut overlay, &SECOND), None);
     assert_eq!(rt; word(&mut overlay, &FIRST), Some(8));
     assert_eq!(rt; word(&mut overlay, &THIRD), Some(12));

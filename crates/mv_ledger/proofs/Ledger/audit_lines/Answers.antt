@@ -4,7 +4,7 @@ use Rattle.mv_ledger.proofs.Ledger.audit_lines.Goals as goal
 
 pub returns-in_default : goal.returns-in_default
 returns-in_default c =
-    let held : LedgerView = view_of c.self.inside.store c.self.inside.storage (all_of c.self.inside.tallies) c.self.inside.runs in
+    let held : LedgerView = view_of c.self.inside.store c.self.inside.storage.committed (all_of c.self.inside.tallies) c.self.inside.runs in
     subst (λ (v : LedgerView). Replies 4 c.args.payload.now (Some (ToldRefused 1)) v v) c.self.view_is
     (unasked_replies 4 c.args.payload.now held (omega arith) c.in_default.ensures c.self.invariant.sound)
 
@@ -16,13 +16,13 @@ of_tallies-requires-clause-few c =
 
 pub returns-in-Text : goal.returns-in-Text
 returns-in-Text c =
-    let held : LedgerView = view_of c.self.inside.store c.self.inside.storage (all_of c.self.inside.tallies) c.self.inside.runs in
+    let held : LedgerView = view_of c.self.inside.store c.self.inside.storage.committed (all_of c.self.inside.tallies) c.self.inside.runs in
     subst (λ (v : LedgerView). Replies 4 c.args.payload.now (Some (ToldLines c.of_tallies.result)) v v) c.self.view_is
     (audit_replies c.args.payload.now held AsText c.of_tallies.result (rw c.in-Text.is at c.in-Some.ensures) c.self.invariant.sound (c.of_tallies.ensures ∙ audit-lines held c.self.invariant.sound))
 
 pub returns-in_ok-text-in-Json : goal.returns-in_ok-text-in-Json
 returns-in_ok-text-in-Json c =
-    let held : LedgerView = view_of c.self.inside.store c.self.inside.storage (all_of c.self.inside.tallies) c.self.inside.runs in
+    let held : LedgerView = view_of c.self.inside.store c.self.inside.storage.committed (all_of c.self.inside.tallies) c.self.inside.runs in
     subst (λ (v : LedgerView). Replies 4 c.args.payload.now (Some (ToldLines c.of_text.result)) v v) c.self.view_is
     (audit_replies c.args.payload.now held AsJson c.of_text.result (rw c.in-Json.is at c.in-Some.ensures) c.self.invariant.sound
     (c.of_text.ensures ∙ ap (λ text. text ∷ []) (c.in_ok-text-in-Json.ensures ∙ audit-json held c.self.invariant.sound)))

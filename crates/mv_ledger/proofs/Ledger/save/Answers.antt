@@ -13,5 +13,5 @@ text_of-requires-clause-writable c = all-writable c.self.inside.runs (all_of c.s
 
 pub returns : goal.returns
 returns c =
-    saved-so c.text_of.result c.self.inside.runs c.self.inside.store c.self.inside.storage (all_of c.self.inside.tallies) c.args.self.now c.self.view_is c.is_sound.ensures c.is_savable.ensures
+    saved-so c.text_of.result c.self.inside.runs c.self.inside.store c.self.inside.storage.committed (all_of c.self.inside.tallies) c.args.self.now c.self.view_is c.is_sound.ensures c.is_savable.ensures
     c.text_of.ensures

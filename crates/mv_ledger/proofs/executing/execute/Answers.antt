@@ -1,8 +1,8 @@
-use Rattle.mv_ledger.proofs.Common.{◌+◌, ◌-◌, ◌^◌, ◌∙◌, ◌≡◌, List, ap, map, rules, subst, sym, All, StructTally, FlatEntry, RunOutcome, tables_in, Agrees, AtMost, IsFineWords, tally_after}
+use Rattle.mv_ledger.proofs.Common.{◌+◌, ◌-◌, ◌^◌, ◌∙◌, ◌≡◌, List, ap, map, refl, rules, subst, sym, All, StructTally, Layers, FlatEntry, tables_in, AtMost, IsFineWords, tally_after}
 use Rattle.mv_ledger.proofs.Common.{AreCountable, AreScarce, IsNamed, IsSmall, all_of, Tally}
 use Rattle.mv_machine.specs.declared.Ending.TheVariants.{Returned}
 use Rattle.mv_ledger.proofs.Runs.Countable.{all-countable-kept, run-countable}
-use Rattle.mv_ledger.proofs.Runs.StoredRuns.{run-same, tallied-after, settled-returned, settled-kept, small-kept}
+use Rattle.mv_ledger.proofs.Runs.StoredRuns.{tallied-after, settled-returned, settled-kept, small-kept}
 use Rattle.mv_ledger.proofs.Runs.ScarceTallies.{all-scarce, scarce-ordered}
 use Rattle.mv_ledger.proofs.Runs.TalliesAfter.{named-after, most-after, small-after, scarce-after}
 use Rattle.mv_ledger.proofs.executing.execute.Goals as goal
@@ -17,20 +17,11 @@ add_run-requires-clause-few c =
     (most-after c.args.call.now.budget c.in-Ok.tally.items c.in-Ok.ensures.few c.requires.budget).1
 
 pub returns-after-eq-clause-stored : goal.returns-after-eq-clause-stored
-returns-after-eq-clause-stored c =
-    elim c.if-eq.branch [
-      | then-eq w ↦
-          let ended : c.in-Ok.outcome.ending ≡ Returned = search rules in
-          let e : c.if-eq.storage ≡ c.run.new.o.current = cc in
-          subst (λ (z : List FlatEntry). All (IsFineWords (tables_in c.args.store.now)) z) (sym e) (c.in-Ok.ensures.fine ended)
-      | else-eq w ↦
-          let e : c.if-eq.storage ≡ c.args.storage.now = cc in
-          subst (λ (z : List FlatEntry). All (IsFineWords (tables_in c.args.store.now)) z) (sym e) c.requires.stored
-    ]
+returns-after-eq-clause-stored c = c.in-Ok.ensures.fine
 
 pub returns-in-Err-Memory-clause-stored : goal.returns-in-Err-Memory-clause-stored
 returns-in-Err-Memory-clause-stored c =
-    let e : c.discard-in-Err-Memory.result ≡ c.args.storage.now = cc in
+    let e : c.run_over.new.storage.committed ≡ c.args.storage.now.committed = cc in
     subst (λ (z : List FlatEntry). All (IsFineWords (tables_in c.args.store.now)) z) (sym e) c.requires.stored
 
 pub returns-after-eq-clause-named : goal.returns-after-eq-clause-named
@@ -66,35 +57,28 @@ returns-after-eq-clause-scarce c =
 
 pub returns-after-eq-clause-countable : goal.returns-after-eq-clause-countable
 returns-after-eq-clause-countable c =
-    let had = all-countable-kept c.args.counters.now c.run.new.counters c.args.tallies.now c.run.ensures.kept c.requires.countable in
+    let had = all-countable-kept c.args.counters.now c.run_over.new.counters c.args.tallies.now c.run_over.ensures.kept c.requires.countable in
     elim c.if-eq.branch [
-      | then-eq w ↦ subst (AreCountable c.run.new.counters) (sym (w.tallies-is ∙ w.add_run.ensures)) (run-countable c.run.new.counters w.deref-then-eq.result.now c.args.tallies.now had)
+      | then-eq w ↦ subst (AreCountable c.run_over.new.counters) (sym (w.tallies-is ∙ w.add_run.ensures)) (run-countable c.run_over.new.counters w.deref-then-eq.result.now c.args.tallies.now had)
       | else-eq w ↦ rw w.tallies-is had
     ]
 
 pub returns-in-Err-Memory-clause-countable : goal.returns-in-Err-Memory-clause-countable
-returns-in-Err-Memory-clause-countable c = all-countable-kept c.args.counters.now c.run.new.counters c.args.tallies.now c.run.ensures.kept c.requires.countable
+returns-in-Err-Memory-clause-countable c = all-countable-kept c.args.counters.now c.run_over.new.counters c.args.tallies.now c.run_over.ensures.kept c.requires.countable
 
 pub returns-after-eq-clause-settled : goal.returns-after-eq-clause-settled
 returns-after-eq-clause-settled c =
+    let layers : Layers = record { committed = c.args.storage.now.committed; current = c.run_over.new.storage.committed } in
     elim c.if-eq.branch [
       | then-eq w ↦
           let after : all_of c.if-eq.tallies ≡ map (tally_after c.in-Ok.tally.items) (all_of c.args.tallies.now) =
           ap all_of w.tallies-is ∙ tallied-after c.in-Ok.tally.items w.deref-then-eq.result.now c.args.tallies.now w.add_run.new.self w.add_run.ensures w.deref-then-eq.ensures.value in
-          let agrees = subst (λ (o : RunOutcome). Agrees (tables_in c.args.store.now) o c.in-Ok.outcome c.in-Ok.tally.items c.run.new.o)
-          (run-same c.args.store.now c.args.call.now c.args.storage.now c.if-eq.storage (all_of c.args.tallies.now) (all_of c.if-eq.tallies) c.overlay-overlay.result.current c.deref.result.now
-          (c.overlay-overlay.ensures.current ∙ c.replace.ensures.value) c.deref.ensures.value) c.in-Ok.ensures.machine in
           let ended : c.in-Ok.outcome.ending ≡ Returned = search rules in
-          let e : c.if-eq.storage ≡ c.run.new.o.current = cc in
-          settled-returned c.args.store.now c.args.call.now c.args.storage.now c.if-eq.storage (all_of c.args.tallies.now) (all_of c.if-eq.tallies) c.in-Ok.outcome c.in-Ok.tally.items c.run.new.o
+          settled-returned c.args.store.now c.args.call.now c.args.storage.now.committed c.run_over.new.storage.committed (all_of c.args.tallies.now) (all_of c.if-eq.tallies) c.in-Ok.outcome c.in-Ok.tally.items layers
           c.requires.named
-          (all-scarce (tables_in c.args.store.now) c.args.tallies.now c.requires.scarce c.len-modules.ensures.placed) agrees ended e after
+          (all-scarce (tables_in c.args.store.now) c.args.tallies.now c.requires.scarce c.len-modules.ensures.placed) c.in-Ok.ensures.machine ended refl after
       | else-eq w ↦
-          let agrees = subst (λ (o : RunOutcome). Agrees (tables_in c.args.store.now) o c.in-Ok.outcome c.in-Ok.tally.items c.run.new.o)
-          (run-same c.args.store.now c.args.call.now c.args.storage.now c.if-eq.storage (all_of c.args.tallies.now) (all_of c.if-eq.tallies) c.overlay-overlay.result.current c.deref.result.now
-          (c.overlay-overlay.ensures.current ∙ c.replace.ensures.value) c.deref.ensures.value) c.in-Ok.ensures.machine in
           let other : c.in-Ok.outcome.ending ≡ Returned → ⊥ = search rules in
-          let e : c.if-eq.storage ≡ c.args.storage.now = cc in
-          settled-kept c.args.store.now c.args.call.now c.args.storage.now c.if-eq.storage (all_of c.args.tallies.now) (all_of c.if-eq.tallies) c.in-Ok.outcome c.in-Ok.tally.items c.run.new.o agrees
-          other e (ap all_of w.tallies-is)
+          settled-kept c.args.store.now c.args.call.now c.args.storage.now.committed c.run_over.new.storage.committed (all_of c.args.tallies.now) (all_of c.if-eq.tallies) c.in-Ok.outcome c.in-Ok.tally.items layers
+          c.in-Ok.ensures.machine other (c.in-Ok.ensures.other other) (ap all_of w.tallies-is)
     ]

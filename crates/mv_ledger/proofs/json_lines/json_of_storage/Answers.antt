@@ -12,7 +12,7 @@ each-plain published store (e ∷ es) = (((refl, plain-address e.key.address), (
 pub returns-in-Ok : goal.returns-in-Ok
 returns-in-Ok c =
     let published : List PublishedModule = c.args.store.now in
-    let entries : Storage = storage_of (tables_in published) c.args.storage.now in
+    let entries : Storage = storage_of (tables_in published) c.args.storage.now.committed in
     let sent = c.in-Ok.ensures.events in
     IfOk-weaker c.in_line.result _ _
     (λ line is. is ∙ ap (λ (l : List ℕ). codes "json " ++ l) (report_text (codes "show") (map (entry_data (tables_in published)) entries) sent.0 c.in-Ok.json.items sent.1 sent.2 (objects_whole (entry_texts (tables_in published)) entries))

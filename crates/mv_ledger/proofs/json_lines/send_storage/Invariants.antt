@@ -8,7 +8,7 @@ abbrev pub invariant-each : goal.invariant-each
 invariant-each g l =
     let modules = tables_in l.fn.store in
     (end : Log) → SendsItems (items_of (map (entry_data modules) (storage_of modules l.entries))) (g.S.Serializer.written l.out) end
-    → SendsItems (items_of (map (entry_data modules) (storage_of modules l.fn.storage))) (g.S.Serializer.written l.fn.out) end
+    → SendsItems (items_of (map (entry_data modules) (storage_of modules l.fn.storage.committed))) (g.S.Serializer.written l.fn.out) end
 
 abbrev pub decreases-each : goal.decreases-each
 decreases-each g l = length l.entries

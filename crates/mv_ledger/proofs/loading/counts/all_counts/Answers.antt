@@ -6,7 +6,7 @@ use Rattle.mv_ledger.proofs.loading.counts.all_counts.Goals.{then-n-gt0, else-n-
 pub each-preserved : goal.each-preserved
 each-preserved c =
     let ms = c.args.layouts.now in
-    let es = c.args.storage.now in
+    let es = c.args.storage.now.committed in
     let ds = c.keyed-d-items.result.now in
     let z : Definition = record { place = 0; index = 0 } in
     let is_so = λ (rows : List (List ℕ)). IsAdding ms es (take (c.each.d-index + 1) ds) rows in
@@ -22,4 +22,4 @@ each-preserved c =
 
 pub returns : goal.returns
 returns c =
-    add-all c.args.layouts.now c.len-modules.ensures.store c.args.storage.now c.requires c.keyed-d-items.result.now c.each.d-index c.each.counts c.keyed-d-items.ensures (omega arith) c.each.invariant
+    add-all c.args.layouts.now c.len-modules.ensures.store c.args.storage.now.committed c.requires c.keyed-d-items.result.now c.each.d-index c.each.counts c.keyed-d-items.ensures (omega arith) c.each.invariant

@@ -3,4 +3,4 @@ use Rattle.mv_ledger.proofs.Loads.CountedStructs.{IsAdding}
 use Rattle.mv_ledger.proofs.loading.counts.all_counts.Given as goal
 
 abbrev pub invariant-each : goal.invariant-each
-invariant-each l = IsAdding l.layouts l.storage (take l.d-index l.d-items) l.counts
+invariant-each l = IsAdding l.layouts l.storage.committed (take l.d-index l.d-items) l.counts

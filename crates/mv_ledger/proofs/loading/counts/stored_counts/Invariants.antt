@@ -3,7 +3,7 @@ use Rattle.mv_ledger.proofs.Loads.CountedStructs.{IsCounting}
 use Rattle.mv_ledger.proofs.loading.counts.stored_counts.Given as goal
 
 abbrev pub invariant-each : goal.invariant-each
-invariant-each l = IsCounting l.layouts l.fn.storage l.entries l.counts
+invariant-each l = IsCounting l.layouts l.fn.storage.committed l.entries l.counts
 
 abbrev pub decreases-each : goal.decreases-each
 decreases-each l = length l.entries

@@ -1,0 +1,234 @@
+// Storage: values under keys, and what a run at work has made of them.
+ghost use Rattle.std.specs.Prelude.{◌≡◌, ◌<◌, ◌≤◌, ◌+◌, ◌^◌, length, take, drop, [], None, is_some, IfOk, IfSome, OnOk, OnErr, MatchOption, option_copied, option_and_then, option_map};
+ghost use Rattle.mv_storage.specs.WordLists.{spliced};
+ghost use Rattle.mv_storage.specs.FlatStorage.{words_under, with_words, without_words};
+ghost use Rattle.mv_storage.specs.Map.{overwritten, Ascends};
+ghost use Rattle.mv_storage.specs.Slots.{seen};
+
+use crate::places::Places;
+use crate::slot::Layer;
+use crate::slots::{edit_in, put_into, settle, take_from};
+use crate::{Entries, Overlay, Value};
+use mv_move_types::Key;
+use std::alloc::{AllocError, Global};
+use std::marker::Model;
+
+/// Values, each under its key. A contract sees those that are committed, and what the run at work has made of them by now:
+/// each is the list of entries by ascending key, every value as its words.
+#[derive(Drop)]
+pub struct Storage {
+    places: Places,
+    touched: Vec<(Key, usize)>,
+    // the key that was looked up last, and its place
+    last: Option<(Key, usize)>,
+    alloc: Global,
+}
+
+impl Model for Storage {
+    ghost use Rattle.mv_storage.specs.Map.{Layers};
+
+    ghost Value = { Layers };
+
+    ghost use Rattle.mv_storage.specs.Slots.{layers, IsTracked, IsRemembered};
+
+    ghost view = { λ s. layers s.places };
+
+    ghost invariant = { λ s. IsTracked s.places s.touched.items × IsRemembered s.places.tree s.last };
+}
+
+// The words so far after a place, so many.
+#[inline]
+fn part(words: &[u128], from: usize, width: usize) -> &[u128]
+    requires { from + width ≤ length words.now }
+    ensures { result.now ≡ take width (drop from words.now) }
+{
+    &words[from..from + width]
+}
+
+impl Storage {
+    /// Storage with nothing in it.
+    pub fn new(alloc: Global) -> Self
+        ensures committed { result.committed ≡ [] }
+        ensures current { result.current ≡ [] }
+    {
+        Storage {
+            places: Places::new(alloc),
+            touched: Vec::new(alloc),
+            last: None,
+            alloc,
+        }
+    }
+
+    // The allocator that it takes memory from.
+    pub(crate) fn allocator(&self) -> Global {
+        self.alloc
+    }
+
+    /// The committed words under a key.
+    pub fn get(&self, key: &Key) -> Option<&[u128]>
+        ensures { option_copied result ≡ words_under self.now.committed key.now }
+    {
+        match self.places.find(key) {
+            Some(slot) => slot.committed(),
+            None => None,
+        }
+    }
+
+    /// The committed values by ascending key.
+    pub fn iter(&self) -> Entries<'_>
+        ensures value { result ≡ self.entry.now.committed }
+        ensures few { length self.entry.now.committed < 2 ^ 63 }
+    {
+        Entries {
+            places: self.places.tree.iter(),
+            slots: self.places.slots.as_slice(),
+        }
+    }
+
+    /// For the prover: the keys of the committed values ascend.
+    pub fn is_ascending(&self)
+        ensures { Ascends self.now.committed }
+    {
+        let _places = &self.places;
+    }
+
+    /// The storage for a run to change. It is lent to the overlay, and holds what was committed by then once that is gone.
+    pub fn overlay(&mut self) -> Overlay<'_>
+        ensures loan { result.storage.ghost_name ≡ self.entry.ghost_name }
+        ensures committed { result.storage.now.committed ≡ self.old.committed }
+        ensures current { result.storage.now.current ≡ self.old.committed }
+    {
+        self.settle(Layer::Committed);
+        Overlay { storage: self }
+    }
+
+    // Remembers where the value under a key is, so that what follows with this key needs no search. Nothing else changes.
+    #[inline]
+    pub(crate) fn recall(&mut self, key: &Key)
+        ensures { self.new ≡ self.old }
+    {
+        self.places.recall(&mut self.last, key);
+    }
+
+    // The words that the run sees under a key.
+    #[inline]
+    pub(crate) fn find(&self, key: &Key) -> Option<&[u128]>
+        ensures { option_copied result ≡ words_under self.now.current key.now }
+    {
+        match self.places.find_known(&self.last, key) {
+            Some(slot) => slot.current(),
+            None => None,
+        }
+    }
+
+    // Whether the run sees a value under a key.
+    #[inline]
+    pub(crate) fn exists(&self, key: &Key) -> bool
+        ensures { result ≡ is_some (words_under self.now.current key.now) }
+    {
+        self.find(key).is_some()
+    }
+
+    // How many words the run sees under a key.
+    #[inline]
+    pub(crate) fn len(&self, key: &Key) -> Option<usize>
+        ensures { result ≡ option_map length (words_under self.now.current key.now) }
+    {
+        match self.find(key) {
+            Some(words) => Some(words.len()),
+            None => None,
+        }
+    }
+
+    // So many words from a place on, of those that the run sees under a key.
+    #[inline]
+    pub(crate) fn view(&self, key: &Key, from: usize, width: usize) -> Option<&[u128]>
+        requires { IfSome (words_under self.now.current key.now) (λ words. from + width ≤ length words) }
+        ensures { option_copied result ≡ option_map (λ words. take width (drop from words)) (words_under self.now.current key.now) }
+    {
+        match self.find(key) {
+            Some(words) => Some(part(words, from, width)),
+            None => None,
+        }
+    }
+
+    // The key of an address, a module's place and a definition's index, if it can be the key of a stored value.
+    #[inline(always)]
+    pub(crate) fn key_at(&self, address: u128, place: u128, index: u16) -> Option<Key>
+        ensures { MatchOption result
+            (words_under self.now.current (record { address = address; place = place; index = index }) ≡ None)
+            (λ k. k ≡ record { address = address; place = place; index = index }) }
+    {
+        let _ = &self.places;
+        if place > u16::MAX as u128 {
+            return None;
+        }
+        Some(Key {
+            address,
+            place: place as u16,
+            index,
+        })
+    }
+
+    // Puts words in place of as many from a place on, of those that the run sees under a key, and says whether so many were
+    // there; nothing changes where they were not. The first edit of a committed value copies it. It fails only where memory
+    // runs out, and nothing changes then.
+    #[inline(always)]
+    pub(crate) fn edit(&mut self, key: &Key, from: usize, new: &[u128]) -> Result<bool, AllocError>
+        ensures done { IfOk result (λ done. done ≡ is_some (option_and_then (spliced from new.now) (words_under self.old.current key.now))) }
+        ensures current { OnOk result (self.new.current ≡ overwritten self.old.current key.now from new.now) }
+        ensures committed { self.new.committed ≡ self.old.committed }
+        ensures err { OnErr result (self.new ≡ self.old) }
+    {
+        edit_in(
+            &mut self.places,
+            &mut self.touched,
+            &mut self.last,
+            key,
+            from,
+            new,
+            self.alloc,
+        )
+    }
+
+    // Takes the value under a key out of what the run sees. It fails only where memory runs out, and nothing changes then.
+    pub(crate) fn take(&mut self, key: &Key) -> Result<Option<Value>, AllocError>
+        ensures value { IfOk result (λ v. v ≡ words_under self.old.current key.now) }
+        ensures current { OnOk result (self.new.current ≡ without_words self.old.current key.now) }
+        ensures committed { self.new.committed ≡ self.old.committed }
+        ensures err { OnErr result (self.new ≡ self.old) }
+    {
+        take_from(
+            &mut self.places,
+            &mut self.touched,
+            &mut self.last,
+            key,
+            self.alloc,
+        )
+    }
+
+    // Puts a value under a key where the run sees none. It fails only where memory runs out, and nothing changes then.
+    pub(crate) fn put(&mut self, key: Key, value: Value) -> Result<(), AllocError>
+        requires { words_under self.old.current key ≡ None }
+        ensures current { OnOk result (self.new.current ≡ with_words self.old.current key value) }
+        ensures committed { self.new.committed ≡ self.old.committed }
+        ensures err { OnErr result (self.new ≡ self.old) }
+    {
+        put_into(
+            &mut self.places,
+            &mut self.touched,
+            &mut self.last,
+            key,
+            value,
+        )
+    }
+
+    // Makes one layer the committed one, and goes on from there with nothing noted. It takes no memory.
+    pub(crate) fn settle(&mut self, layer: Layer)
+        ensures committed { self.new.committed ≡ seen layer self.old }
+        ensures current { self.new.current ≡ seen layer self.old }
+    {
+        settle(&mut self.places, &mut self.touched, layer);
+        self.last = None;
+    }
+}
