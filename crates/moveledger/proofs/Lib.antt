@@ -20,3 +20,4 @@ pub mod Proved
 pub mod Endings
 pub mod Beginnings
 pub mod Unloaded
+pub mod Marks

@@ -20,6 +20,15 @@ by-number bytes Body number n h = subst (FailsLoad bytes) (same_Some _ _ n) h
 by-number bytes Tally number n h = subst (FailsLoad bytes) (same_Some _ _ n) h
 by-number bytes Memory number n h = cc
 
+-- want of memory has no number
+pub no_number : (error : LoadError) (number : ℕ) → load_number error ≡ Some number → error ≡ Memory → ⊥
+no_number Head number n e = cc
+no_number Module number n e = cc
+no_number Link number n e = cc
+no_number Body number n e = cc
+no_number Tally number n e = cc
+no_number Memory number n e = cc
+
 -- what is printed of a reason with a number
 pub not_loaded-printed : {S A : Type 0} (bytes_of : S → List ℕ) (bytes : List ℕ) (error : LoadError) (number : ℕ) (made : Result S A)
     (held holds : Option (List ℕ)) (result : End) → load_number error ≡ Some number → IsLoadRefusal bytes error
@@ -36,3 +45,13 @@ pub not_loaded-some : (given : Option (List ℕ)) (bytes : List ℕ) (error : Lo
     → ((xs : List ℕ) → IsLoadRefusal xs error → IsNotLoaded xs held holds result) → IfSome given (λ xs. IsNotLoaded xs held holds result)
 not_loaded-some None bytes error held holds result read refused said = tt
 not_loaded-some (Some xs) bytes error held holds result read refused said = said xs (subst (λ (l : List ℕ). IsLoadRefusal l error) read refused)
+
+-- the same of one that gives what begins with no mark
+pub not_loaded-unmarked : (given : Option (List ℕ)) (held holds : Option (List ℕ)) (result : End) → IfSome given (λ xs. FailsLoad xs 1)
+    → ((xs : List ℕ) → IsLoadRefusal xs Head → IsNotLoaded xs held holds result) → IfSome given (λ xs. IsNotLoaded xs held holds result)
+not_loaded-unmarked None held holds result fails said = tt
+not_loaded-unmarked (Some xs) held holds result fails said = said xs fails
+
+-- what is known of an element that is there
+pub at_some : {A : Type 0} (P : A → Type 0) (o : Option A) (a : A) → o ≡ Some a → IfSome o P → P a
+at_some P o a is h = subst (λ p. IfSome p P) is h

@@ -41,6 +41,8 @@ end_after_check (Err refusal.Memory) = Memory
 abbrev pub end_after_keeping : {A : Type 0} → Result A KeepError → End
 end_after_keeping (Ok done) = Done
 end_after_keeping (Err keep.Write) = Write
+end_after_keeping (Err keep.NoLedger) = Write
+end_after_keeping (Err keep.InUse) = Write
 end_after_keeping (Err keep.Memory) = Memory
 
 -- the end where a command line isn't understood, or asks for help

@@ -78,7 +78,7 @@ pub fn end_of_keeping(kept: Result<(), KeepError>) -> End
 {
     match kept {
         Ok(()) => End::Done,
-        Err(KeepError::Write) => End::Write,
+        Err(KeepError::Write | KeepError::NoLedger | KeepError::InUse) => End::Write,
         Err(KeepError::Memory) => End::Memory,
     }
 }

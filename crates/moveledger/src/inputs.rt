@@ -1,26 +1,56 @@
-// What a file gives, read whole.
-ghost use Rattle.std.specs.Prelude.{◌≡◌, ◌⊎◌, IfErr, IfOk, IfSome, take};
+// What a file gives: all of it, its first bytes, or a saved ledger's text.
+ghost use Rattle.std.specs.Prelude.{◌≡◌, ◌⊎◌, ◌↔◌, ◌++◌, ◌≤◌, ◌<◌, IfErr, IfOk, IfSome, IsTrue, Ok, None, length, take};
+ghost use Rattle.std.specs.Io.KnownBytes.{Consumes, IsAtEnd};
+ghost use Rattle.std.specs.IoError.{error_kind};
+ghost use Rattle.mv_ledger.specs.Loading.{FailsLoad};
+ghost use Rattle.moveledger.specs.Saved.{IsMark};
 
 use crate::ending::End;
 use std::alloc::Global;
-use std::io::{ErrorKind, Read};
+use std::io::{self, ErrorKind, Read};
 
-/// All bytes that a reader gives. Room for so many is made first.
+/// How many bytes the mark has that a saved ledger begins with.
+pub const MARK: usize = 4;
+
+/// No saved ledger has so many bytes behind its mark: 4,096 modules with their certificates and tallies have less than 2^34, and
+/// 2^32 stored values, each of at most 256 leaves of 16 bytes with its key, less than 2^45.
+const MOST_BYTES: u64 = 1 << 45;
+
+/// The end where a read failed.
+fn end_of_read(error: &io::Error) -> End
+    ensures memory { error_kind error.now ≡ ErrorKind.OutOfMemory → result ≡ End.Memory }
+    ensures other { (result ≡ End.Read) ⊎ ((result ≡ End.Memory) × (error_kind error.now ≡ ErrorKind.OutOfMemory)) }
+{
+    if error.kind() == ErrorKind::OutOfMemory {
+        End::Memory
+    } else {
+        End::Read
+    }
+}
+
+/// Some bytes, and behind them all that a reader gives. Room for so many is made first.
 ///
 /// # Errors
 ///
 /// `Read` if a read failed; `Memory` if an allocation failed.
-pub fn all_bytes<R: Read + Drop>(alloc: Global, mut reader: R, room: usize) -> Result<Vec<u8>, End>
-    ensures bytes { IfOk result (λ v. IfSome (R.remaining reader) (λ xs. v.items ≡ xs)) }
+fn with_rest<R: Read + Drop>(
+    alloc: Global,
+    front: &[u8],
+    mut reader: R,
+    room: usize,
+) -> Result<Vec<u8>, End>
+    ensures bytes { IfOk result (λ v. IfSome (R.remaining reader) (λ xs. v.items ≡ front.now ++ xs)) }
     ensures err { IfErr result (λ e. (e ≡ End.Read) ⊎ (e ≡ End.Memory)) }
 {
     let Ok(mut bytes) = Vec::with_capacity(alloc, room) else {
         return Err(End::Memory);
     };
+    if bytes.extend_from_slice(front).is_err() {
+        return Err(End::Memory);
+    }
     match reader.read_to_end(&mut bytes) {
         Ok(_) => Ok(bytes),
-        Err(e) if e.kind() == ErrorKind::OutOfMemory => Err(End::Memory),
-        Err(_) => Err(End::Read),
+        Err(e) => Err(end_of_read(&e)),
     }
 }
 
@@ -28,10 +58,68 @@ pub fn all_bytes<R: Read + Drop>(alloc: Global, mut reader: R, room: usize) -> R
 ///
 /// # Errors
 ///
-/// As `all_bytes`.
+/// `Read` if a read failed; `Memory` if an allocation failed.
 pub fn first_bytes<R: Read + Drop>(alloc: Global, reader: R, most: u64) -> Result<Vec<u8>, End>
     ensures bytes { IfOk result (λ v. IfSome (R.remaining reader) (λ xs. v.items ≡ take most xs)) }
     ensures err { IfErr result (λ e. (e ≡ End.Read) ⊎ (e ≡ End.Memory)) }
 {
-    all_bytes(alloc, reader.take(most), 0)
+    with_rest(alloc, &[], reader.take(most), 0)
+}
+
+/// Fills the buffer, and returns how much was there.
+pub fn filled<R: Read>(reader: &mut R, buffer: &mut [u8]) -> io::Result<usize>
+    ensures within { IfOk result (λ n. n ≤ length buffer.new) }
+    ensures taken { IfOk result (λ n. Consumes (R.remaining reader.old) (R.remaining reader.new) (take n buffer.new)) }
+    ensures end { IfOk result (λ n. n < length buffer.new → IsAtEnd (R.remaining reader.new)) }
+{
+    let mut filled = 0;
+    while filled < buffer.len() {
+        match reader.read(&mut buffer[filled..]) {
+            Ok(0) => return Ok(filled),
+            Ok(n) => filled += n,
+            Err(e) => return Err(e),
+        }
+    }
+    Ok(filled)
+}
+
+/// Whether these are the bytes that a saved ledger of either form begins with.
+pub fn is_mark(bytes: &[u8]) -> bool
+    ensures { IsTrue result ↔ IsMark bytes.now }
+{
+    matches!(bytes, b"MVL1" | b"MVL2")
+}
+
+/// All bytes that a reader gives, of which so many are expected, if they begin with a ledger's mark. Otherwise no more of them
+/// are read.
+///
+/// # Errors
+///
+/// `Read` if a read failed; `Memory` if an allocation failed, or if more bytes come than any saved ledger has.
+pub fn ledger_bytes<R: Read + Drop>(
+    alloc: Global,
+    mut reader: R,
+    expected: usize,
+) -> Result<Option<Vec<u8>>, End>
+    ensures marked { IfOk result (λ found. IfSome found (λ v. IfSome (R.remaining reader) (λ xs. v.items ≡ xs))) }
+    ensures unmarked { result ≡ Ok None → IfSome (R.remaining reader) (λ xs. FailsLoad xs 1) }
+    ensures err { IfErr result (λ e. (e ≡ End.Read) ⊎ (e ≡ End.Memory)) }
+{
+    let mut front = [0u8; MARK];
+    let n = match filled(&mut reader, &mut front) {
+        Ok(n) => n,
+        Err(e) => return Err(end_of_read(&e)),
+    };
+    let mark = &front[..n];
+    if !is_mark(mark) {
+        return Ok(None);
+    }
+    if expected as u64 > MOST_BYTES {
+        return Err(End::Memory);
+    }
+    let bytes = with_rest(alloc, mark, reader.take(MOST_BYTES), expected)?;
+    if bytes.len() as u64 > MOST_BYTES {
+        return Err(End::Memory);
+    }
+    Ok(Some(bytes))
 }

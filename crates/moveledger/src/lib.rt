@@ -19,8 +19,10 @@ mod checking;
 mod command_line;
 mod continuing;
 mod ending;
+mod holding;
 mod inputs;
 mod keeping;
+mod leftovers;
 mod modules;
 mod pacing;
 mod printing;
@@ -38,7 +40,8 @@ pub use ending::{
     End, end_of, end_of_check, end_of_keeping, end_of_proof, end_of_words, ended, fault_text,
     status,
 };
-pub use keeping::keep;
+pub use holding::{Before, Hold, Place, Seen, is_one};
+pub use keeping::{keep, may_keep};
 pub use pacing::{AfterRecord, Gathering, Prompt};
 pub use proving::prove_text;
 pub use reporting::report;

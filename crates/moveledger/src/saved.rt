@@ -10,7 +10,7 @@ ghost use Rattle.moveledger.specs.declared.saved.KeepError.{KeepError};
 
 use crate::authoring::printed;
 use crate::ending::{End, end_of_keeping};
-use crate::inputs::all_bytes;
+use crate::inputs::ledger_bytes;
 use crate::printing::load_refused_line;
 use mv_ledger::{Ledger, LoadError};
 use std::alloc::{AllocError, Global};
@@ -23,6 +23,12 @@ pub enum KeepError {
     /// The file can't be made, written, synced or put into its place.
     #[error("fault: write")]
     Write,
+    /// What stands there is no saved ledger, and isn't empty.
+    #[error("fault: write")]
+    NoLedger,
+    /// What stands there is a ledger that another program has in use.
+    #[error("fault: write")]
+    InUse,
     /// An allocation failed.
     #[error("fault: memory")]
     Memory,
@@ -56,8 +62,8 @@ impl From<io::Error> for KeepError {
     }
 }
 
-/// The ledger that a reader gives, of which so many bytes are expected. Where it isn't loaded, what there is to say of it is
-/// printed, and how that ended is the error.
+/// The ledger that a reader gives, of which so many bytes are expected. No more than its first four bytes are read where these
+/// are no mark of a saved ledger. Where it isn't loaded, what there is to say of it is printed, and how that ended is the error.
 pub fn loaded<R: Read + Drop, W: Write>(
     alloc: Global,
     text: R,
@@ -69,7 +75,9 @@ pub fn loaded<R: Read + Drop, W: Write>(
     ensures refused { IfErr result (λ end. IfSome (R.remaining text) (λ bytes.
         IsNotLoaded bytes (W.contents writer.old) (W.contents writer.new) end)) }
 {
-    let bytes = all_bytes(alloc, text, expected)?;
+    let Some(bytes) = ledger_bytes(alloc, text, expected)? else {
+        return Err(not_loaded(alloc, writer, LoadError::Head));
+    };
     match Ledger::load(alloc, &bytes) {
         Ok(ledger) => Ok(ledger),
         Err(error) => Err(not_loaded(alloc, writer, error)),
@@ -124,7 +132,9 @@ pub fn migrated<R: Read + Drop, W: Write>(
     ensures refused { IfErr result (λ end. IfSome (R.remaining old) (λ bytes.
         IsNotLoaded bytes (W.contents writer.old) (W.contents writer.new) end)) }
 {
-    let bytes = all_bytes(alloc, old, expected)?;
+    let Some(bytes) = ledger_bytes(alloc, old, expected)? else {
+        return Err(not_loaded(alloc, writer, LoadError::Head));
+    };
     match mv_ledger::migrate(alloc, &bytes) {
         Ok(new) => Ok(new),
         Err(error) => Err(not_loaded(alloc, writer, error)),
@@ -133,8 +143,9 @@ pub fn migrated<R: Read + Drop, W: Write>(
 
 /// Prints why a ledger isn't loaded, and says how that ended.
 fn not_loaded<W: Write>(alloc: Global, writer: &mut W, error: LoadError) -> End
-    ensures { (bytes : List ℕ) → IsLoadRefusal bytes error
+    ensures refused { (bytes : List ℕ) → IsLoadRefusal bytes error
         → IsNotLoaded bytes (W.contents writer.old) (W.contents writer.new) result }
+    ensures memory { error ≡ LoadError.Memory → (result ≡ End.Memory) × (W.contents writer.new ≡ W.contents writer.old) }
 {
     match error.number() {
         None => End::Memory,

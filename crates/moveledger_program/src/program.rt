@@ -6,12 +6,14 @@ use crate::kinds::{FRONT, Kind, kind_of};
 use crate::meter::{Counted, Meter, Report, Screen, Whole};
 use crate::told::Told;
 use moveledger::{
-    AfterRecord, End, Gathering, LineError, Prompt, Task, check_module, command, end_of_text,
-    end_of_words, ended, keep, loaded, migrated, not_text, prove_module, report, text_to_keep,
+    AfterRecord, Before, End, Gathering, Hold, KeepError, LineError, Place, Prompt, Seen, Task,
+    check_module, command, end_of_keeping, end_of_text, end_of_words, ended, is_one, keep, loaded,
+    may_keep, migrated, not_text, prove_module, report, text_to_keep,
 };
 use mv_ledger::Ledger;
 use std::fs::{self, File, Metadata, OpenOptions};
 use std::io::{self, BufReader, BufWriter, ErrorKind, IsTerminal, Read, Write};
+use std::path::Path;
 use std::{env, mem};
 
 /// Runs the program, and gives the status that it ends with. A fault has its line on standard error, and behind it stands which
@@ -97,11 +99,25 @@ const STANDARD_INPUT: &str = "-";
 /// Where standard input is found by a name, to see what it is.
 const STANDARD_INPUT_FILE: &str = "/dev/stdin";
 
+/// Where standard output is found by a name, to see what it is.
+const STANDARD_OUTPUT_FILE: &str = "/dev/stdout";
+
+/// Which file standard output is.
+fn standard_output(rt: &HostRuntime) -> Option<Place> {
+    Place::of_name(rt, Path::new(STANDARD_OUTPUT_FILE))
+}
+
 /// What is said where a read failed that had begun.
 const NOT_READ: &str = "it can't be read to its end";
 
 /// What is said where a ledger can't be put into a file's place.
 const NOT_KEPT: &str = "the ledger can't be kept there";
+
+/// What is said where another file stands in a ledger's place.
+const NO_LEDGER: &str = "what stands there is no saved ledger, and stays";
+
+/// What is said of a ledger that another program is going to replace.
+const IN_USE: &str = "another program has this ledger in use";
 
 /// What is said where the report can't be written.
 const NOT_WRITTEN: &str = "it takes no more of the report";
@@ -150,25 +166,54 @@ fn why_not_read(rt: &HostRuntime, path: &str) -> Option<io::Error> {
     file.read(&mut front).err()
 }
 
+/// Where a ledger is to be kept, and what was seen before.
+#[derive(Clone, Copy)]
+struct Keeping<'a> {
+    path: &'a str,
+    before: Before,
+}
+
 /// An end with the file that a ledger was to be kept in, where that failed.
-fn told_of_keeping(rt: &HostRuntime, end: End, path: &str) -> Told {
-    match end {
-        End::Write => match why_not_kept(rt, path) {
+fn told_of_keeping(rt: &HostRuntime, end: End, keeping: Keeping<'_>) -> Told
+    ensures { result.end ≡ end }
+{
+    if end != End::Write {
+        return Told::plainly(end);
+    }
+    let path = keeping.path;
+    match may_keep(rt, path, keeping.before) {
+        Err(KeepError::NoLedger) => Told::of_file(rt.alloc(), end, path, NO_LEDGER),
+        Err(KeepError::InUse) => Told::of_file(rt.alloc(), end, path, IN_USE),
+        _ => match why_not_kept(rt, path) {
             Some(why) => Told::of_file(rt.alloc(), end, path, why),
             None => Told::of_file(rt.alloc(), end, path, NOT_KEPT),
         },
-        _ => Told::plainly(end),
     }
 }
 
-/// Why a file can't be replaced, if its folder isn't there, or it can't be opened to be written to. Nothing of it changes.
+/// What there is to tell before the first record is answered, where a ledger is to be kept: that the records can't be read, and
+/// behind that, that it can't be kept.
+fn told_before(rt: &HostRuntime, path: &str, keeping: Option<Keeping<'_>>) -> Option<Told> {
+    let keeping = keeping?;
+    if let Some(why) = why_not_read(rt, path) {
+        return Some(Told::of_file(rt.alloc(), End::Read, path, why));
+    }
+    match may_keep(rt, keeping.path, keeping.before) {
+        Ok(()) => None,
+        Err(error) => Some(told_of_keeping(rt, end_of_keeping(Err(error)), keeping)),
+    }
+}
+
+/// Why a file can't be replaced, if its folder can't be opened, or it can't be opened itself to be written to. Nothing of it
+/// changes.
 fn why_not_kept(rt: &HostRuntime, path: &str) -> Option<io::Error> {
-    if let Some((folder, _)) = path.rsplit_once('/') {
-        if !folder.is_empty() {
-            if let Err(e) = fs::metadata(rt, folder) {
-                return Some(e);
-            }
-        }
+    let folder = match path.rsplit_once('/') {
+        Some((folder, _)) if !folder.is_empty() => folder,
+        Some(_) => "/",
+        None => ".",
+    };
+    if let Err(e) = File::open(rt, folder) {
+        return Some(e);
     }
     if !is_at_rest(rt, path) {
         return None;
@@ -197,21 +242,39 @@ fn advised(rt: &HostRuntime, told: Told, path: &str, wanted: Kind) -> Told {
 }
 
 /// Answers the records of a file by a ledger that is kept in another, or by an empty one, and writes the report to standard
-/// output. Where that ends well, the ledger is put into the place of a file.
+/// output. Where that ends well, the ledger is put into the place of a file. What was loaded from there is held to the end.
 fn apply(rt: &HostRuntime, path: &str, load: Option<&str>, save: Option<&str>) -> Told {
-    let begun = match load {
+    let output = standard_output(rt);
+    let source = match load {
+        None => None,
+        Some(kept) => match open_ledger(rt, kept, save) {
+            Ok(source) => Some(source),
+            Err(told) => return told,
+        },
+    };
+    let begun = match &source {
         None => Ok(Ledger::new(rt.alloc())),
-        Some(kept) => load_file(rt, kept),
+        Some(source) => load_file(rt, source),
     };
     let mut ledger = match begun {
         Ok(ledger) => ledger,
         Err(told) => return told,
     };
-    let mut said = apply_file(rt, path, &mut ledger);
-    if let (End::Done, Some(kept)) = (said.end, save) {
-        let end = save_file(rt, kept, said.end, &ledger);
+    let keeping = match save {
+        None => None,
+        Some(path) => Some(Keeping {
+            path,
+            before: Before {
+                output,
+                loaded: seen_of(&source),
+            },
+        }),
+    };
+    let mut said = apply_file(rt, path, &mut ledger, keeping);
+    if let (End::Done, Some(keeping)) = (said.end, keeping) {
+        let end = save_file(rt, keeping, said.end, &ledger);
         if end != End::Done {
-            said = told_of_keeping(rt, end, kept);
+            said = told_of_keeping(rt, end, keeping);
         }
     }
     // The process ends, which gives back all memory at once: what the ledger holds isn't given back piece by piece before.
@@ -219,30 +282,109 @@ fn apply(rt: &HostRuntime, path: &str, load: Option<&str>, save: Option<&str>) -
     said
 }
 
-/// The ledger that a file keeps; otherwise why it isn't loaded, which is printed.
-fn load_file(rt: &HostRuntime, path: &str) -> Result<Ledger, Told> {
+/// The file of a ledger, and what it was when it was opened, where it is going to be replaced.
+#[derive(Drop)]
+struct Source<'a> {
+    path: &'a str,
+    file: File,
+    seen: Option<Seen>,
+}
+
+/// What was going to be replaced, when it was opened.
+fn seen_of(source: &Option<Source<'_>>) -> Option<Seen> {
+    match source {
+        Some(source) => source.seen,
+        None => None,
+    }
+}
+
+/// Opens the file of a ledger. One that is going to be replaced is held from here on, so that no other program loads it to
+/// replace it.
+fn open_ledger<'a>(
+    rt: &HostRuntime,
+    path: &'a str,
+    save: Option<&str>,
+) -> Result<Source<'a>, Told> {
     let file = open(rt, path)?;
-    let expected = expected_bytes(regular_size(file.metadata()));
-    match loaded(rt.alloc(), file, expected, &mut io::writer(rt)) {
+    let seen = to_be_replaced(rt, path, &file, save);
+    if let Some(seen) = seen {
+        if !is_held(rt, path, &file, seen) {
+            return Err(Told::of_file(rt.alloc(), End::Read, path, IN_USE));
+        }
+    }
+    Ok(Source { path, file, seen })
+}
+
+/// What a regular file is by now, if it is going to be replaced.
+fn to_be_replaced(rt: &HostRuntime, path: &str, file: &File, save: Option<&str>) -> Option<Seen> {
+    let save = save?;
+    let found = file.metadata().ok()?;
+    let seen = Seen::of(&found);
+    let is_replaced = path == save || is_one(seen.place(), Place::of_name(rt, Path::new(save)));
+    if found.is_file() && is_replaced {
+        Some(seen)
+    } else {
+        None
+    }
+}
+
+/// Whether this program holds a file now, and the file still has its name: another program may have replaced it meanwhile. A
+/// disk that has no locks holds nobody back.
+fn is_held(rt: &HostRuntime, path: &str, file: &File, seen: Seen) -> bool {
+    let is_free = !matches!(file.try_hold(), Ok(false));
+    is_free && is_one(seen.place(), Place::of_name(rt, Path::new(path)))
+}
+
+/// The ledger that a file keeps; otherwise why it isn't loaded, which is printed.
+fn load_file(rt: &HostRuntime, source: &Source<'_>) -> Result<Ledger, Told> {
+    let path = source.path;
+    let expected = expected_bytes(regular_size(source.file.metadata()));
+    match loaded(rt.alloc(), &source.file, expected, &mut io::writer(rt)) {
         Ok(ledger) => Ok(ledger),
         Err(end) => Err(advised(rt, told(rt, end, path), path, Kind::Ledger)),
     }
 }
 
 /// Puts a ledger into the place of a file, if its records ended well.
-fn save_file(rt: &HostRuntime, path: &str, end: End, ledger: &Ledger) -> End {
-    end_of_text(text_to_keep(end, ledger), |text| keep(rt, path, text))
+fn save_file(rt: &HostRuntime, keeping: Keeping<'_>, end: End, ledger: &Ledger) -> End {
+    end_of_text(text_to_keep(end, ledger), |text| put(rt, keeping, text))
+}
+
+/// Puts a text into the place of a file. Where a ledger stood there that wasn't loaded, standard error says by which name it
+/// stays.
+fn put(rt: &HostRuntime, keeping: Keeping<'_>, text: &[u8]) -> Result<(), KeepError> {
+    if let Some(previous) = keep(rt, keeping.path, keeping.before, text)? {
+        let path = keeping.path;
+        let said = format!(in rt.alloc();
+            "moveledger: {path}: the ledger that stood there is kept as {previous}\n"
+        );
+        if let Ok(said) = said {
+            let _ = rt.eprint(said.as_str());
+        }
+    }
+    Ok(())
 }
 
 /// Puts the ledger that one file keeps, in the form of today, into the place of another.
 fn migrate(rt: &HostRuntime, old: &str, new: &str) -> Told {
-    let file = match open(rt, old) {
-        Ok(file) => file,
+    let output = standard_output(rt);
+    let source = match open_ledger(rt, old, Some(new)) {
+        Ok(source) => source,
         Err(told) => return told,
     };
-    let expected = expected_bytes(regular_size(file.metadata()));
-    match migrated(rt.alloc(), file, expected, &mut io::writer(rt)) {
-        Ok(text) => told_of_keeping(rt, end_of_text(Ok(text), |text| keep(rt, new, text)), new),
+    let keeping = Keeping {
+        path: new,
+        before: Before {
+            output,
+            loaded: source.seen,
+        },
+    };
+    let expected = expected_bytes(regular_size(source.file.metadata()));
+    match migrated(rt.alloc(), &source.file, expected, &mut io::writer(rt)) {
+        Ok(text) => {
+            let end = end_of_text(Ok(text), |text| put(rt, keeping, text));
+            told_of_keeping(rt, end, keeping)
+        }
         Err(end) => advised(rt, told(rt, end, old), old, Kind::Ledger),
     }
 }
@@ -266,9 +408,18 @@ struct Answered {
     is_whole: bool,
 }
 
-/// Answers the records of a file, and writes the report to standard output.
-fn apply_file(rt: &HostRuntime, path: &str, ledger: &mut Ledger) -> Told {
+/// Answers the records of a file, and writes the report to standard output. None is answered where it shows before that the
+/// ledger can't be kept.
+fn apply_file(
+    rt: &HostRuntime,
+    path: &str,
+    ledger: &mut Ledger,
+    keeping: Option<Keeping<'_>>,
+) -> Told {
     if path == STANDARD_INPUT {
+        if let Some(told) = told_before(rt, path, keeping) {
+            return told;
+        }
         let size = regular_size(fs::metadata(rt, STANDARD_INPUT_FILE));
         let answered = apply_to(rt, rt.stdin(), size, ledger);
         return told_of_cut(rt, told(rt, answered.end, path), path, answered.is_whole);
@@ -277,6 +428,9 @@ fn apply_file(rt: &HostRuntime, path: &str, ledger: &mut Ledger) -> Told {
         Ok(file) => file,
         Err(told) => return told,
     };
+    if let Some(told) = told_before(rt, path, keeping) {
+        return told;
+    }
     let size = regular_size(file.metadata());
     let answered = apply_to(rt, file, size, ledger);
     let told = advised(rt, told(rt, answered.end, path), path, Kind::Stream);

@@ -1,6 +1,6 @@
 // A disk whose calls fail, one after the other: what stands in a file's place, and what is left beside it.
 
-use moveledger::{KeepError, keep};
+use moveledger::{Before, Hold, KeepError, Seen, keep, may_keep};
 use std::alloc::{Allocator, Global};
 use std::cell::Cell;
 use std::fs::{Metadata, OpenFile, OpenOptions, Permissions};
@@ -10,21 +10,59 @@ use std::process::Abort;
 use std::rt::Files;
 use std::test::Fail;
 
-/// A disk with one folder, a file that may stand in it, and a new one beside that: the last byte of each, if it is there.
+/// A disk with a file that may stand in a folder, one by which it stays, and a new one beside them: the last byte of each, if it
+/// is there.
 #[derive(Drop)]
 struct Disk {
+    /// Where the file lies: a link of the folder that the program runs in leads there, or it is that folder.
+    way: Way,
     old: Cell<Option<u8>>,
     new: Cell<Option<u8>>,
+    previous: Cell<Option<u8>>,
+    /// What the new file has that isn't synced.
+    is_dirty: Cell<bool>,
+    /// Whether a file that wasn't synced got the old one's name.
+    is_early: Cell<bool>,
     /// How many calls there were, and which one of them fails.
     calls: Cell<u32>,
     failing: u32,
 }
 
+/// The way from the name that is given to the file.
+#[derive(Clone, Copy)]
+struct Way {
+    is_link: bool,
+    folder: &'static str,
+    file: &'static str,
+    previous: &'static str,
+}
+
+const HERE: Way = Way {
+    is_link: false,
+    folder: ".",
+    file: "ledger",
+    previous: "ledger.previous",
+};
+
+const FAR: Way = Way {
+    is_link: true,
+    folder: "far",
+    file: "far/ledger",
+    previous: "far/ledger.previous",
+};
+
+/// The name that is given.
+const LEDGER: &str = "ledger";
+
 impl Disk {
-    fn with(old: Option<u8>, failing: u32) -> Self {
+    fn with(way: Way, old: Option<u8>, failing: u32) -> Self {
         Disk {
+            way,
             old: Cell::new(old),
             new: Cell::new(None),
+            previous: Cell::new(None),
+            is_dirty: Cell::new(false),
+            is_early: Cell::new(false),
             calls: Cell::new(0),
             failing,
         }
@@ -39,26 +77,40 @@ impl Disk {
         Ok(())
     }
 
-    /// What a file has, by its name.
-    fn named(&self, path: &str) -> &Cell<Option<u8>> {
-        if path == LEDGER { &self.old } else { &self.new }
+    /// What a file has, by its name. A new one has to lie in the file's own folder.
+    fn named(&self, path: &str) -> io::Result<&Cell<Option<u8>>> {
+        if path == LEDGER || path == self.way.file {
+            return Ok(&self.old);
+        }
+        if path == self.way.previous {
+            return Ok(&self.previous);
+        }
+        match path.rsplit_once('/') {
+            Some((folder, _)) if folder == self.way.folder => Ok(&self.new),
+            _ => Err(io::Error::from(ErrorKind::NotFound)),
+        }
     }
 }
-
-const LEDGER: &str = "ledger";
-
-const FOLDER: &str = ".";
 
 /// A file of the disk that is open; None is its folder.
 #[derive(Drop)]
 struct Open<'a> {
     disk: &'a Disk,
     holds: Option<&'a Cell<Option<u8>>>,
+    is_read: bool,
 }
 
+/// What the file begins with, where it has to stay.
+const MARK: [u8; 4] = *b"MVL2";
+
 impl Read for Open<'_> {
-    fn read(&mut self, _buf: &mut [u8]) -> io::Result<usize> {
-        Ok(0)
+    fn read(&mut self, buf: &mut [u8]) -> io::Result<usize> {
+        if self.is_read || buf.len() < 4 {
+            return Ok(0);
+        }
+        self.is_read = true;
+        buf[..4].copy_from_slice(&MARK);
+        Ok(4)
     }
 }
 
@@ -69,6 +121,7 @@ impl Write for Open<'_> {
             return Ok(0);
         };
         file.set(Some(*byte));
+        self.disk.is_dirty.set(true);
         Ok(1)
     }
 
@@ -94,15 +147,25 @@ impl OpenFile for Open<'_> {
     }
 
     fn sync_all(&self) -> io::Result<()> {
-        self.disk.called()
+        self.disk.called()?;
+        if self.holds.is_some() {
+            self.disk.is_dirty.set(false);
+        }
+        Ok(())
     }
 
     fn sync_data(&self) -> io::Result<()> {
-        self.disk.called()
+        self.sync_all()
     }
 
     fn set_permissions(&self, _perm: Permissions) -> io::Result<()> {
         self.disk.called()
+    }
+}
+
+impl Hold for Open<'_> {
+    fn try_hold(&self) -> io::Result<bool> {
+        Ok(true)
     }
 }
 
@@ -118,10 +181,14 @@ impl<'a> Files for Runtime<'a> {
     fn open_file(&self, how: &OpenOptions, path: &str) -> io::Result<Open<'a>> {
         let disk = self.0;
         disk.called()?;
-        if path == FOLDER {
-            return Ok(Open { disk, holds: None });
+        if path == disk.way.folder {
+            return Ok(Open {
+                disk,
+                holds: None,
+                is_read: true,
+            });
         }
-        let file = disk.named(path);
+        let file = disk.named(path)?;
         if how.asks_create_new() {
             file.set(Some(0));
         }
@@ -131,19 +198,20 @@ impl<'a> Files for Runtime<'a> {
         Ok(Open {
             disk,
             holds: Some(file),
+            is_read: false,
         })
     }
 
     fn open_dir(&self, _path: &str) -> io::Result<io::Empty> {
-        Err(io::Error::from(ErrorKind::Unsupported))
+        Ok(io::empty())
     }
 
     fn metadata(&self, path: &str) -> io::Result<Metadata> {
         self.0.called()?;
-        if path == LEDGER {
-            return Ok(Metadata::of_file(1));
+        if self.0.named(path)?.get().is_none() {
+            return Err(io::Error::from(ErrorKind::NotFound));
         }
-        Err(io::Error::from(ErrorKind::NotFound))
+        Ok(Metadata::of_file(1))
     }
 
     fn symlink_metadata(&self, path: &str) -> io::Result<Metadata> {
@@ -156,13 +224,16 @@ impl<'a> Files for Runtime<'a> {
 
     fn rename(&self, from: &str, to: &str) -> io::Result<()> {
         self.0.called()?;
-        self.0.named(to).set(self.0.named(from).get());
-        self.0.named(from).set(None);
+        if self.0.is_dirty.get() || to != self.0.way.file {
+            self.0.is_early.set(true);
+        }
+        self.0.named(to)?.set(self.0.named(from)?.get());
+        self.0.named(from)?.set(None);
         Ok(())
     }
 
     fn remove_file(&self, path: &str) -> io::Result<()> {
-        self.0.named(path).set(None);
+        self.0.named(path)?.set(None);
         Ok(())
     }
 
@@ -178,9 +249,21 @@ impl<'a> Files for Runtime<'a> {
         Err(io::Error::from(ErrorKind::Unsupported))
     }
 
-    fn read_link<B: Allocator>(&self, _alloc: B, _path: &str) -> io::Result<PathBuf<B>> {
+    fn read_link<B: Allocator>(&self, alloc: B, path: &str) -> io::Result<PathBuf<B>> {
         self.0.called()?;
+        if self.0.way.is_link && path == LEDGER {
+            return Ok(PathBuf::from_str(alloc, self.0.way.file)?);
+        }
         Err(io::Error::from(ErrorKind::InvalidInput))
+    }
+
+    fn hard_link(&self, original: &str, link: &str) -> io::Result<()> {
+        self.0.called()?;
+        if self.0.named(link)?.get().is_some() {
+            return Err(io::Error::from(ErrorKind::AlreadyExists));
+        }
+        self.0.named(link)?.set(self.0.named(original)?.get());
+        Ok(())
     }
 }
 
@@ -188,44 +271,93 @@ const OLD: u8 = b'o';
 
 const NEW: u8 = b'n';
 
-/// How a text of one byte is kept on a disk with this file, of whose calls one fails: what came of it, what the file then has,
-/// what the new one has, and how many calls there were.
-fn kept(
-    alloc: Global,
-    old: Option<u8>,
-    failing: u32,
-) -> (Result<(), KeepError>, Option<u8>, Option<u8>, u32) {
-    let disk = Disk::with(old, failing);
-    let result = keep(&(Runtime(&disk), alloc), LEDGER, &[NEW]);
-    (result, disk.old.get(), disk.new.get(), disk.calls.get())
+/// What was loaded: the file as the disk describes it, or none.
+fn before(is_loaded: bool) -> Before {
+    let loaded = if is_loaded {
+        Some(Seen::of(&Metadata::of_file(1)))
+    } else {
+        None
+    };
+    Before {
+        output: None,
+        loaded,
+    }
+}
+
+/// What came of a text that was to be kept: how it ended, what the file then has, what the new one has, and whether a file got
+/// the old one's name before the disk had it.
+type Kept = (Result<(), KeepError>, Option<u8>, Option<u8>, bool);
+
+/// How a text of one byte is kept on a disk with this file, of whose calls one fails, and how many calls there were.
+fn kept(alloc: Global, way: Way, old: Option<u8>, failing: u32) -> (Kept, u32) {
+    let disk = Disk::with(way, old, failing);
+    let result = match keep(&(Runtime(&disk), alloc), LEDGER, before(true), &[NEW]) {
+        Ok(_) => Ok(()),
+        Err(e) => Err(e),
+    };
+    let kept = (result, disk.old.get(), disk.new.get(), disk.is_early.get());
+    (kept, disk.calls.get())
 }
 
 // Of so many calls that replace a file this one fails, or none where it is behind them.
-fn stays_whole(rt: &impl Abort, alloc: Global, old: Option<u8>, calls: u32, failing: u32) {
-    let (result, stands, left, called) = kept(alloc, old, failing);
-    let is_new = failing == 1 || failing >= calls;
-    let wanted = if failing == 1 || failing > calls {
+fn stays_whole(
+    rt: &impl Abort,
+    alloc: Global,
+    way: Way,
+    old: Option<u8>,
+    calls: u32,
+    failing: u32,
+) {
+    let (found, called) = kept(alloc, way, old, failing);
+    let is_new = failing >= calls;
+    let wanted = if failing > calls {
         Ok(())
     } else {
         Err(KeepError::Write)
     };
     let text = if is_new { Some(NEW) } else { old };
-    assert_eq!(rt;
-        (result, stands, left),
-        (wanted, text, None),
-        "call {failing}"
-    );
+    assert_eq!(rt; found, (wanted, text, None, false), "call {failing}");
     assert!(rt; called == calls || failing <= calls, "{called} calls");
 }
 
-// The calls of a file that is replaced: what standard output is, the old file and what that is, its link, its name; its
-// folder, the new file, a write, its mode, its sync, the folder's, the new name, and the folder's sync again. The first one
-// is no fault, and after the last but one there is the new text.
+// The calls of a file that is replaced: the old file and what that is, its link, its name; its folder, the new file, what that
+// is and what has its name, a write, its mode, its sync, the folder's, the new name, and the folder's sync again. After the last
+// but one there is the new text.
 #[test]
 fn files_stay_whole_whichever_call_fails(rt: HostRuntime) {
-    for (old, calls) in [(Some(OLD), 13u32), (None, 10)] {
+    for (way, old, calls) in [
+        (HERE, Some(OLD), 14u32),
+        (HERE, None, 11),
+        (FAR, Some(OLD), 15),
+    ] {
         for failing in 1..=calls + 1 {
-            stays_whole(&rt, rt.alloc(), old, calls, failing);
+            stays_whole(&rt, rt.alloc(), way, old, calls, failing);
         }
+    }
+}
+
+// A ledger that wasn't loaded stays by another name, beside the file that a link leads to.
+#[test]
+fn another_ledger_stays(rt: HostRuntime) -> Result<(), Fail> {
+    for way in [HERE, FAR] {
+        let disk = Disk::with(way, Some(OLD), 0);
+        let named = match keep(&(Runtime(&disk), rt.alloc()), LEDGER, before(false), &[NEW]) {
+            Ok(Some(name)) => name.as_str() == way.previous,
+            _ => false,
+        };
+        let texts = (disk.old.get(), disk.previous.get(), disk.new.get());
+        assert_eq!(rt; (named, texts), (true, (Some(NEW), Some(OLD), None)));
+    }
+    Ok(())
+}
+
+// That a text can be kept is asked without a change.
+#[test]
+fn asking_changes_nothing(rt: HostRuntime) {
+    for old in [Some(OLD), None] {
+        let disk = Disk::with(HERE, old, 0);
+        let may = may_keep(&(Runtime(&disk), rt.alloc()), LEDGER, before(true));
+        let texts = (disk.old.get(), disk.previous.get(), disk.new.get());
+        assert_eq!(rt; (may, texts), (Ok(()), (old, None, None)));
     }
 }

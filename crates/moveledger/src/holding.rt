@@ -1,0 +1,105 @@
+// Which file it is that a name leads to, whether it is as it was, and whether another program has it in use.
+ghost use Rattle.std.specs.Prelude.{◌≡◌, ◌↔◌, IsTrue, Some};
+
+use std::fs::{self, File, Metadata, TryLockError};
+use std::io;
+use std::os::unix::fs::MetadataExt;
+use std::path::Path;
+use std::rt::Files;
+
+/// An open file that one program at a time may hold.
+pub trait Hold {
+    /// Holds the file until its last handle is closed, and says whether it does: not where another program holds it. It never
+    /// waits.
+    ///
+    /// # Errors
+    ///
+    /// Where the file's system has no such locks.
+    fn try_hold(&self) -> io::Result<bool>;
+}
+
+impl Hold for File {
+    fn try_hold(&self) -> io::Result<bool> {
+        match self.try_lock() {
+            Ok(()) => Ok(true),
+            Err(TryLockError::WouldBlock) => Ok(false),
+            Err(TryLockError::Error(e)) => Err(e),
+        }
+    }
+}
+
+/// Where a file lies: the number of its disk, and its own number there.
+#[derive(Clone, Copy, Debug, PartialEq, Eq)]
+pub struct Place {
+    device: u64,
+    number: u64,
+}
+
+impl Place {
+    /// Where a file lies of which this is known.
+    pub fn of(found: &Metadata) -> Self {
+        Place {
+            device: found.dev(),
+            number: found.ino(),
+        }
+    }
+
+    /// Where the file lies to which a name leads, if it leads to one.
+    pub fn of_name<R: Files>(rt: &R, path: Path<'_>) -> Option<Self> {
+        match fs::metadata(rt, path) {
+            Ok(found) => Some(Place::of(&found)),
+            Err(_) => None,
+        }
+    }
+}
+
+/// Whether the other name is of the same file.
+pub fn is_one(place: Place, other: Option<Place>) -> bool
+    ensures { IsTrue result ↔ (other ≡ Some place) }
+{
+    other == Some(place)
+}
+
+/// Which file it was that was loaded, how long it was, and when it was last written to.
+#[derive(Clone, Copy, Debug, PartialEq, Eq)]
+pub struct Seen {
+    place: Place,
+    length: u64,
+    seconds: i64,
+    nanoseconds: i64,
+}
+
+impl Seen {
+    /// What a file is by now of which this is known.
+    pub fn of(found: &Metadata) -> Self {
+        Seen {
+            place: Place::of(found),
+            length: found.len(),
+            seconds: found.mtime(),
+            nanoseconds: found.mtime_nsec(),
+        }
+    }
+
+    /// Where the file lay.
+    pub fn place(&self) -> Place
+        ensures { result ≡ self.now.place }
+    {
+        self.place
+    }
+}
+
+/// What was seen before a text is kept.
+#[derive(Clone, Copy, Debug, PartialEq, Eq)]
+pub struct Before {
+    /// Which file standard output is. It is to be asked before any file is opened, which may get the number of a closed one.
+    pub output: Option<Place>,
+    /// What was loaded from where the text goes, if it was.
+    pub loaded: Option<Seen>,
+}
+
+/// Whether what stands there is what was loaded, and as it was then.
+pub fn is_as_loaded(found: Seen, loaded: Option<Seen>) -> bool
+    ensures { IsTrue result ↔ (loaded ≡ Some found) }
+{
+    loaded == Some(found)
+}

@@ -1,0 +1,71 @@
+// What is said of a ledger whose reader fails, or begins with no mark.
+
+use moveledger::{End, loaded, migrated};
+use std::alloc::Global;
+use std::io::{self, ErrorKind, Read};
+use std::process::Abort;
+
+/// A reader that gives some bytes, and then fails.
+#[derive(Drop)]
+struct Failing<'a> {
+    front: &'a [u8],
+    kind: ErrorKind,
+}
+
+impl Read for Failing<'_> {
+    fn read(&mut self, buf: &mut [u8]) -> io::Result<usize> {
+        if self.front.is_empty() {
+            return Err(io::Error::from(self.kind));
+        }
+        self.front.read(buf)
+    }
+}
+
+// How a ledger of this reader isn't loaded, and isn't migrated; nothing is printed of it.
+fn ends(rt: &impl Abort, alloc: Global, front: &[u8], kind: ErrorKind, wanted: End, text: &[u8]) {
+    let mut lines = Vec::new(alloc);
+    let end = match loaded(alloc, Failing { front, kind }, 0, &mut lines) {
+        Ok(_) => End::Done,
+        Err(end) => end,
+    };
+    assert_eq!(rt; (end, lines.as_slice()), (wanted, text));
+    let mut lines = Vec::new(alloc);
+    let end = match migrated(alloc, Failing { front, kind }, 0, &mut lines) {
+        Ok(_) => End::Done,
+        Err(end) => end,
+    };
+    assert_eq!(rt; (end, lines.as_slice()), (wanted, text));
+}
+
+#[test]
+fn want_of_memory_is_no_failed_read(rt: HostRuntime) {
+    for front in [
+        b"".as_slice(),
+        b"MVL".as_slice(),
+        b"MVL2".as_slice(),
+        b"MVL2\0\0".as_slice(),
+    ] {
+        for (kind, wanted) in [
+            (ErrorKind::OutOfMemory, End::Memory),
+            (ErrorKind::Other, End::Read),
+        ] {
+            ends(&rt, rt.alloc(), front, kind, wanted, b"");
+        }
+    }
+}
+
+// Behind four bytes that are no mark nothing is read.
+#[test]
+fn no_mark_is_refused_at_once(rt: HostRuntime) {
+    for front in [b"MVL3".as_slice(), b"\0\0\0\0".as_slice()] {
+        let wanted = End::LoadRefused(1);
+        ends(
+            &rt,
+            rt.alloc(),
+            front,
+            ErrorKind::Other,
+            wanted,
+            b"load refused 1\n",
+        );
+    }
+}
