@@ -3,7 +3,7 @@
 --   is_span_in all s    the span stands among the elements
 use Rattle.std.specs.Prelude.{Bool, ◌&&◌, nat_le, List, length}
 use Rattle.std.specs.List.{between}
-use Rattle.mv_linker.specs.declared.spans.Span.{Span}
+use Rattle.mv_linker.specs.declared.lists.Span.{Span}
 
 -- the list that a span is
 abbrev pub spanned : {A : Type 0} → List A → Span → List A

@@ -1,0 +1,240 @@
+// What the structs, fields and functions of a module are called and how they may be used, without types.
+ghost use Rattle.std.specs.Prelude.{◌≡◌, ◌≤◌, ◌<◌, length, map, option_map, slice_get, false, unwrap_or, [], IfOk, MatchOption};
+ghost use Rattle.std.specs.Option.{option_map_or};
+ghost use Rattle.mv_move_types.specs.Limits.{most_name_bytes};
+ghost use Rattle.mv_bounds.specs.Bounds.{InBounds};
+ghost use Rattle.mv_linker.specs.Outline.{IsOutline, IsStructNamed, IsFunctionNamed, identifier_at, struct_by, function_by, names_by};
+
+use crate::handles::is_public;
+use crate::lists::Lists;
+use mv_binary_format::{FunctionDefinition, Module, StructDefinition};
+use mv_move_types::{Abilities, Field};
+use std::alloc::{AllocError, Global};
+use std::marker::Model;
+
+/// A struct: the index of its identifier, and its abilities.
+#[derive(Clone, Copy)]
+pub struct StructEntry {
+    identifier: u16,
+    abilities: Abilities,
+}
+
+/// A function: the index of its identifier, whether other modules may call it, and whether it is an entry.
+#[derive(Clone, Copy)]
+pub struct FunctionEntry {
+    identifier: u16,
+    is_public: bool,
+    is_entry: bool,
+}
+
+/// What others can name of a module: its structs with their abilities and the names of their fields, and its functions, in the
+/// order of the definitions. Its model has the names themselves; they are kept once each, as the module's table of identifiers.
+#[derive(Drop)]
+pub struct Outline {
+    identifiers: Lists<u8>,
+    structs: Vec<StructEntry>,
+    fields: Lists<u16>,
+    functions: Vec<FunctionEntry>,
+}
+
+impl Model for Outline {
+    ghost use Rattle.mv_linker.specs.Outline.{OutlineView, outline_kept};
+
+    ghost Value = { OutlineView };
+
+    ghost view = { λ o. outline_kept o.identifiers o.structs.items o.fields o.functions.items };
+}
+
+// The identifier at an index of a module's table.
+fn identifier_at(identifiers: &Lists<u8>, index: u16) -> &[u8]
+    ensures { result.now ≡ identifier_at identifiers.now index }
+{
+    identifiers.get(usize::from(index)).unwrap_or(&[])
+}
+
+// The identifiers of a module's table.
+fn identifiers_of(alloc: Global, m: &Module<'_>) -> Result<Lists<u8>, AllocError>
+    ensures { IfOk result (λ l. l ≡ m.now.identifiers) }
+{
+    let count = m.identifier_count();
+    let mut identifiers = Lists::with_capacity(alloc, count, 0)?;
+    for i in 0..count {
+        identifiers.push(m.identifier(i).unwrap_or(&[]))?;
+    }
+    Ok(identifiers)
+}
+
+// A struct definition, whose handle is there.
+fn struct_entry(m: &Module<'_>, d: &StructDefinition) -> StructEntry
+    ensures { result ≡ struct_by m.now d.now }
+{
+    match m.struct_handles().get(usize::from(d.handle())) {
+        Some(handle) => StructEntry {
+            identifier: handle.name,
+            abilities: handle.abilities,
+        },
+        None => StructEntry {
+            identifier: 0,
+            abilities: Abilities {
+                copy: false,
+                drop: false,
+                store: false,
+                key: false,
+            },
+        },
+    }
+}
+
+// The struct definitions of a module.
+fn structs_of(alloc: Global, m: &Module<'_>) -> Result<Vec<StructEntry>, AllocError>
+    ensures { IfOk result (λ v. v.items ≡ map (struct_by m.now) m.now.structs) }
+{
+    m.structs().iter().map(|d| struct_entry(m, d)).collect(alloc)
+}
+
+// A function definition, whose handle is there.
+fn function_entry(m: &Module<'_>, d: &FunctionDefinition) -> FunctionEntry
+    ensures { result ≡ function_by m.now d.now }
+{
+    let identifier = match m.function_handles().get(usize::from(d.handle())) {
+        Some(handle) => handle.name,
+        None => 0,
+    };
+    FunctionEntry {
+        identifier,
+        is_public: is_public(d),
+        is_entry: d.is_entry(),
+    }
+}
+
+// The function definitions of a module.
+fn functions_of(alloc: Global, m: &Module<'_>) -> Result<Vec<FunctionEntry>, AllocError>
+    ensures { IfOk result (λ v. v.items ≡ map (function_by m.now) m.now.functions) }
+{
+    m.functions()
+        .iter()
+        .map(|d| function_entry(m, d))
+        .collect(alloc)
+}
+
+// The names of fields, at the end of an empty list.
+fn put_names(names: &mut Vec<u16>, fields: &[Field]) -> Result<(), AllocError>
+    requires { names.old.items ≡ [] }
+    ensures { OnOk result (names.new.items ≡ map (λ f. f.name) fields.now) }
+{
+    for field in fields {
+        names.push(field.name)?;
+    }
+    Ok(())
+}
+
+// The names of the fields of each struct of a module.
+fn fields_of(alloc: Global, m: &Module<'_>) -> Result<Lists<u16>, AllocError>
+    ensures { IfOk result (λ l. l ≡ map names_by m.now.structs) }
+{
+    let structs = m.structs();
+    let mut fields = Lists::with_capacity(alloc, structs.len(), 0)?;
+    let mut names = Vec::new(alloc);
+    for d in structs {
+        names.clear();
+        put_names(&mut names, d.fields())?;
+        fields.push(&names)?;
+    }
+    Ok(fields)
+}
+
+impl Outline {
+    /// That of a module.
+    pub fn of(alloc: Global, m: &Module<'_>) -> Result<Self, AllocError>
+        ensures { IfOk result (λ o. InBounds m.now → IsOutline m.now o) }
+    {
+        Ok(Outline {
+            identifiers: identifiers_of(alloc, m)?,
+            structs: structs_of(alloc, m)?,
+            fields: fields_of(alloc, m)?,
+            functions: functions_of(alloc, m)?,
+        })
+    }
+
+    /// How many structs the module defines.
+    pub fn struct_count(&self) -> usize
+        ensures { result ≡ length self.now.structs }
+    {
+        self.structs.len()
+    }
+
+    /// How many functions it defines.
+    pub fn function_count(&self) -> usize
+        ensures { result ≡ length self.now.functions }
+    {
+        self.functions.len()
+    }
+
+    /// The identifier of the struct at an index, if it is there.
+    pub fn struct_identifier(&self, index: usize) -> Option<&[u8]>
+        ensures { option_map (λ b. b.now) result ≡ option_map (λ s. s.identifier) (slice_get self.now.structs index) }
+    {
+        let entry = self.structs.get(index)?;
+        Some(identifier_at(&self.identifiers, entry.identifier))
+    }
+
+    /// The abilities of the struct at an index, if it is there.
+    pub fn abilities(&self, index: usize) -> Option<Abilities>
+        ensures { result ≡ option_map (λ s. s.abilities) (slice_get self.now.structs index) }
+    {
+        let entry = self.structs.get(index)?;
+        Some(entry.abilities)
+    }
+
+    /// The identifier of the function at an index, if it is there.
+    pub fn function_identifier(&self, index: usize) -> Option<&[u8]>
+        ensures { option_map (λ b. b.now) result ≡ option_map (λ f. f.identifier) (slice_get self.now.functions index) }
+    {
+        let entry = self.functions.get(index)?;
+        Some(identifier_at(&self.identifiers, entry.identifier))
+    }
+
+    /// Whether the function at an index is there and other modules may call it.
+    pub fn is_public(&self, index: usize) -> bool
+        ensures { result ≡ option_map_or (λ f. f.is_public) (slice_get self.now.functions index) false }
+    {
+        match self.functions.get(index) {
+            Some(entry) => entry.is_public,
+            None => false,
+        }
+    }
+
+    /// Whether the function at an index is there and an entry.
+    pub fn is_entry(&self, index: usize) -> bool
+        ensures { result ≡ option_map_or (λ f. f.is_entry) (slice_get self.now.functions index) false }
+    {
+        match self.functions.get(index) {
+            Some(entry) => entry.is_entry,
+            None => false,
+        }
+    }
+
+    /// The index of a struct with an identifier. In a module there is no second one.
+    pub fn find_struct(&self, name: &[u8]) -> Option<usize>
+        ensures { MatchOption result ((k : ℕ) → IsStructNamed self.now k name.now → ⊥) (λ k. IsStructNamed self.now k name.now) }
+    {
+        'search: for i in 0..self.structs.len() {
+            if identifier_at(&self.identifiers, self.structs[i].identifier) == name {
+                return Some(i);
+            }
+        }
+        None
+    }
+
+    /// The index of a function with an identifier. In a module there is no second one.
+    pub fn find_function(&self, name: &[u8]) -> Option<usize>
+        ensures { MatchOption result ((k : ℕ) → IsFunctionNamed self.now k name.now → ⊥) (λ k. IsFunctionNamed self.now k name.now) }
+    {
+        'search: for i in 0..self.functions.len() {
+            if identifier_at(&self.identifiers, self.functions[i].identifier) == name {
+                return Some(i);
+            }
+        }
+        None
+    }
+}
