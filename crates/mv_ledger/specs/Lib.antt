@@ -25,3 +25,4 @@ pub mod Layouts
 pub mod Groups
 pub mod Inside
 pub mod Parts
+pub mod ParameterTypes

@@ -10,6 +10,7 @@ ghost use Rattle.mv_interpreter.specs.Runs.{IsCall, IsFineWords, Agrees, HasEnde
 ghost use Rattle.mv_ledger.specs.Changes.{RunsTo};
 ghost use Rattle.mv_ledger.specs.Answering.{told};
 ghost use Rattle.mv_ledger.specs.Asking.{request_of};
+ghost use Rattle.mv_ledger.specs.ParameterTypes.{asked_type};
 ghost use Rattle.mv_ledger.specs.Running.{IsAdmitted, IsSettled, left_by, run_of};
 ghost use Rattle.mv_ledger.specs.Tallying.{HasRoomLeft};
 ghost use Rattle.mv_ledger.specs.View.{all_of, IsNamed, IsSmall, AreScarce, AreCountable};
@@ -19,9 +20,9 @@ use crate::payload::RunRecord;
 use crate::tallies::Tallies;
 use mv_frames::Counters;
 use mv_interpreter::{Arg, FuncId, RunError, Tally, run};
-use mv_linker::Store;
+use mv_linker::{LinkedType, Part, Store};
 use mv_machine::{Ending, Outcome};
-use mv_move_types::{Definition, LeafKind, Token, ValueType};
+use mv_move_types::{Definition, LeafKind};
 use mv_storage::{Overlay, Storage};
 use std::alloc::AllocError;
 
@@ -62,14 +63,14 @@ impl From<AllocError> for Barred {
 /// The arguments with the sender in front, where the first parameter is a signer.
 fn with_signer(
     sender: u128,
-    tokens: &[Token],
+    types: &[LinkedType],
     mut arguments: Vec<Arg>,
 ) -> Result<Vec<Arg>, AllocError>
     requires { IsTrue (list_all (λ (a : Argument). number_fits a.kind a.number) arguments.items) }
     ensures range { IfOk result (λ v. IsTrue (list_all (λ (a : Argument). number_fits a.kind a.number) v.items)) }
-    ensures value { IfOk result (λ v. map arg_value v.items ≡ with_sender sender tokens.now (map arg_value arguments.items)) }
+    ensures value { IfOk result (λ v. map arg_value v.items ≡ with_sender sender (map asked_type types.now) (map arg_value arguments.items)) }
 {
-    if let Some(Token::Plain(ValueType::OfLeaf(LeafKind::Signer))) = tokens.first() {
+    if let Some(LinkedType::Plain(Part::Leaf(LeafKind::Signer))) = types.first() {
         let signer = Arg {
             kind: LeafKind::Signer,
             number: sender,
@@ -80,25 +81,25 @@ fn with_signer(
 }
 
 /// Whether an argument is of a parameter's type.
-fn is_passed(token: Token, argument: Arg) -> bool
-    ensures { result ≡ is_argument token (arg_value argument) }
+fn is_passed(of: LinkedType, argument: Arg) -> bool
+    ensures { result ≡ is_argument (asked_type of) (arg_value argument) }
 {
-    match token {
-        Token::Plain(ValueType::OfLeaf(kind)) => kind == argument.kind,
+    match of {
+        LinkedType::Plain(Part::Leaf(kind)) => kind == argument.kind,
         _ => false,
     }
 }
 
 /// Whether arguments are of parameters' types, one each.
-fn are_passed(tokens: &[Token], arguments: &[Arg]) -> bool
-    ensures { result ≡ are_arguments tokens.now (map arg_value arguments.now) }
+fn are_passed(types: &[LinkedType], arguments: &[Arg]) -> bool
+    ensures { result ≡ are_arguments (map asked_type types.now) (map arg_value arguments.now) }
 {
-    match tokens {
+    match types {
         [] => arguments.is_empty(),
-        [token, tokens @ ..] => match arguments {
+        [first, types @ ..] => match arguments {
             [] => false,
             [argument, arguments @ ..] => {
-                is_passed(*token, *argument) && are_passed(tokens, arguments)
+                is_passed(*first, *argument) && are_passed(types, arguments)
             }
         },
     }
@@ -126,15 +127,15 @@ pub fn admitted(store: &Store, runs: u64, asked: RunRecord<'_>) -> Result<Call, 
     let place = store
         .find(asked.home, asked.module)
         .ok_or(Barred::Rejected(3))?;
-    let (index, function) = store
+    let (index, signature) = store
         .function(place, asked.function)
         .ok_or(Barred::Rejected(4))?;
-    if !function.is_entry {
+    if !signature.is_entry {
         return Err(Barred::Rejected(5));
     }
-    let tokens = function.parameters.as_slice();
-    let arguments = with_signer(asked.sender, tokens, asked.arguments)?;
-    if !are_passed(tokens, &arguments) {
+    let types = signature.parameters;
+    let arguments = with_signer(asked.sender, types, asked.arguments)?;
+    if !are_passed(types, &arguments) {
         return Err(Barred::Rejected(6));
     }
     if runs >= MOST_RUNS {

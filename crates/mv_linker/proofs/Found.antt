@@ -183,3 +183,16 @@ made_back f z zs made y (Some w) q rest (suc j) e = (let r = rest j e in record 
 pub made_from : {A B : Type 0} (f : A → Option B) (xs : List A) (j : ℕ) (y : B) → slice_get (filter_map f xs) j ≡ Some y → Made f xs y
 made_from f [] j y e = absurd (none-some y e)
 made_from f (z ∷ zs) j y e = made_back f z zs (filter_map f zs) y (f z) refl (λ i q. made_from f zs i y q) j e
+
+-- where none is found, none passes
+pub none_passes : {A : Type 0} (p : A → Bool) (xs : List A) (k : ℕ) (x : A) → find_index p xs ≡ None → slice_get xs k ≡ Some x → p x ≡ true → ⊥
+none_passes p [] k x none at passes = none-some x at
+none_passes p (y ∷ ys) zero x none at passes =
+    let same : p y ≡ true = ap p (same_Some y x at) ∙ passes in
+    none-some 0 (sym none ∙ ap (λ b. cond b (Some 0) (option_map suc (find_index p ys))) same)
+none_passes p (y ∷ ys) (suc k) x none at passes = none_passes p ys k x (rest (p y) (find_index p ys) none) at passes
+  where
+    rest : (b : Bool) (o : Option ℕ) → cond b (Some 0) (option_map suc o) ≡ None → o ≡ None
+    rest true o e = absurd cc
+    rest false None e = refl
+    rest false (Some k) e = absurd cc

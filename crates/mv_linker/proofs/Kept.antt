@@ -7,18 +7,20 @@
 --   Adding             `adding-done`, `putting-done`: a bundle's modules go into a store's map, a module at a time
 --   IndexLemmas        `places-put`, `indices-put`: the modules of a bundle are found in maps as the lists say
 --   SpanLemmas         `spanned-more`: lists that stand in one list, one after the other
---   IdentifierLemmas   `identifier-short`: the identifiers of structs
+--   FewIdentifiers     `few_identifiers`, `short-identifier`: the identifiers of a module that has a text
+--   OutlineLemmas      `outline-is`, `named-place`: the outlines of modules, and that they find a function by its identifier
 --   StructNames        `named-there`: the names of a store's structs, by the name of their module and their identifiers there
 --   HandleDefinitions  `struct-there`, `all-defined`: where the structs of a bundle's handles are defined, once it joins
---   ShapeLemmas        `shapes-are`: of what the structs of a module are made, by where those that its handles name are defined
+--   ShapeLemmas        `parts-are`: of what the structs of a module are made, by where those that its handles name are defined
 --   StoredShapes       `fields-known`: of what the structs of a store's modules are made, as its codes say
---   InterfaceLemmas    `function-found`, `interface-at`: how interfaces are made, and that they find a function by its identifier
+--   InterfaceLemmas    `interface-is`, `signature-at`: the interfaces of modules
 pub mod Keyed
 pub mod WithAt
 pub mod Adding
 pub mod IndexLemmas
 pub mod SpanLemmas
-pub mod IdentifierLemmas
+pub mod FewIdentifiers
+pub mod OutlineLemmas
 pub mod StructNames
 pub mod HandleDefinitions
 pub mod ShapeLemmas

@@ -1,4 +1,4 @@
--- The proofs of the store and of phase 13. Of general use are Found (entries of lists by their places), ListTests, Orders, Outcomes,
+-- The proofs of the store and of phase 13. Of general use are Each (lists that go together), Found (entries of lists by their places), ListTests, Orders, Outcomes,
 -- NameLemmas, HandleNames and Members (modules by name, and among others), OwnDefinitions, TagTests and TypeTests (types by names).
 -- Common passes on the words that the proofs speak of all along, and Lemmas the lemmas that most of them cite.
 -- The rooms, each with an index at its head:
@@ -10,6 +10,7 @@
 pub mod Counted
 pub mod KeptSlots
 pub mod Common
+pub mod Each
 pub mod Found
 pub mod ListTests
 pub mod Orders

@@ -13,7 +13,7 @@
 --   LinkLemmas       `operation-stands`, `function-whole`: the operations that are made one after the other are those that the definition lists
 --   CodeStays        `tokens-stay`: the words of a module's types stay where those of the structs that its handles name stay
 --   SlotLaws         `public-functions-stay`: a module that may replace another has its public functions
---   JoinedCodes      `heir`, `shapes-kept`: once a bundle joins, what codes say of an old module that stays is still so
+--   JoinedCodes      `heir`, `interface-kept`: once a bundle joins, what codes say of an old module that stays is still so
 --   Linkable         `small-at`, `are-sized`: the sizes of the structs that the handles of a module to link name
 --   Filling          `keeps-slots`, `are-slots`: slots are given one after the other, and go on from those of the module whose place is taken
 --   Slotted          `codes-joined`: with the codes of a bundle's modules, and their slots, each module of the result has its code

@@ -1,16 +1,14 @@
 -- The codes of modules: that each is linked code of its module.
 --   IsCallee modules codes place m i c   the callee of a handle leads to the function that the handle names
 --   IsCode modules codes place m code    the code is the module's
-use Rattle.std.specs.Prelude.{◌≡◌, ℕ, List, length, map, Some, slice_get}
+use Rattle.std.specs.Prelude.{◌≡◌, ℕ, List, length, Some, slice_get}
 use Rattle.mv_move_types.specs.Module.{Module}
 use Rattle.mv_linker.specs.declared.code.Callee.{Callee}
 use Rattle.mv_linker.specs.declared.code.Callee.TheVariants.{Own, Foreign}
 use Rattle.mv_linker.specs.declared.code.Code.{Code}
-use Rattle.mv_linker.specs.Identifiers.{identifiers_of}
-use Rattle.mv_linker.specs.Interfaces.{AreInterfacesOf}
+use Rattle.mv_linker.specs.Interface.{IsInterface}
 use Rattle.mv_linker.specs.Lowered.{AreOthers, AreOwnSizes, IsCalled, IsLowered}
 use Rattle.mv_linker.specs.Resolved.{AreWidths}
-use Rattle.mv_linker.specs.Shapes.{AreShapes, has_key}
 use Rattle.mv_linker.specs.Slots.{AreSlots, IsOpen}
 
 -- the function that a handle names is that of a slot of the module at a place
@@ -36,8 +34,5 @@ pub record IsCode (modules : List Module) (codes : List Code) (place : ℕ) (m :
   pub callees : (i : ℕ) (c : Callee) → slice_get code.callees.items i ≡ Some c → IsCallee modules codes place m i c
   pub exports : AreSlots m code.exports.items
   pub others : AreOthers modules m code.others.items
-  pub interfaces : AreInterfacesOf m code.interfaces.items
   pub sizes : AreOwnSizes modules m code.sizes.items
-  pub identifiers : code.identifiers ≡ identifiers_of m
-  pub shapes : AreShapes modules m code.shapes
-  pub keys : code.keys.items ≡ map (has_key m) m.structs
+  pub interface : IsInterface modules m code.interface

@@ -13,7 +13,7 @@ use Rattle.mv_linker.specs.declared.interface.Interface.{Interface}
 use Rattle.mv_linker.specs.declared.interface.LinkedType.{LinkedType}
 use Rattle.mv_linker.specs.declared.interface.LinkedType.TheVariants.{Plain as Value, Reference as ReferenceTo, MutableReference as MutableReferenceTo}
 use Rattle.mv_linker.specs.declared.interface.Signature.{Signature}
-use Rattle.mv_linker.specs.Outline.{AreEach, IsOutline}
+use Rattle.mv_linker.specs.Outline.{AreEach, FunctionOutline, IsOutline}
 use Rattle.mv_linker.specs.Shapes.{AreParts, IsPart, part_by}
 
 -- a type of a module, as it is kept
@@ -40,7 +40,14 @@ pub record IsInterface (modules : List Module) (m : Module) (i : Interface) : Ty
   pub parameters : AreEach (λ (d : FunctionDefinition) types. AreTypesOf modules m (parameter_tokens m d) types) m.functions i.parameters
   pub results : AreEach (λ (d : FunctionDefinition) types. AreTypesOf modules m (result_tokens m d) types) m.functions i.results
 
--- what a call from outside asks of the function at an index in the module at a place
+-- what a call from outside asks of the function at an index of an interface, if it is there
+pub record IsSignatureOf (i : Interface) (index : ℕ) (s : Signature) : Type 0 where
+  pub function : FunctionOutline
+  pub there : slice_get i.outline.functions index ≡ Some function
+  pub entry : function.is_entry ≡ s.is_entry
+  pub parameters : slice_get i.parameters index ≡ Some s.parameters.now
+
+-- the same of the function at an index in the module at a place
 pub record IsSignatureAt (modules : List Module) (place index : ℕ) (s : Signature) : Type 0 where
   pub home : Module
   pub definition : FunctionDefinition

@@ -3,7 +3,7 @@ pub mod Codes
 pub mod Handles
 pub mod Identifiers
 pub mod Indexed
-pub mod Interfaces
+pub mod Interface
 pub mod Kept
 pub mod Link
 pub mod Linked
@@ -12,6 +12,7 @@ pub mod Lowered
 pub mod StoreRules
 pub mod News
 pub mod Operations
+pub mod Outline
 pub mod DependencyGraph
 pub mod Places
 pub mod ScopeDependencies

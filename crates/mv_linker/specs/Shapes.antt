@@ -1,6 +1,6 @@
 -- Of what the structs of a module are made.
 --   IsPart modules m t part       a field of a type is made of this
---   AreShapes modules m shapes    the fields of each struct that a module defines are made of these
+--   AreParts modules m fields parts  fields are made of these
 --   AreFieldsAt modules d parts   those of the struct at a place and an index are; or there is no such struct
 --   is_keyed modules d            the struct at a place and an index is there and has key
 --   structs_in modules place      how many structs the module at a place defines
@@ -33,11 +33,6 @@ IsPart modules m t Nothing = is_of_value m t ≡ false
 -- fields are made of these parts, in order
 abbrev pub AreParts : List Module → Module → List Field → List Part → Type 0
 AreParts modules m fields parts = AllZip (λ (f : Field) part. IsPart modules m f.token part) fields parts
-
--- the fields of each struct that a module defines are made of these, in order
-pub record AreShapes (modules : List Module) (m : Module) (shapes : List (List Part)) : Type 0 where
-  pub len : length shapes ≡ length m.structs
-  pub each : (j : ℕ) (d : StructDefinition) (parts : List Part) → slice_get m.structs j ≡ Some d → slice_get shapes j ≡ Some parts → AreParts modules m d.fields parts
 
 -- the fields of the struct at a place and an index are made of these
 pub record IsMadeOf (modules : List Module) (d : Definition) (parts : List Part) : Type 0 where
@@ -75,7 +70,3 @@ part_by structs _ = Nothing
 -- of what fields are made, in order
 abbrev pub parts_by : List Definition → List Field → List Part
 parts_by structs fields = map (λ f. part_by structs f.token) fields
-
--- of what the fields of each struct are made
-abbrev pub shapes_by : List Definition → Module → List (List Part)
-shapes_by structs m = map (λ d. parts_by structs d.fields) m.structs

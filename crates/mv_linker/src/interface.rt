@@ -1,9 +1,10 @@
 // What is kept of a module beside its text and its code.
-ghost use Rattle.std.specs.Prelude.{◌≡◌, [], map, unwrap_or, IfOk, OnOk};
+ghost use Rattle.std.specs.Prelude.{◌≡◌, ◌≤◌, List, [], length, map, slice_get, unwrap_or, IfOk, IfNone, IfSome, OnOk};
+ghost use Rattle.mv_move_types.specs.Limits.{most_types};
 ghost use Rattle.mv_move_types.specs.Module.{Module as Tables, parameter_tokens, result_tokens};
 ghost use Rattle.mv_bounds.specs.Bounds.{InBounds};
 ghost use Rattle.mv_linker.specs.Handles.{AreStructsAt};
-ghost use Rattle.mv_linker.specs.Interface.{IsInterface, type_by, types_by};
+ghost use Rattle.mv_linker.specs.Interface.{IsInterface, IsSignatureOf, type_by, types_by};
 ghost use Rattle.mv_linker.specs.Outline.{IsOutline};
 ghost use Rattle.mv_linker.specs.Shapes.{part_by, parts_by};
 
@@ -76,22 +77,35 @@ fn put_types(
     Ok(())
 }
 
+// The types of a signature, if it is there.
+fn tokens_at<'m>(m: &'m Module<'_>, signature: u16) -> &'m [Token]
+    ensures value { result.now ≡ unwrap_or (slice_get m.entry.now.signatures signature) [] }
+    ensures few { length result.now ≤ most_types }
+{
+    match m.signature(usize::from(signature)) {
+        Some(tokens) => tokens,
+        None => &[],
+    }
+}
+
 // The types of a function's parameters, if they are there.
 fn parameters<'m>(m: &'m Module<'_>, d: &FunctionDefinition) -> &'m [Token]
-    ensures { result.now ≡ unwrap_or (parameter_tokens m.entry.now d.now) [] }
+    ensures value { result.now ≡ unwrap_or (parameter_tokens m.entry.now d.now) [] }
+    ensures few { length result.now ≤ most_types }
 {
     match m.function_handles().get(usize::from(d.handle())) {
-        Some(handle) => m.signature(usize::from(handle.parameters)).unwrap_or(&[]),
+        Some(handle) => tokens_at(m, handle.parameters),
         None => &[],
     }
 }
 
 // The types of its results, if they are there.
 fn results<'m>(m: &'m Module<'_>, d: &FunctionDefinition) -> &'m [Token]
-    ensures { result.now ≡ unwrap_or (result_tokens m.entry.now d.now) [] }
+    ensures value { result.now ≡ unwrap_or (result_tokens m.entry.now d.now) [] }
+    ensures few { length result.now ≤ most_types }
 {
     match m.function_handles().get(usize::from(d.handle())) {
-        Some(handle) => m.signature(usize::from(handle.results)).unwrap_or(&[]),
+        Some(handle) => tokens_at(m, handle.results),
         None => &[],
     }
 }
@@ -168,6 +182,19 @@ impl Interface {
             parts: parts_of(alloc, m, structs)?,
             parameters: parameters_of(alloc, m, structs)?,
             results: results_of(alloc, m, structs)?,
+        })
+    }
+
+    /// What a call from outside asks of the function at an index, if it is there.
+    pub fn signature(&self, index: usize) -> Option<Signature<'_>>
+        requires { length self.now.parameters ≡ length self.now.outline.functions }
+        ensures there { IfSome result (IsSignatureOf self.now index) }
+        ensures none { IfNone result (length self.now.parameters ≤ index) }
+    {
+        let parameters = self.parameters.get(index)?;
+        Some(Signature {
+            parameters,
+            is_entry: self.outline.is_entry(index),
         })
     }
 }

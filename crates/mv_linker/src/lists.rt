@@ -1,5 +1,5 @@
 // Lists that are kept as one.
-ghost use Rattle.std.specs.Prelude.{◌≡◌, ◌∷◌, ◌++◌, ◌<◌, ◌≤◌, [], length, option_map, slice_get, vec_len, IfOk, OnOk};
+ghost use Rattle.std.specs.Prelude.{◌≡◌, ◌∷◌, ◌+◌, ◌++◌, ◌<◌, ◌≤◌, [], length, option_map, slice_get, vec_len, IfOk, OnOk};
 ghost use Rattle.std.specs.Vec.{vec_capacity};
 
 use std::alloc::{AllocError, Global};
@@ -35,7 +35,7 @@ impl<T> Model for Lists<T> {
 /// Puts elements at the end; there is room for them.
 fn put_all<T: Copy>(all: &mut Vec<T>, more: &[T])
     requires { vec_len all.old + length more.now ≤ vec_capacity all.old }
-    ensures { all.new.items ≡ all.old.items ++ more.now }
+    ensures items { all.new.items ≡ all.old.items ++ more.now }
     ensures len { vec_len all.new ≡ vec_len all.old + length more.now }
 {
     for x in more {
@@ -43,7 +43,7 @@ fn put_all<T: Copy>(all: &mut Vec<T>, more: &[T])
     }
 }
 
-impl<T> Lists<T> {
+impl<T: Copy> Lists<T> {
     /// No lists.
     pub fn new(alloc: Global) -> Self
         ensures { result ≡ [] }
@@ -78,9 +78,7 @@ impl<T> Lists<T> {
         let span = self.spans.get(index)?;
         Some(&self.all[span.first as usize..span.last as usize])
     }
-}
 
-impl<T: Copy> Lists<T> {
     /// Puts a list of at most 128 elements at the end.
     pub fn push(&mut self, one: &[T]) -> Result<(), AllocError>
         requires few { length self.old < 65536 }

@@ -1,6 +1,7 @@
 // What the structs, fields and functions of a module are called and how they may be used, without types.
-ghost use Rattle.std.specs.Prelude.{◌≡◌, ◌≤◌, ◌<◌, length, map, option_map, slice_get, false, unwrap_or, [], IfOk, MatchOption};
+ghost use Rattle.std.specs.Prelude.{◌≡◌, ◌≤◌, ◌<◌, ℕ, length, map, option_map, position, slice_get, false, [], Some, IfOk, OnOk, IfSome, MatchOption};
 ghost use Rattle.std.specs.Option.{option_map_or};
+ghost use Rattle.std.specs.Str.{bytes_eq};
 ghost use Rattle.mv_move_types.specs.Limits.{most_name_bytes};
 ghost use Rattle.mv_bounds.specs.Bounds.{InBounds};
 ghost use Rattle.mv_linker.specs.Outline.{IsOutline, IsStructNamed, IsFunctionNamed, identifier_at, struct_by, function_by, names_by};
@@ -38,11 +39,14 @@ pub struct Outline {
 }
 
 impl Model for Outline {
+    ghost use Rattle.std.specs.Prelude.{◌≤◌, length};
     ghost use Rattle.mv_linker.specs.Outline.{OutlineView, outline_kept};
 
     ghost Value = { OutlineView };
 
     ghost view = { λ o. outline_kept o.identifiers o.structs.items o.fields o.functions.items };
+
+    ghost invariant = { λ o. length o.structs.items ≤ 65536 × length o.functions.items ≤ 256 };
 }
 
 // The identifier at an index of a module's table.
@@ -52,14 +56,30 @@ fn identifier_at(identifiers: &Lists<u8>, index: u16) -> &[u8]
     identifiers.get(usize::from(index)).unwrap_or(&[])
 }
 
+// The identifier at an index of a module's own table, which is there.
+fn identifier_in<'a>(m: &Module<'a>, index: usize) -> &'a [u8]
+    requires { index < length m.now.identifiers }
+    ensures value { slice_get m.now.identifiers index ≡ Some result.now }
+    ensures short { length result.now ≤ most_name_bytes }
+{
+    // For the prover: an identifier has at most 128 bytes.
+    m.has_text();
+    match m.identifier(index) {
+        Some(name) => name,
+        None => &[],
+    }
+}
+
 // The identifiers of a module's table.
 fn identifiers_of(alloc: Global, m: &Module<'_>) -> Result<Lists<u8>, AllocError>
     ensures { IfOk result (λ l. l ≡ m.now.identifiers) }
 {
+    // For the prover: at most 65,536 identifiers.
+    m.has_text();
     let count = m.identifier_count();
     let mut identifiers = Lists::with_capacity(alloc, count, 0)?;
     for i in 0..count {
-        identifiers.push(m.identifier(i).unwrap_or(&[]))?;
+        identifiers.push(identifier_in(m, i))?;
     }
     Ok(identifiers)
 }
@@ -87,7 +107,8 @@ fn struct_entry(m: &Module<'_>, d: &StructDefinition) -> StructEntry
 
 // The struct definitions of a module.
 fn structs_of(alloc: Global, m: &Module<'_>) -> Result<Vec<StructEntry>, AllocError>
-    ensures { IfOk result (λ v. v.items ≡ map (struct_by m.now) m.now.structs) }
+    ensures value { IfOk result (λ v. v.items ≡ map (struct_by m.now) m.now.structs) }
+    ensures few { IfOk result (λ v. length v.items ≤ 65536) }
 {
     m.structs().iter().map(|d| struct_entry(m, d)).collect(alloc)
 }
@@ -109,7 +130,8 @@ fn function_entry(m: &Module<'_>, d: &FunctionDefinition) -> FunctionEntry
 
 // The function definitions of a module.
 fn functions_of(alloc: Global, m: &Module<'_>) -> Result<Vec<FunctionEntry>, AllocError>
-    ensures { IfOk result (λ v. v.items ≡ map (function_by m.now) m.now.functions) }
+    ensures value { IfOk result (λ v. v.items ≡ map (function_by m.now) m.now.functions) }
+    ensures few { IfOk result (λ v. length v.items ≤ 256) }
 {
     m.functions()
         .iter()
@@ -143,6 +165,28 @@ fn fields_of(alloc: Global, m: &Module<'_>) -> Result<Lists<u16>, AllocError>
     Ok(fields)
 }
 
+// The index of the first struct with an identifier.
+fn first_struct(identifiers: &Lists<u8>, structs: &[StructEntry], name: &[u8]) -> Option<usize>
+    ensures { result ≡ position (λ s. bytes_eq name.now (identifier_at identifiers.now s.identifier)) structs.now }
+{
+    structs
+        .iter()
+        .position(|s| name == identifier_at(identifiers, s.identifier))
+}
+
+// The index of the first function with an identifier.
+fn first_function(
+    identifiers: &Lists<u8>,
+    functions: &[FunctionEntry],
+    name: &[u8],
+) -> Option<usize>
+    ensures { result ≡ position (λ f. bytes_eq name.now (identifier_at identifiers.now f.identifier)) functions.now }
+{
+    functions
+        .iter()
+        .position(|f| name == identifier_at(identifiers, f.identifier))
+}
+
 impl Outline {
     /// That of a module.
     pub fn of(alloc: Global, m: &Module<'_>) -> Result<Self, AllocError>
@@ -158,14 +202,16 @@ impl Outline {
 
     /// How many structs the module defines.
     pub fn struct_count(&self) -> usize
-        ensures { result ≡ length self.now.structs }
+        ensures count { result ≡ length self.now.structs }
+        ensures few { result ≤ 65536 }
     {
         self.structs.len()
     }
 
     /// How many functions it defines.
     pub fn function_count(&self) -> usize
-        ensures { result ≡ length self.now.functions }
+        ensures count { result ≡ length self.now.functions }
+        ensures few { result ≤ 256 }
     {
         self.functions.len()
     }
@@ -184,6 +230,16 @@ impl Outline {
     {
         let entry = self.structs.get(index)?;
         Some(entry.abilities)
+    }
+
+    /// Whether the struct at an index is there and has key.
+    pub fn is_keyed(&self, index: usize) -> bool
+        ensures { result ≡ option_map_or (λ s. s.abilities.key) (slice_get self.now.structs index) false }
+    {
+        match self.structs.get(index) {
+            Some(entry) => entry.abilities.key,
+            None => false,
+        }
     }
 
     /// The identifier of the function at an index, if it is there.
@@ -218,23 +274,14 @@ impl Outline {
     pub fn find_struct(&self, name: &[u8]) -> Option<usize>
         ensures { MatchOption result ((k : ℕ) → IsStructNamed self.now k name.now → ⊥) (λ k. IsStructNamed self.now k name.now) }
     {
-        'search: for i in 0..self.structs.len() {
-            if identifier_at(&self.identifiers, self.structs[i].identifier) == name {
-                return Some(i);
-            }
-        }
-        None
+        first_struct(&self.identifiers, &self.structs, name)
     }
 
     /// The index of a function with an identifier. In a module there is no second one.
     pub fn find_function(&self, name: &[u8]) -> Option<usize>
-        ensures { MatchOption result ((k : ℕ) → IsFunctionNamed self.now k name.now → ⊥) (λ k. IsFunctionNamed self.now k name.now) }
+        ensures found { MatchOption result ((k : ℕ) → IsFunctionNamed self.now k name.now → ⊥) (λ k. IsFunctionNamed self.now k name.now) }
+        ensures few { IfSome result (λ k. k < 256) }
     {
-        'search: for i in 0..self.functions.len() {
-            if identifier_at(&self.identifiers, self.functions[i].identifier) == name {
-                return Some(i);
-            }
-        }
-        None
+        first_function(&self.identifiers, &self.functions, name)
     }
 }

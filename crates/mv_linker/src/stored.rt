@@ -5,14 +5,14 @@ ghost use Rattle.mv_move_types.specs.Module.{name_at};
 ghost use Rattle.mv_move_types.specs.Named.{function_place};
 ghost use Rattle.mv_linker.specs.Link.{IsStore, tables_in};
 ghost use Rattle.mv_linker.specs.Code.{program};
-ghost use Rattle.mv_linker.specs.Interfaces.{IsInterfaceAt};
+ghost use Rattle.mv_linker.specs.Interface.{IsInterface, IsSignatureAt};
 ghost use Rattle.mv_linker.specs.Linked.{program_of, width_of_others};
 ghost use Rattle.mv_linker.specs.Shapes.{AreFieldsAt, is_keyed, structs_in};
 ghost use Rattle.mv_linker.specs.Stored.{IsSizeAt};
 
 use crate::Store;
 use crate::code::Code;
-use crate::interfaces::{Interface, index_of};
+use crate::interface::{Interface, Signature};
 use crate::names::StructName;
 use crate::shapes::Part;
 use crate::sizes::Size;
@@ -41,7 +41,7 @@ impl Store {
         ensures { result ≡ name_at (tables_in self.now) d.place d.index }
     {
         let code = self.codes.get(usize::from(d.place))?;
-        let identifier = code.identifiers.get(usize::from(d.index))?;
+        let identifier = code.interface.outline.struct_identifier(usize::from(d.index))?;
         let (name, _) = self.modules.get_index(usize::from(d.place))?;
         Some(StructName::new(name.address, name.identifier.as_slice(), identifier))
     }
@@ -53,7 +53,7 @@ impl Store {
         ensures store { IsStore self.now }
     {
         let code = self.codes.get(usize::from(d.place))?;
-        code.shapes.get(usize::from(d.index))
+        code.interface.parts.get(usize::from(d.index))
     }
 
     /// Whether the struct that the module at a place defines at an index is there and has key. No byte of the module is read.
@@ -61,11 +61,7 @@ impl Store {
         ensures { result ≡ is_keyed (tables_in self.now) d }
     {
         match self.codes.get(usize::from(d.place)) {
-            Some(code) => code
-                .keys
-                .get(usize::from(d.index))
-                .copied()
-                .unwrap_or(false),
+            Some(code) => code.interface.outline.is_keyed(usize::from(d.index)),
             None => false,
         }
     }
@@ -76,23 +72,31 @@ impl Store {
         ensures few { result ≤ 65536 }
     {
         match self.codes.get(place) {
-            Some(code) => code.keys.len(),
+            Some(code) => code.interface.outline.struct_count(),
             None => 0,
         }
     }
 
     /// The function with this identifier in the module at a place: its index there, and what a call from outside asks of it.
     /// No memory is taken, and no byte of the module is read.
-    pub fn function(&self, place: usize, name: &[u8]) -> Option<(usize, &Interface)>
+    pub fn function(&self, place: usize, name: &[u8]) -> Option<(usize, Signature<'_>)>
         requires { place < length self.now }
         ensures index { IfSome (slice_get (tables_in self.now) place) (λ m. option_map (λ p. p.0) result ≡ function_place m name.now) }
-        ensures interface { IfSome result (λ p. IsInterfaceAt (tables_in self.now) place p.0 p.1.now) }
+        ensures interface { IfSome result (λ p. IsSignatureAt (tables_in self.now) place p.0 p.1) }
         ensures few { IfSome result (λ p. p.0 < most_functions) }
         ensures store { IsStore self.now }
     {
-        let interfaces = &self.codes[place].interfaces;
-        let index = index_of(interfaces, name)?;
-        Some((index, &interfaces[index]))
+        let interface = &self.codes[place].interface;
+        let index = interface.outline.find_function(name)?;
+        Some((index, interface.signature(index)?))
+    }
+
+    /// What is kept of the module at a place.
+    pub(crate) fn interface(&self, place: usize) -> &Interface
+        requires { place < length self.now }
+        ensures { IfSome (slice_get (tables_in self.now) place) (λ m. IsInterface (tables_in self.now) m result.now) }
+    {
+        &self.codes[place].interface
     }
 
     /// The size of a struct.

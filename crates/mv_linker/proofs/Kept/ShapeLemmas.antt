@@ -1,12 +1,12 @@
 -- Of what the structs of a module are made, by where those that its handles name are defined.
---   shapes-are             what is computed is so
+--   part-is, parts-are     what is computed is so
 --   few-fields             a struct has at most 32 fields
 --   parts-first, parts-more, parts-all    those of the first fields
 --   struct-module          the module of a struct's name is one that a handle names
-use Rattle.mv_linker.proofs.Common.{[], ℕ, ◌++◌, ◌+◌, ◌<◌, ◌∙◌, ◌∷◌, ◌≡◌, ◌≤◌, AreParts, AreShapes, AreStructsAt, Definition, Field, IsPart, List, Module, MutableReference, None, Nothing}
+use Rattle.mv_linker.proofs.Common.{[], ℕ, ◌++◌, ◌+◌, ◌<◌, ◌∙◌, ◌∷◌, ◌≡◌, ◌≤◌, AreParts, AreStructsAt, Definition, Field, IsPart, List, Module, MutableReference, None, Nothing}
 use Rattle.mv_linker.proofs.Common.{OfLeaf, OfStruct, Option, Part, Plain, Reference, Some, Struct, StructDefinition, StructName, Token, and_parts, ap, append-nil, append_assoc, false}
 use Rattle.mv_linker.proofs.Common.{get_or, is_some, leb-true, length, length-map, list_all, map, map-append, module_name, option_map, option_map_or, part_by, parts_by, refl, same_Some}
-use Rattle.mv_linker.proofs.Common.{shapes_by, slice_get, slice_get-map, slice_get_past, struct_definition_fits, struct_name, subst, sym, take, take_all, take_more, true}
+use Rattle.mv_linker.proofs.Common.{slice_get, slice_get_past, struct_definition_fits, struct_name, subst, sym, take, take_all, take_more, true}
 use Rattle.mv_linker.proofs.Lemmas.{all_at, past_from, struct_parts}
 
 -- a struct has at most 32 fields
@@ -45,7 +45,7 @@ module _ (modules : List Module) (m : Module) (structs : List Definition) (are :
   unnamed : (h : ℕ) → slice_get structs h ≡ None → is_some (struct_name m h) ≡ false
   unnamed h none = rw (slice_get_past m.struct_handles h (past_from structs m.struct_handles h (sym are.len) none)) refl
 
-  part-is : (t : Token) → IsPart modules m t (part_by structs t)
+  pub part-is : (t : Token) → IsPart modules m t (part_by structs t)
   part-is (Plain (OfLeaf kind)) = refl
   part-is (Plain (OfStruct h)) = by_definition (slice_get structs h) refl
     where
@@ -55,15 +55,6 @@ module _ (modules : List Module) (m : Module) (structs : List Definition) (are :
   part-is (Reference t) = refl
   part-is (MutableReference t) = refl
 
-  parts-are : (fields : List Field) → AreParts modules m fields (parts_by structs fields)
+  pub parts-are : (fields : List Field) → AreParts modules m fields (parts_by structs fields)
   parts-are [] = tt
   parts-are (f ∷ fields) = (part-is f.token, parts-are fields)
-
-  pub shapes-are : AreShapes modules m (shapes_by structs m)
-  shapes-are = record {
-    len = length-map m.structs (λ (d : StructDefinition). parts_by structs d.fields);
-    each = λ j d parts at parts_at.
-        let made : StructDefinition → List Part = λ d. parts_by structs d.fields in
-        let same : made d ≡ parts = same_Some (made d) parts (sym (slice_get-map made m.structs j ∙ ap (option_map made) at) ∙ parts_at) in
-        subst (AreParts modules m d.fields) same (parts-are d.fields);
-  }

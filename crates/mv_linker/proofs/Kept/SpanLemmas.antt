@@ -1,11 +1,11 @@
 -- Lists that stand in one list, one after the other.
 --   AreSpanned lists all spans   the spans of the list are these lists
---   spanned-more                 one more is put at the end
+--   spanned-more, lists-pushed   one more is put at the end
 use Rattle.mv_linker.proofs.Common.{[], ◌++◌, ◌∙◌, ◌∷◌, ◌≡◌, ◌≤◌, List, and_from, and_parts, ap, ap₂, arith, drop, le-leb, leb-true, length, length-append, list_all, map, map-append}
 use Rattle.mv_linker.proofs.Common.{nat_le, refl, subst, sym, take-append-le, take_all, true}
 use Rattle.std.proofs.lemmas.Slice.{between_is}
 use Rattle.std.proofs.Math.Seq.{drop-append_seam}
-use Rattle.mv_linker.specs.declared.spans.Span.{Span}
+use Rattle.mv_linker.specs.declared.lists.Span.{Span}
 use Rattle.mv_linker.specs.Spans.{is_span_in, spanned}
 
 module _ {A : Type 0} (all more : List A) where
@@ -61,3 +61,9 @@ spanned-more {A = A} lists all longer one spans more s so grown first last pushe
       within = all-within all one spans s so.within (last-within all one s first end);
     } in
     subst (λ (l : List A). AreSpanned (lists ++ one ∷ []) l more) (sym grown) (subst (λ (l : List Span). AreSpanned (lists ++ one ∷ []) (all ++ one) l) (sym pushed) added)
+
+-- the lists themselves, with one more at the end
+pub lists-pushed : {A : Type 0} (all longer one : List A) (spans more : List Span) (s : Span) → list_all (is_span_in all) spans ≡ true → longer ≡ all ++ one → s.first ≡ length all
+    → s.last ≡ length longer → more ≡ spans ++ s ∷ [] → AreSpanned (map (spanned all) spans ++ one ∷ []) longer more
+lists-pushed all longer one spans more s within grown first last pushed =
+    spanned-more (map (spanned all) spans) all longer one spans more s (record { are = refl; within = within }) grown first last pushed

@@ -1,8 +1,9 @@
-use Rattle.mv_ledger.proofs.Common.{◌<◌, ◌∙◌, ◌≡◌, ◌≤◌, Bor, Err, List, None, Option, Some, ap, arith, length, map, option_map, refl, subst, sym, true, ℕ, err_from_is_err_and, IfSome, slice_get}
-use Rattle.mv_ledger.proofs.Common.{FunctionDefinition, Module, parameter_tokens, function_place, is_module, module_place, PublishedModule, Token, RunRequest, are_arguments, with_sender}
+use Rattle.mv_ledger.proofs.Common.{◌<◌, ◌∙◌, ◌≡◌, ◌≤◌, Err, None, Option, Some, ap, arith, length, map, option_map, refl, subst, sym, true, ℕ, err_from_is_err_and, IfSome, slice_get}
+use Rattle.mv_ledger.proofs.Common.{FunctionDefinition, Module, parameter_tokens, function_place, is_module, module_place, PublishedModule, RunRequest, are_arguments, with_sender}
 use Rattle.mv_ledger.proofs.Common.{FunctionCall, Value, found_at, tables_in, arg_value, request_of, Rejected}
-use Rattle.mv_linker.specs.Interfaces.{IsInterfaceAt}
-use Rattle.mv_linker.specs.declared.interfaces.Interface.{Interface}
+use Rattle.mv_linker.specs.Interface.{AreTypesOf, IsSignatureAt}
+use Rattle.mv_linker.specs.declared.interface.Signature.{Signature}
+use Rattle.mv_ledger.proofs.Runs.Parameters.{same-arguments, same-sender}
 use Rattle.mv_ledger.proofs.Runs.Admissions.{FindsModule, FindsFunction, FindsTypes, hit, miss, rejected-as, no_budget, no_module, no_function, no_entry, no_arguments, no_runs, admits, place-below}
 use Rattle.mv_ledger.proofs.executing.admitted.Goals as goal
 use Rattle.mv_ledger.proofs.executing.admitted.Goals.{In_ok-index, After-are_passed}
@@ -18,45 +19,45 @@ module _ (published : List PublishedModule) (runs : ℕ) (r : RunRequest) where
       let f = found_at (is_module r.home) (tables_in published) place (sym is ∙ some) in
       record { home = f.entry; found = record { fits = fits; place_is = sym is ∙ some; home_is = f.at } }
 
+  
   -- no function there has the identifier
-  none-named : (place : ℕ) (h : FindsHome place) (p : Option (ℕ × Bor Interface)) → IfSome (slice_get (tables_in published) place) (λ m. option_map (λ q. q.0) p ≡ function_place m r.function)
+  none-named : (place : ℕ) (h : FindsHome place) (p : Option (ℕ × Signature)) → IfSome (slice_get (tables_in published) place) (λ m. option_map (λ q. q.0) p ≡ function_place m r.function)
       → p ≡ None → function_place h.home r.function ≡ None
   none-named place h p named none =
       let is : option_map (λ q. q.0) p ≡ function_place h.home r.function = subst (λ (x : Option Module). IfSome x (λ m. option_map (λ q. q.0) p ≡ function_place m r.function)) h.found.home_is
       named in
-      sym is ∙ ap (option_map (λ (q : ℕ × Bor Interface). q.0)) none
+      sym is ∙ ap (option_map (λ (q : ℕ × Signature). q.0)) none
 
-  -- the function of a run, with its interface
-  record Finds (place index : ℕ) (i : Interface) : Type 0 where
+  -- the function of a run, with what it asks
+  record Finds (place index : ℕ) (s : Signature) : Type 0 where
     home : Module
     definition : FunctionDefinition
     found : FindsFunction published runs r place home index definition
-    entry : definition.is_entry ≡ i.is_entry
-    tokens : parameter_tokens home definition ≡ Some i.parameters.items
+    entry : definition.is_entry ≡ s.is_entry
+    types : AreTypesOf (tables_in published) home (parameter_tokens home definition) s.parameters.now
 
-  finds : (o : Option ℕ) (place index : ℕ) (i : Bor Interface) (p : Option (ℕ × Bor Interface)) → r.budget ≤ 10000000 → o ≡ module_place (tables_in published) r.home → o ≡ Some place
-      → IfSome (slice_get (tables_in published) place) (λ m. option_map (λ q. q.0) p ≡ function_place m r.function) → IfSome p (λ q. IsInterfaceAt (tables_in published) place q.0 q.1.now)
-      → p ≡ Some (index, i) → Finds place index i.now
-  finds o place index i p fits is some named at found =
-      let a : IsInterfaceAt (tables_in published) place index i.now = subst (λ (x : Option (ℕ × Bor Interface)). IfSome x (λ q. IsInterfaceAt (tables_in published) place q.0 q.1.now)) found at in
-      let index_is : option_map (λ q. q.0) p ≡ function_place a.home r.function = subst (λ (x : Option Module). IfSome x (λ m. option_map (λ q. q.0) p ≡ function_place m r.function)) a.home_is
+  finds : (o : Option ℕ) (place index : ℕ) (s : Signature) (p : Option (ℕ × Signature)) → r.budget ≤ 10000000 → o ≡ module_place (tables_in published) r.home → o ≡ Some place
+      → IfSome (slice_get (tables_in published) place) (λ m. option_map (λ q. q.0) p ≡ function_place m r.function) → IfSome p (λ q. IsSignatureAt (tables_in published) place q.0 q.1)
+      → p ≡ Some (index, s) → Finds place index s
+  finds o place index s p fits is some named at found =
+      let a : IsSignatureAt (tables_in published) place index s = subst (λ (x : Option (ℕ × Signature)). IfSome x (λ q. IsSignatureAt (tables_in published) place q.0 q.1)) found at in
+      let index_is : option_map (λ q. q.0) p ≡ function_place a.home r.function = subst (λ (x : Option Module). IfSome x (λ m. option_map (λ q. q.0) p ≡ function_place m r.function)) a.there
       named in
       record {
         home = a.home;
         definition = a.definition;
         found = record {
-          at = record { fits = fits; place_is = sym is ∙ some; home_is = a.home_is };
-          index_is = sym index_is ∙ ap (option_map (λ (q : ℕ × Bor Interface). q.0)) found;
-          d_is = a.definition_is;
+          at = record { fits = fits; place_is = sym is ∙ some; home_is = a.there };
+          index_is = sym index_is ∙ ap (option_map (λ (q : ℕ × Signature). q.0)) found;
+          d_is = a.defined;
         };
-        entry = a.interface.entry;
-        tokens = a.interface.parameters;
+        entry = a.entry;
+        types = a.parameters;
       }
 
-  -- it is an entry, and its parameters have these types
-  types-of : (place index : ℕ) (i : Interface) (tokens : List Token) (f : Finds place index i) → tokens ≡ i.parameters.items → i.is_entry ≡ true
-      → FindsTypes published runs r place f.home index f.definition tokens
-  types-of place index i tokens f are entry = record { at = f.found; entry = f.entry ∙ entry; tokens_are = f.tokens ∙ ap (λ ts. Some ts) (sym are) }
+  -- it is an entry, and its parameters have types
+  types-of : (place index : ℕ) (s : Signature) (f : Finds place index s) → s.is_entry ≡ true → FindsTypes published runs r place f.home index f.definition f.types.tokens
+  types-of place index s f entry = record { at = f.found; entry = f.entry ∙ entry; tokens_are = f.types.there }
 
 pub function-requires : goal.function-requires
 function-requires c =
@@ -91,47 +92,55 @@ returns-in_err-index-clause-admitted c =
     (no_function store c.args.runs r c.in_ok-place.place h.home h.found (none-named store c.args.runs r c.in_ok-place.place h c.function.result c.function.ensures.index m.0))
 
 -- the function that was found
-found-of : (c : In_ok-index) → Finds c.args.store.now c.args.runs (request_of c.args.asked) c.in_ok-place.place c.in_ok-index.index c.in_ok-index.function.now
+found-of : (c : In_ok-index) → Finds c.args.store.now c.args.runs (request_of c.args.asked) c.in_ok-place.place c.in_ok-index.index c.in_ok-index.signature
 found-of c =
     let some : c.find.result ≡ Some c.in_ok-place.place = hit c.find.result (Rejected 3) c.ok_or.result c.in_ok-place.place c.ok_or.ensures.value c.in_ok-place.was in
-    let known = hit c.function.result (Rejected 4) c.ok_or-2.result (c.in_ok-index.index, c.in_ok-index.function) c.ok_or-2.ensures.value c.in_ok-index.was in
-    finds c.args.store.now c.args.runs (request_of c.args.asked) c.find.result c.in_ok-place.place c.in_ok-index.index c.in_ok-index.function c.function.result
+    let known = hit c.function.result (Rejected 4) c.ok_or-2.result (c.in_ok-index.index, c.in_ok-index.signature) c.ok_or-2.ensures.value c.in_ok-index.was in
+    finds c.args.store.now c.args.runs (request_of c.args.asked) c.find.result c.in_ok-place.place c.in_ok-index.index c.in_ok-index.signature c.function.result
     (omega (arith, c.if-asked-gt-MOST_STEPS.false)) c.find.ensures some c.function.ensures.index c.function.ensures.interface known
 
-pub returns-then-not-function-clause-admitted : goal.returns-then-not-function-clause-admitted
-returns-then-not-function-clause-admitted c =
-    let f = found-of (goal.at.returns-then-not-function-clause-admitted c).In_ok-index in
-    no_entry c.args.store.now c.args.runs (request_of c.args.asked) c.in_ok-place.place f.home c.in_ok-index.index f.definition f.found (f.entry ∙ c.if-not-function.true)
+pub returns-then-not-signature-clause-admitted : goal.returns-then-not-signature-clause-admitted
+returns-then-not-signature-clause-admitted c =
+    let f = found-of (goal.at.returns-then-not-signature-clause-admitted c).In_ok-index in
+    no_entry c.args.store.now c.args.runs (request_of c.args.asked) c.in_ok-place.place f.home c.in_ok-index.index f.definition f.found (f.entry ∙ c.if-not-signature.true)
 
 -- its parameters' types, and whether the arguments are of them
-types-found : (c : After-are_passed) → (f : Finds c.args.store.now c.args.runs (request_of c.args.asked) c.in_ok-place.place c.in_ok-index.index c.in_ok-index.function.now)
-    → FindsTypes c.args.store.now c.args.runs (request_of c.args.asked) c.in_ok-place.place f.home c.in_ok-index.index f.definition c.as_slice-tokens.result.now
-types-found c f =
-    types-of c.args.store.now c.args.runs (request_of c.args.asked) c.in_ok-place.place c.in_ok-index.index c.in_ok-index.function.now c.as_slice-tokens.result.now f c.as_slice-tokens.ensures.value
-    c.if-not-function.false
+abbrev Here : After-are_passed → Type 0
+Here c = Finds c.args.store.now c.args.runs (request_of c.args.asked) c.in_ok-place.place c.in_ok-index.index c.in_ok-index.signature
 
-same-arguments : (c : After-are_passed)
-    → are_arguments c.as_slice-tokens.result.now (with_sender c.args.asked.sender c.as_slice-tokens.result.now (map arg_value c.args.asked.arguments.items)) ≡ c.are_passed.result
-same-arguments c = ap (are_arguments c.as_slice-tokens.result.now) (sym c.in_ok-arguments.ensures.value ∙ ap (map arg_value) (sym c.deref.ensures.value)) ∙ sym c.are_passed.ensures
+types-found : (c : After-are_passed) → (f : Here c) → FindsTypes c.args.store.now c.args.runs (request_of c.args.asked) c.in_ok-place.place f.home c.in_ok-index.index f.definition f.types.tokens
+types-found c f = types-of c.args.store.now c.args.runs (request_of c.args.asked) c.in_ok-place.place c.in_ok-index.index c.in_ok-index.signature f c.if-not-signature.false
+
+-- the arguments with the sender in front
+sender-found : (c : After-are_passed) → (f : Here c) → map arg_value c.in_ok-arguments.arguments.items ≡ with_sender c.args.asked.sender f.types.tokens (map arg_value c.args.asked.arguments.items)
+sender-found c f =
+    c.in_ok-arguments.ensures.value
+    ∙ sym (same-sender (tables_in c.args.store.now) f.home c.args.asked.sender f.types.tokens c.in_ok-index.signature.parameters.now (map arg_value c.args.asked.arguments.items) f.types.are)
+
+arguments-are : (c : After-are_passed) → (f : Here c) → are_arguments f.types.tokens (with_sender c.args.asked.sender f.types.tokens (map arg_value c.args.asked.arguments.items)) ≡ c.are_passed.result
+arguments-are c f =
+    ap (are_arguments f.types.tokens) (sym (sender-found c f) ∙ ap (map arg_value) (sym c.deref.ensures.value))
+    ∙ same-arguments (tables_in c.args.store.now) f.home f.types.tokens c.in_ok-index.signature.parameters.now (map arg_value c.deref.result.now) f.types.are
+    ∙ sym c.are_passed.ensures
 
 pub returns-then-not-are_passed-clause-admitted : goal.returns-then-not-are_passed-clause-admitted
 returns-then-not-are_passed-clause-admitted c =
     let here = (goal.at.returns-then-not-are_passed-clause-admitted c).After-are_passed in
     let f = found-of (goal.at.returns-then-not-are_passed-clause-admitted c).In_ok-index in
-    no_arguments c.args.store.now c.args.runs (request_of c.args.asked) c.in_ok-place.place f.home c.in_ok-index.index f.definition c.as_slice-tokens.result.now (types-found here f)
-    (same-arguments here ∙ c.if-not-are_passed.true)
+    no_arguments c.args.store.now c.args.runs (request_of c.args.asked) c.in_ok-place.place f.home c.in_ok-index.index f.definition f.types.tokens (types-found here f)
+    (arguments-are here f ∙ c.if-not-are_passed.true)
 
 pub returns-then-runs-ge-MOST_RUNS-clause-admitted : goal.returns-then-runs-ge-MOST_RUNS-clause-admitted
 returns-then-runs-ge-MOST_RUNS-clause-admitted c =
     let here = (goal.at.returns-then-runs-ge-MOST_RUNS-clause-admitted c).After-are_passed in
     let f = found-of (goal.at.returns-then-runs-ge-MOST_RUNS-clause-admitted c).In_ok-index in
-    no_runs c.args.store.now c.args.runs (request_of c.args.asked) c.in_ok-place.place f.home c.in_ok-index.index f.definition c.as_slice-tokens.result.now (types-found here f)
-    (same-arguments here ∙ c.if-not-are_passed.false) (omega (arith, c.if-runs-ge-MOST_RUNS.true))
+    no_runs c.args.store.now c.args.runs (request_of c.args.asked) c.in_ok-place.place f.home c.in_ok-index.index f.definition f.types.tokens (types-found here f)
+    (arguments-are here f ∙ c.if-not-are_passed.false) (omega (arith, c.if-runs-ge-MOST_RUNS.true))
 
 pub returns-clause-admitted : goal.returns-clause-admitted
 returns-clause-admitted c =
     let here = (goal.at.returns-clause-admitted c).After-are_passed in
     let f = found-of (goal.at.returns-clause-admitted c).In_ok-index in
     let made : List Value → FunctionCall = λ vs. record { function = record { place = c.in_ok-place.place; index = c.in_ok-index.index }; arguments = vs } in
-    admits c.args.store.now c.args.runs (request_of c.args.asked) c.in_ok-place.place f.home c.in_ok-index.index f.definition c.as_slice-tokens.result.now _ (types-found here f)
-    (same-arguments here ∙ c.if-not-are_passed.false) (omega (arith, c.if-runs-ge-MOST_RUNS.false)) (ap made c.in_ok-arguments.ensures.value) refl
+    admits c.args.store.now c.args.runs (request_of c.args.asked) c.in_ok-place.place f.home c.in_ok-index.index f.definition f.types.tokens _ (types-found here f)
+    (arguments-are here f ∙ c.if-not-are_passed.false) (omega (arith, c.if-runs-ge-MOST_RUNS.false)) (ap made (sender-found here f)) refl

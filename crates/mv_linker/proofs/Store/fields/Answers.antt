@@ -18,5 +18,5 @@ returns-clause-fields c =
     let are : AreCodesOf (tables_in c.args.self.now) codes = subst (λ (s : List PublishedModule). AreCodesOf (tables_in s) codes) c.self.view_is c.self.invariant.2 in
     let at : slice_get codes c.args.d.place ≡ Some code =
     sym (ap₂ slice_get c.deref.ensures.value c.from.ensures) ∙ sym (got c.deref.result.now c.from.result (Some c.in_ok-code.code) c.in_ok-code.ensures.lookup) in
-    subst (λ (o : Option (List Part)). AreFieldsAt (tables_in c.args.self.now) c.args.d o) (sym (c.get-2.ensures ∙ ap (slice_get code.shapes) c.from-2.ensures))
+    subst (λ (o : Option (List Part)). AreFieldsAt (tables_in c.args.self.now) c.args.d o) (sym (c.get-2.ensures ∙ ap (slice_get code.interface.parts) c.from-2.ensures))
     (fields-known (tables_in c.args.self.now) codes are c.args.d code at)

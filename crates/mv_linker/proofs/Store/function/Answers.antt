@@ -1,60 +1,61 @@
-use Rattle.mv_linker.proofs.Common.{ℕ, ◌<◌, ◌∙◌, ◌≡◌, ◌≤◌, AreCodesOf, AreInterfacesOf, Bor, Code, IfSome, Interface, IsStore, IsTrue, List, Module, None, Option, PublishedModule, Some}
-use Rattle.mv_linker.proofs.Common.{ap, arith, bytes_eq, function_place, leb-true, length, length-map, nat_le, option_map, position, refl, slice_get, slice_get_read, subst, sym, tables_in}
-use Rattle.mv_linker.proofs.Lemmas.{among-at, place_below, element_at}
+use Rattle.mv_linker.proofs.Common.{ℕ, ◌<◌, ◌∙◌, ◌≡◌, AreCodesOf, Code, IfSome, IsFunctionNamed, IsInterface, IsSound, IsStore, List, Module, None, Option, PublishedModule, Signature, Some, WellDefined}
+use Rattle.mv_linker.proofs.Common.{ap, arith, function_place, length, length-map, option_map, refl, slice_get, slice_get_read, slice_get_within, subst, sym, tables_in}
+use Rattle.mv_linker.proofs.Lemmas.{among-at, element_at}
 use Rattle.mv_linker.proofs.Joining.Assembling.{passed-among}
-use Rattle.mv_linker.proofs.Kept.InterfaceLemmas.{function-found, interface-at}
-use Rattle.mv_linker.proofs.Found.{position-find_index}
-use Rattle.mv_linker.proofs.LinkedCode.StoredCodes.{interfaces-known}
+use Rattle.mv_linker.proofs.Kept.InterfaceLemmas.{signature-at}
+use Rattle.mv_linker.proofs.Kept.OutlineLemmas.{named-place, no-function-named}
+use Rattle.mv_linker.proofs.LinkedCode.StoredCodes.{interface-known}
 use Rattle.mv_linker.proofs.Store.function.Goals.{After-index}
 use Rattle.mv_linker.proofs.Store.function.Goals as goal
 
--- the module at the place, with its code's interfaces
+-- the module at the place, with what is kept of it
 record Here (modules : List Module) (place : ℕ) (code : Code) : Type 0 where
   home : Module
   at : slice_get modules place ≡ Some home
-  interfaces : AreInterfacesOf home code.interfaces.items
+  interface : IsInterface modules home code.interface
+  defined : WellDefined home
 
 here : (c : After-index) → Here (tables_in c.args.self.now) c.args.place c.index.result.now
 here c =
     let modules = tables_in c.args.self.now in
     let codes = c.self.inside.codes.items in
     let are : AreCodesOf modules codes = subst (λ (s : List PublishedModule). AreCodesOf (tables_in s) codes) c.self.view_is c.self.invariant.2 in
+    let store : IsStore c.args.self.now = subst IsStore c.self.view_is c.self.invariant.0 in
     let low : c.args.place < length codes = omega (arith, are.len, length-map c.args.self.now (λ (p : PublishedModule). p.tables), c.requires) in
     let at : slice_get codes c.args.place ≡ Some c.index.result.now = slice_get_read codes (length codes) c.args.place c.index.result.now refl low c.index.ensures in
     let m = element_at modules c.args.place (omega (arith, are.len, low)) in
-    record { home = m.0; at = m.1; interfaces = interfaces-known modules codes c.args.place m.0 c.index.result.now are m.1 at }
-
--- a module of a store defines few functions
-few-functions : (store : List PublishedModule) (place : ℕ) (m : Module) → IsStore store → slice_get (tables_in store) place ≡ Some m → length m.functions ≤ 256
-few-functions store place m s at =
-    let p = passed-among store m s.passed (among-at (tables_in store) place m at) in
-    leb-true (length m.functions) 256 (subst (λ (n : Module). IsTrue (nat_le (length n.functions) 256)) p.2 p.1.spelled.few_functions)
+    let p = passed-among c.args.self.now m.0 store.passed (among-at modules c.args.place m.0 m.1) in
+    record { home = m.0; at = m.1; interface = interface-known modules codes c.args.place m.0 c.index.result.now are m.1 at; defined = subst (λ (n : Module). WellDefined n) p.2 p.1.sound.defined }
 
 pub returns-in_err-index-clause-index : goal.returns-in_err-index-clause-index
 returns-in_err-index-clause-index c =
     let h = here (goal.at.returns-in_err-index-clause-index c).After-index in
     let modules = tables_in c.args.self.now in
-    let interfaces = c.index.result.now.interfaces.items in
-    let none : None ≡ position (λ (i : Interface). bytes_eq c.args.name.now i.identifier.items) interfaces =
-    sym c.in_err-index.was ∙ c.index_of.ensures ∙ ap (position (λ (i : Interface). bytes_eq c.args.name.now i.identifier.items)) c.deref.ensures.value in
-    subst (λ (o : Option (ℕ × Bor Interface)). IfSome (slice_get modules c.args.place) (λ m. option_map (λ p. p.0) o ≡ function_place m c.args.name.now)) (sym c.from_residual.ensures)
-    (function-found modules c.args.place h.home interfaces c.args.name.now None h.at h.interfaces none)
+    let missing : function_place h.home c.args.name.now ≡ None =
+    no-function-named h.home c.index.result.now.interface.outline.functions c.args.name.now h.interface.outline.functions
+    (λ k f at named. c.in_err-index.ensures.found k (record { entry = f; there = at; named = named })) in
+    subst (λ (o : Option (ℕ × Signature)). IfSome (slice_get modules c.args.place) (λ m. option_map (λ p. p.0) o ≡ function_place m c.args.name.now)) (sym c.from_residual.ensures)
+    (subst (λ (o : Option Module). IfSome o (λ m. None ≡ function_place m c.args.name.now)) (sym h.at) (sym missing))
 
-pub returns : goal.returns
-returns c =
-    let h = here (goal.at.returns c).After-index in
-    let modules = tables_in c.args.self.now in
-    let interfaces = c.index.result.now.interfaces.items in
-    let whole : IsStore c.args.self.now = subst IsStore c.self.view_is c.self.invariant.0 in
-    let found : Some c.in_ok-index.index ≡ position (λ (i : Interface). bytes_eq c.args.name.now i.identifier.items) interfaces =
-    sym c.in_ok-index.was ∙ c.index_of.ensures ∙ ap (position (λ (i : Interface). bytes_eq c.args.name.now i.identifier.items)) c.deref.ensures.value in
-    let low : c.in_ok-index.index < length interfaces =
-    place_below (λ (i : Interface). bytes_eq c.args.name.now i.identifier.items) interfaces c.in_ok-index.index (sym (found ∙ position-find_index (λ (i : Interface). bytes_eq c.args.name.now i.identifier.items) interfaces)) in
-    let at : slice_get interfaces c.in_ok-index.index ≡ Some c.index-2.result.now = slice_get_read interfaces (length interfaces) c.in_ok-index.index c.index-2.result.now refl low c.index-2.ensures in
-    let few : length h.home.functions ≤ 256 = few-functions c.args.self.now c.args.place h.home whole h.at in
-    record {
-      index = function-found modules c.args.place h.home interfaces c.args.name.now (Some c.in_ok-index.index) h.at h.interfaces found;
-      interface = interface-at modules c.args.place c.in_ok-index.index h.home interfaces c.index-2.result.now h.at h.interfaces at;
-      few = omega (arith, low, few, h.interfaces.len);
-      store = whole;
-    }
+pub signature-requires : goal.signature-requires
+signature-requires c =
+    let h = here (goal.at.signature-requires c).After-index in
+    h.interface.parameters.len ∙ sym h.interface.outline.functions.len
+
+pub returns-in_err-signature-clause-index : goal.returns-in_err-signature-clause-index
+returns-in_err-signature-clause-index c =
+    let h = here (goal.at.returns-in_err-signature-clause-index c).After-index in
+    let found : IsFunctionNamed c.index.result.now.interface.outline c.in_ok-index.index c.args.name.now = c.in_ok-index.ensures.found in
+    absurd (omega (arith, slice_get_within c.index.result.now.interface.outline.functions c.in_ok-index.index found.entry found.there, h.interface.parameters.len, h.interface.outline.functions.len, c.in_err-signature.ensures.none))
+
+pub returns-clause-index : goal.returns-clause-index
+returns-clause-index c =
+    let h = here (goal.at.returns-clause-index c).After-index in
+    let found : IsFunctionNamed c.index.result.now.interface.outline c.in_ok-index.index c.args.name.now = c.in_ok-index.ensures.found in
+    subst (λ (o : Option Module). IfSome o (λ m. Some c.in_ok-index.index ≡ function_place m c.args.name.now)) (sym h.at)
+    (sym (named-place h.home c.index.result.now.interface.outline.functions c.in_ok-index.index c.args.name.now h.defined h.interface.outline.functions found.entry found.there found.named))
+
+pub returns-clause-interface : goal.returns-clause-interface
+returns-clause-interface c =
+    let h = here (goal.at.returns-clause-interface c).After-index in
+    signature-at (tables_in c.args.self.now) c.args.place c.in_ok-index.index h.home c.index.result.now.interface c.in_ok-signature.field-0 h.at h.interface c.in_ok-signature.ensures.there

@@ -1,4 +1,4 @@
-use Rattle.mv_linker.proofs.Common.{◌∙◌, ◌≡◌, AreCodesOf, List, None, PublishedModule, Some, ap, ap₂, false, slice_get, subst, sym, tables_in, unwrap_or}
+use Rattle.mv_linker.proofs.Common.{◌∙◌, ◌≡◌, AreCodesOf, List, None, PublishedModule, Some, StructOutline, ap, ap₂, false, option_map_or, slice_get, subst, sym, tables_in}
 use Rattle.mv_linker.proofs.LinkedCode.StoredCodes.{got}
 use Rattle.mv_linker.proofs.Kept.StoredShapes.{key-known, no_key}
 use Rattle.mv_linker.proofs.Store.is_keyed.Goals as goal
@@ -17,6 +17,5 @@ returns-in-Some c =
     let are : AreCodesOf (tables_in c.args.self.now) codes = subst (λ (s : List PublishedModule). AreCodesOf (tables_in s) codes) c.self.view_is c.self.invariant.2 in
     let at : slice_get codes c.args.d.place ≡ Some code =
     sym (ap₂ slice_get c.deref.ensures.value c.from.ensures) ∙ sym (got c.deref.result.now c.from.result (Some c.in-Some.code) c.in-Some.ensures.lookup) in
-    c.unwrap_or.ensures
-    ∙ ap (λ o. unwrap_or o false) (c.copied.ensures ∙ got c.deref-in-Some.result.now c.from-in-Some.result c.get-in-Some.result c.get-in-Some.ensures.lookup ∙ ap₂ slice_get c.deref-in-Some.ensures.value c.from-in-Some.ensures)
+    c.is_keyed.ensures ∙ ap (λ i. option_map_or (λ (s : StructOutline). s.abilities.key) (slice_get code.interface.outline.structs i) false) c.from-in-Some.ensures
     ∙ key-known (tables_in c.args.self.now) codes are c.args.d code at

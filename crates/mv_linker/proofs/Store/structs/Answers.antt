@@ -1,6 +1,6 @@
-use Rattle.mv_linker.proofs.Common.{◌∙◌, ◌≡◌, AreCodesOf, IsStore, List, None, PublishedModule, Some, ap, arith, slice_get, subst, sym, tables_in}
+use Rattle.mv_linker.proofs.Common.{◌∙◌, ◌≡◌, AreCodesOf, List, None, PublishedModule, Some, ap, arith, slice_get, subst, sym, tables_in}
 use Rattle.mv_linker.proofs.LinkedCode.StoredCodes.{got}
-use Rattle.mv_linker.proofs.Kept.StoredShapes.{few-structs, no_structs, structs-known}
+use Rattle.mv_linker.proofs.Kept.StoredShapes.{no_structs, structs-known}
 use Rattle.mv_linker.proofs.Store.structs.Goals as goal
 
 pub returns-in-None : goal.returns-in-None
@@ -17,6 +17,5 @@ returns-in-Some c =
     let are : AreCodesOf (tables_in c.args.self.now) codes = subst (λ (s : List PublishedModule). AreCodesOf (tables_in s) codes) c.self.view_is c.self.invariant.2 in
     let at : slice_get codes c.args.place ≡ Some code =
     sym (ap (λ l. slice_get l c.args.place) c.deref.ensures.value) ∙ sym (got c.deref.result.now c.args.place (Some c.in-Some.code) c.in-Some.ensures.lookup) in
-    let count = c.len.ensures ∙ code.keys.ok.0 ∙ structs-known (tables_in c.args.self.now) codes are c.args.place code at in
-    let few = few-structs c.args.self.now (subst IsStore c.self.view_is c.self.invariant.0) c.args.place in
-    record { count = count; few = omega (arith, count, few) }
+    let count = c.struct_count.ensures.count ∙ structs-known (tables_in c.args.self.now) codes are c.args.place code at in
+    record { count = count; few = c.struct_count.ensures.few }

@@ -1,0 +1,136 @@
+-- Outlines of modules: that what is made of a module's tables is its outline, and that a function is found by its identifier.
+--   outline-is           what is made of a module whose indices are in bounds
+--   named-place          the function that has an identifier is the one of this name
+--   no-function-named    there is none of this name where none has the identifier
+--   struct-found, function-found, struct-missing, function-missing    what searches find
+use Rattle.mv_linker.proofs.Common.{[], ℕ, ◌<◌, ◌∙◌, ◌∷◌, ◌≡◌, AreEach, AreFieldNames, Bool, Field, FunctionDefinition, FunctionEntry, FunctionOutline, InBounds, IsFunctionNamed, IsFunctionOutline}
+use Rattle.mv_linker.proofs.Common.{IsOutline, IsStructNamed, IsStructOutline, List, Module, None, Option, OutlineView, Some, StructDefinition, StructEntry, StructOutline, WellDefined, and_parts, ap, arith}
+use Rattle.mv_linker.proofs.Common.{below, bytes_eq, bytes_eq-Decides, false, field_in, function_by, function_handle_in, function_kept, function_place, identifier_at, length, list_all, ltb-true, map, map-map}
+use Rattle.mv_linker.proofs.Common.{name_of_function, names_by, option_map, option_map_or, outline_by, position, refl, same_Some, slice_get, slice_get-map, slice_get_within, struct_by, struct_handle_in}
+use Rattle.mv_linker.proofs.Common.{struct_in, struct_kept, subst, sym, true, unwrap_or}
+use Rattle.std.specs.List.{AllZip}
+use Rattle.std.specs.Prelude.{MatchOption}
+use Rattle.mv_bounds.proofs.Entries.{mapped-at}
+use Rattle.mv_bounds.proofs.FunctionLemmas.{handle_below}
+use Rattle.mv_linker.proofs.Each.{each-mapped}
+use Rattle.mv_linker.proofs.Found.{none_passes, position-find_index}
+use Rattle.mv_linker.proofs.Lemmas.{all_at, element_at, found_at}
+use Rattle.mv_linker.proofs.OwnDefinitions.{function-at, function_named_so}
+
+module _ (m : Module) (bounds : InBounds m) where
+  -- ---- what is made of each definition
+
+  struct-is : (i : ℕ) (d : StructDefinition) → slice_get m.structs i ≡ Some d → IsStructOutline m d (struct_kept m.identifiers (struct_by m d))
+  struct-is i d at =
+      let fits : struct_in m d ≡ true = all_at (struct_in m) m.structs i d bounds.structs at in
+      let h = element_at m.struct_handles d.handle (ltb-true d.handle (length m.struct_handles) (and_parts (below d.handle m.struct_handles) _ fits).0) in
+      let handle : struct_handle_in m h.0 ≡ true = all_at (struct_handle_in m) m.struct_handles d.handle h.0 bounds.struct_handles h.1 in
+      let name = element_at m.identifiers h.0.name (ltb-true h.0.name (length m.identifiers) (and_parts _ (below h.0.name m.identifiers) handle).1) in
+      record { identifier = rw (h.1, name.1) refl; abilities = rw h.1 refl }
+
+  function-is : (i : ℕ) (d : FunctionDefinition) → slice_get m.functions i ≡ Some d → IsFunctionOutline m d (function_kept m.identifiers (function_by m d))
+  function-is i d at =
+      let h = element_at m.function_handles d.handle (handle_below m bounds i d at).0 in
+      let handle : function_handle_in m h.0 ≡ true = all_at (function_handle_in m) m.function_handles d.handle h.0 bounds.function_handles h.1 in
+      let three = and_parts _ (below h.0.results m.signatures) handle in
+      let two = and_parts _ (below h.0.parameters m.signatures) three.0 in
+      let name = element_at m.identifiers h.0.name (ltb-true h.0.name (length m.identifiers) (and_parts _ (below h.0.name m.identifiers) two.0).1) in
+      record { identifier = rw (h.1, name.1) refl; visible = refl; entry = refl }
+
+  names-are : (fields : List Field) → list_all (field_in m) fields ≡ true
+      → AllZip (λ (f : Field) name. slice_get m.identifiers f.name ≡ Some name) fields (map (identifier_at m.identifiers) (map (λ (f : Field). f.name) fields))
+  names-are [] all = tt
+  names-are (f ∷ fields) all =
+      let parts = and_parts (field_in m f) (list_all (field_in m) fields) all in
+      let name = element_at m.identifiers f.name (ltb-true f.name (length m.identifiers) (and_parts (below f.name m.identifiers) _ parts.0).0) in
+      (name.1 ∙ ap Some (sym (ap (λ o. unwrap_or o []) name.1)), names-are fields parts.1)
+
+  fields-are : (i : ℕ) (d : StructDefinition) → slice_get m.structs i ≡ Some d → AreFieldNames m d (map (identifier_at m.identifiers) (names_by d))
+  fields-are i d at = names-are d.fields (and_parts (below d.handle m.struct_handles) _ (all_at (struct_in m) m.structs i d bounds.structs at)).1
+
+  -- ---- and of the module
+
+  pub outline-is : IsOutline m (outline_by m)
+  outline-is = record {
+    structs = subst (AreEach (IsStructOutline m) m.structs) (sym (map-map (struct_kept m.identifiers) (struct_by m) m.structs))
+        (each-mapped (IsStructOutline m) (λ d. struct_kept m.identifiers (struct_by m d)) m.structs struct-is);
+    fields = subst (AreEach (AreFieldNames m) m.structs) (sym (map-map (map (identifier_at m.identifiers)) names_by m.structs))
+        (each-mapped (AreFieldNames m) (λ d. map (identifier_at m.identifiers) (names_by d)) m.structs fields-are);
+    functions = subst (AreEach (IsFunctionOutline m) m.functions) (sym (map-map (function_kept m.identifiers) (function_by m) m.functions))
+        (each-mapped (IsFunctionOutline m) (λ d. function_kept m.identifiers (function_by m d)) m.functions function-is);
+  }
+
+-- the function that has an identifier is the one of this name
+pub named-place : (n : Module) (functions : List FunctionOutline) (k : ℕ) (name : List ℕ) → WellDefined n → AreEach (IsFunctionOutline n) n.functions functions → (f : FunctionOutline)
+    → slice_get functions k ≡ Some f → f.identifier ≡ name → function_place n name ≡ Some k
+named-place n functions k name defined are f at named =
+    let d = element_at n.functions k (omega (arith, slice_get_within functions k f at, are.len)) in
+    let is = are.each k d.0 f d.1 at in
+    function-at n defined name k d.0 d.1 (ap (λ x. option_map_or (bytes_eq name) x false) is.identifier ∙ (bytes_eq-Decides name f.identifier).1 (sym named))
+
+-- there is none of this name where none has the identifier
+pub no-function-named : (n : Module) (functions : List FunctionOutline) (name : List ℕ) → AreEach (IsFunctionOutline n) n.functions functions
+    → ((k : ℕ) (f : FunctionOutline) → slice_get functions k ≡ Some f → f.identifier ≡ name → ⊥) → function_place n name ≡ None
+no-function-named n functions name are none = by_place (function_place n name) refl
+  where
+    by_place : (o : Option ℕ) → function_place n name ≡ o → o ≡ None
+    by_place None e = refl
+    by_place (Some k) e =
+        let d = found_at (λ d. option_map_or (bytes_eq name) (name_of_function n d) false) n.functions k e in
+        let f = element_at functions k (omega (arith, slice_get_within n.functions k d.entry d.at, are.len)) in
+        let named : name_of_function n d.entry ≡ Some name = function_named_so (name_of_function n d.entry) name d.passes in
+        absurd (none k f.0 f.1 (same_Some f.0.identifier name (sym (are.each k d.entry f.0 d.at f.1).identifier ∙ named)))
+
+-- ---- searches
+
+-- the struct that was found first has the identifier
+pub struct-found : (identifiers : List (List ℕ)) (structs : List StructEntry) (o : OutlineView) (name : List ℕ) (k : ℕ) → o.structs ≡ map (struct_kept identifiers) structs
+    → position (λ (s : StructEntry). bytes_eq name (identifier_at identifiers s.identifier)) structs ≡ Some k → IsStructNamed o k name
+struct-found identifiers structs o name k is found =
+    let p : StructEntry → Bool = λ s. bytes_eq name (identifier_at identifiers s.identifier) in
+    let f = found_at p structs k (sym (position-find_index p structs) ∙ found) in
+    record {
+      entry = struct_kept identifiers f.entry;
+      there = ap (λ l. slice_get l k) is ∙ slice_get-map (struct_kept identifiers) structs k ∙ ap (option_map (struct_kept identifiers)) f.at;
+      named = sym ((bytes_eq-Decides name (identifier_at identifiers f.entry.identifier)).0 f.passes);
+    }
+
+-- where none was found none has it
+pub struct-missing : (identifiers : List (List ℕ)) (structs : List StructEntry) (o : OutlineView) (name : List ℕ) → o.structs ≡ map (struct_kept identifiers) structs
+    → position (λ (s : StructEntry). bytes_eq name (identifier_at identifiers s.identifier)) structs ≡ None → (k : ℕ) → IsStructNamed o k name → ⊥
+struct-missing identifiers structs o name is none k named =
+    let p : StructEntry → Bool = λ s. bytes_eq name (identifier_at identifiers s.identifier) in
+    let s = mapped-at (struct_kept identifiers) structs k named.entry (sym (ap (λ l. slice_get l k) is) ∙ named.there) in
+    let same : identifier_at identifiers s.0.identifier ≡ name = ap (λ (x : StructOutline). x.identifier) s.2 ∙ named.named in
+    none_passes p structs k s.0 (sym (position-find_index p structs) ∙ none) s.1 ((bytes_eq-Decides name (identifier_at identifiers s.0.identifier)).1 (sym same))
+
+-- the function that was found first
+pub function-found : (identifiers : List (List ℕ)) (functions : List FunctionEntry) (o : OutlineView) (name : List ℕ) (k : ℕ) → o.functions ≡ map (function_kept identifiers) functions
+    → position (λ (s : FunctionEntry). bytes_eq name (identifier_at identifiers s.identifier)) functions ≡ Some k → IsFunctionNamed o k name
+function-found identifiers functions o name k is found =
+    let p : FunctionEntry → Bool = λ s. bytes_eq name (identifier_at identifiers s.identifier) in
+    let f = found_at p functions k (sym (position-find_index p functions) ∙ found) in
+    record {
+      entry = function_kept identifiers f.entry;
+      there = ap (λ l. slice_get l k) is ∙ slice_get-map (function_kept identifiers) functions k ∙ ap (option_map (function_kept identifiers)) f.at;
+      named = sym ((bytes_eq-Decides name (identifier_at identifiers f.entry.identifier)).0 f.passes);
+    }
+
+pub function-missing : (identifiers : List (List ℕ)) (functions : List FunctionEntry) (o : OutlineView) (name : List ℕ) → o.functions ≡ map (function_kept identifiers) functions
+    → position (λ (s : FunctionEntry). bytes_eq name (identifier_at identifiers s.identifier)) functions ≡ None → (k : ℕ) → IsFunctionNamed o k name → ⊥
+function-missing identifiers functions o name is none k named =
+    let p : FunctionEntry → Bool = λ s. bytes_eq name (identifier_at identifiers s.identifier) in
+    let s = mapped-at (function_kept identifiers) functions k named.entry (sym (ap (λ l. slice_get l k) is) ∙ named.there) in
+    let same : identifier_at identifiers s.0.identifier ≡ name = ap (λ (x : FunctionOutline). x.identifier) s.2 ∙ named.named in
+    none_passes p functions k s.0 (sym (position-find_index p functions) ∙ none) s.1 ((bytes_eq-Decides name (identifier_at identifiers s.0.identifier)).1 (sym same))
+
+-- so a search answers what it is to
+pub struct-searched : (identifiers : List (List ℕ)) (structs : List StructEntry) (o : OutlineView) (name : List ℕ) (r : Option ℕ) → o.structs ≡ map (struct_kept identifiers) structs
+    → r ≡ position (λ (s : StructEntry). bytes_eq name (identifier_at identifiers s.identifier)) structs → MatchOption r ((k : ℕ) → IsStructNamed o k name → ⊥) (λ k. IsStructNamed o k name)
+struct-searched identifiers structs o name None is found = struct-missing identifiers structs o name is (sym found)
+struct-searched identifiers structs o name (Some k) is found = struct-found identifiers structs o name k is (sym found)
+
+pub function-searched : (identifiers : List (List ℕ)) (functions : List FunctionEntry) (o : OutlineView) (name : List ℕ) (r : Option ℕ) → o.functions ≡ map (function_kept identifiers) functions
+    → r ≡ position (λ (f : FunctionEntry). bytes_eq name (identifier_at identifiers f.identifier)) functions → MatchOption r ((k : ℕ) → IsFunctionNamed o k name → ⊥) (λ k. IsFunctionNamed o k name)
+function-searched identifiers functions o name None is found = function-missing identifiers functions o name is (sym found)
+function-searched identifiers functions o name (Some k) is found = function-found identifiers functions o name k is (sym found)
