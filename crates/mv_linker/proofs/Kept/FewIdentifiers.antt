@@ -1,5 +1,5 @@
 -- The identifiers of a module that has a text: there are few, and each is short.
-use Rattle.mv_linker.proofs.Common.{[], ℕ, ◌++◌, ◌+◌, ◌∷◌, ◌<◌, ◌≡◌, ◌≤◌, HasText, List, Module, Some, and_parts, arith, cases_Bool, identifier_fits, inl, inr, is_identifier, leb-true, length, length-append, filter}
+use Rattle.mv_linker.proofs.Common.{[], ℕ, ◌++◌, ◌∷◌, ◌<◌, ◌≡◌, ◌≤◌, HasText, List, Module, Some, and_parts, arith, cases_Bool, identifier_fits, inl, inr, is_identifier, leb-true, length, length-append, filter}
 use Rattle.mv_linker.proofs.Common.{refl, slice_get}
 use Rattle.std.proofs.Common.{ltb-false}
 use Rattle.std.specs.Prelude.{flat_map, sum_by, nat_lt}

@@ -1,8 +1,8 @@
 -- Interfaces of modules: that what is made of a module's tables is its interface, and what it says of a function.
 --   interface-is    what is made of a module, by where the structs of its handles are defined
 --   signature-at    what a call from outside asks of the function at an index
-use Rattle.mv_linker.proofs.Common.{[], ℕ, ◌&&◌, ◌∙◌, ◌∷◌, ◌≡◌, AreEach, AreParts, AreStructsAt, AreTypes, AreTypesOf, Definition, FunctionDefinition, InBounds, Interface, IsInterface, IsOutline}
-use Rattle.mv_linker.proofs.Common.{IsSignatureAt, IsSignatureOf, IsType, LinkedType, List, Module, MutableReference, Option, Part, Plain, Reference, Signature, Some, StructDefinition, Token, ap, arith}
+use Rattle.mv_linker.proofs.Common.{[], ℕ, ◌∙◌, ◌∷◌, ◌≡◌, AreParts, AreStructsAt, AreTypes, AreTypesOf, Definition, FunctionDefinition, InBounds, Interface, IsInterface, IsOutline}
+use Rattle.mv_linker.proofs.Common.{IsSignatureAt, IsSignatureOf, IsType, List, Module, MutableReference, Option, Plain, Reference, Signature, Some, StructDefinition, Token, ap, arith}
 use Rattle.mv_linker.proofs.Common.{map, parameter_tokens, parts_by, slice_get, slice_get_within, subst, sym, type_by, types_by, unwrap_or}
 use Rattle.mv_move_types.specs.Module.{result_tokens}
 use Rattle.mv_bounds.proofs.FunctionLemmas.{handle_below, signatures_below}

@@ -3,7 +3,7 @@
 --   named-place          the function that has an identifier is the one of this name
 --   no-function-named    there is none of this name where none has the identifier
 --   struct-found, function-found, struct-missing, function-missing    what searches find
-use Rattle.mv_linker.proofs.Common.{[], ℕ, ◌<◌, ◌∙◌, ◌∷◌, ◌≡◌, AreEach, AreFieldNames, Bool, Field, FunctionDefinition, FunctionEntry, FunctionOutline, InBounds, IsFunctionNamed, IsFunctionOutline}
+use Rattle.mv_linker.proofs.Common.{[], ℕ, ◌∙◌, ◌∷◌, ◌≡◌, AreEach, AreFieldNames, Bool, Field, FunctionDefinition, FunctionEntry, FunctionOutline, InBounds, IsFunctionNamed, IsFunctionOutline}
 use Rattle.mv_linker.proofs.Common.{IsOutline, IsStructNamed, IsStructOutline, List, Module, None, Option, OutlineView, Some, StructDefinition, StructEntry, StructOutline, WellDefined, and_parts, ap, arith}
 use Rattle.mv_linker.proofs.Common.{below, bytes_eq, bytes_eq-Decides, false, field_in, function_by, function_handle_in, function_kept, function_place, identifier_at, length, list_all, ltb-true, map, map-map}
 use Rattle.mv_linker.proofs.Common.{name_of_function, names_by, option_map, option_map_or, outline_by, position, refl, same_Some, slice_get, slice_get-map, slice_get_within, struct_by, struct_handle_in}

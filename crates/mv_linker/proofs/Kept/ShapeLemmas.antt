@@ -5,8 +5,8 @@
 --   struct-module          the module of a struct's name is one that a handle names
 use Rattle.mv_linker.proofs.Common.{[], ℕ, ◌++◌, ◌+◌, ◌<◌, ◌∙◌, ◌∷◌, ◌≡◌, ◌≤◌, AreParts, AreStructsAt, Definition, Field, IsPart, List, Module, MutableReference, None, Nothing}
 use Rattle.mv_linker.proofs.Common.{OfLeaf, OfStruct, Option, Part, Plain, Reference, Some, Struct, StructDefinition, StructName, Token, and_parts, ap, append-nil, append_assoc, false}
-use Rattle.mv_linker.proofs.Common.{get_or, is_some, leb-true, length, length-map, list_all, map, map-append, module_name, option_map, option_map_or, part_by, parts_by, refl, same_Some}
-use Rattle.mv_linker.proofs.Common.{slice_get, slice_get_past, struct_definition_fits, struct_name, subst, sym, take, take_all, take_more, true}
+use Rattle.mv_linker.proofs.Common.{get_or, is_some, leb-true, length, list_all, map, map-append, module_name, option_map_or, part_by, parts_by, refl}
+use Rattle.mv_linker.proofs.Common.{slice_get, slice_get_past, struct_definition_fits, struct_name, sym, take, take_all, take_more, true}
 use Rattle.mv_linker.proofs.Lemmas.{all_at, past_from, struct_parts}
 
 -- a struct has at most 32 fields

@@ -1,7 +1,7 @@
 -- The names of a store's structs, by the name of their module and their identifiers there.
 --   unnamed-there    no struct stands where there is no identifier
 --   named-there      the name of a struct, by the key of its module and its identifier
-use Rattle.mv_linker.proofs.Common.{ℕ, ◌∙◌, ◌≡◌, AreCodesOf, AreKeyed, Code, IsSound, IsStore, List, Module, Name, None, Option, Some, StructDefinition, StructName, StructOutline, Texts, ap, ap₂}
+use Rattle.mv_linker.proofs.Common.{ℕ, ◌∙◌, ◌≡◌, AreCodesOf, AreKeyed, Code, IsSound, IsStore, List, Module, Name, None, Some, StructDefinition, StructName, StructOutline, Texts, ap, ap₂}
 use Rattle.mv_linker.proofs.Common.{arith, name_at, name_in, name_of_struct, own_name, published_as, published_under, refl, same_Some, slice_get, slice_get_past, slice_get_within, struct_identifier}
 use Rattle.mv_linker.proofs.Common.{slice_get-map, subst, sym, tables_in}
 use Rattle.mv_linker.proofs.Lemmas.{among-at, element_at, own-definition, owns-structs, past_from, struct_parts}

@@ -1,5 +1,5 @@
-use Rattle.mv_linker.proofs.Common.{ℕ, ◌<◌, ◌∙◌, ◌≡◌, AreCodesOf, Code, IfSome, IsFunctionNamed, IsInterface, IsSound, IsStore, List, Module, None, Option, PublishedModule, Signature, Some, WellDefined}
-use Rattle.mv_linker.proofs.Common.{ap, arith, function_place, length, length-map, option_map, refl, slice_get, slice_get_read, slice_get_within, subst, sym, tables_in}
+use Rattle.mv_linker.proofs.Common.{ℕ, ◌<◌, ◌∙◌, ◌≡◌, AreCodesOf, Code, IfSome, IsFunctionNamed, IsInterface, IsStore, List, Module, None, Option, PublishedModule, Signature, Some, WellDefined}
+use Rattle.mv_linker.proofs.Common.{arith, function_place, length, length-map, option_map, refl, slice_get, slice_get_read, slice_get_within, subst, sym, tables_in}
 use Rattle.mv_linker.proofs.Lemmas.{among-at, element_at}
 use Rattle.mv_linker.proofs.Joining.Assembling.{passed-among}
 use Rattle.mv_linker.proofs.Kept.InterfaceLemmas.{signature-at}

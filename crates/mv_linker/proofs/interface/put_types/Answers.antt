@@ -1,4 +1,4 @@
-use Rattle.mv_linker.proofs.Common.{[], ◌++◌, ◌∙◌, ◌∷◌, ◌≡◌, Boolean, List, OfLeaf, Plain, Token, ap, get_or, map-append, sym, take, take_all, take_more, type_by, types_by}
+use Rattle.mv_linker.proofs.Common.{[], ◌++◌, ◌∙◌, ◌∷◌, Boolean, List, OfLeaf, Plain, Token, ap, get_or, map-append, sym, take, take_all, take_more, type_by, types_by}
 use Rattle.mv_linker.proofs.interface.put_types.Goals as goal
 
 pub loop-token-init : goal.loop-token-init

@@ -1,4 +1,4 @@
-use Rattle.mv_linker.proofs.Common.{[], ℕ, ◌++◌, ◌+◌, ◌∙◌, ◌∷◌, ◌≡◌, ◌≤◌, Field, List, Some, StructDefinition, ap, arith, length, length-map, length_push, map, map-append, names_by, refl, slice_get, slice_get_read, subst, sym, take, take_all}
+use Rattle.mv_linker.proofs.Common.{[], ◌++◌, ◌+◌, ◌∙◌, ◌∷◌, ◌≡◌, ◌≤◌, Field, List, Some, StructDefinition, ap, arith, length, length-map, length_push, map, map-append, names_by, refl, slice_get, slice_get_read, subst, sym, take, take_all}
 use Rattle.mv_linker.proofs.Kept.ShapeLemmas.{few-fields}
 use Rattle.mv_linker.proofs.LinkedCode.Linkable.{taken-more}
 use Rattle.mv_linker.proofs.outline.fields_of.Goals.{After-put_names}

@@ -1,4 +1,4 @@
-use Rattle.mv_linker.proofs.Common.{[], ℕ, ◌++◌, ◌∙◌, ◌∷◌, ◌≡◌, Boolean, Field, List, OfLeaf, Plain, ap, get_or, length, map, map-append, sym, take, take_all, take_more}
+use Rattle.mv_linker.proofs.Common.{[], ℕ, ◌++◌, ◌∙◌, ◌∷◌, Boolean, Field, List, OfLeaf, Plain, ap, get_or, map, map-append, sym, take, take_all, take_more}
 use Rattle.mv_linker.proofs.outline.put_names.Goals as goal
 
 pub loop-field-init : goal.loop-field-init

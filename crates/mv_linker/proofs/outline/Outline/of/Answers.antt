@@ -1,4 +1,4 @@
-use Rattle.mv_linker.proofs.Common.{◌∙◌, ◌≡◌, IsOutline, ap, function_by, map, names_by, outline_by, outline_kept, struct_by, subst, sym}
+use Rattle.mv_linker.proofs.Common.{◌∙◌, ◌≡◌, IsOutline, ap, map, names_by, outline_by, outline_kept, struct_by, subst, sym}
 use Rattle.mv_linker.proofs.Kept.OutlineLemmas.{outline-is}
 use Rattle.mv_linker.proofs.outline.Outline.of.Goals as goal
 
