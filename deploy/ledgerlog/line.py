@@ -8,11 +8,14 @@ from typing import Callable, Dict, List, NoReturn, Optional, TypeVar
 TOP = os.path.dirname(os.path.dirname(os.path.dirname(os.path.realpath(__file__))))
 sys.path.append(os.path.join(TOP, "tools"))
 
-from movetext.commandline import (DONE, FAULT, REFUSED, WORDS, Argument, CommandLine, Option, WordsError,  # noqa: E402,F401
-                                  read_input, understood_or_exit)
+from movetext.commandline import (DONE, FAULT, REFUSED, WORDS, Argument, CommandLine, Option, WordsError, read_input,  # noqa: E402
+                                  understood_or_exit)
 
 from .etcd import Access, Etcd  # noqa: E402
 from .log import Log  # noqa: E402
+
+# What this module has of the tools for those that import it, beside what it uses.
+__all__ = ["DONE", "REFUSED", "Argument", "WordsError", "read_input", "understood_or_exit"]
 
 BUILT = os.path.join(TOP, "crates", "moveledger_program", "out", "moveledger_program")
 # Beside the program's and the tools' own: a replica stops until a person has looked.

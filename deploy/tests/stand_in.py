@@ -8,6 +8,7 @@ wrongly; STAND_IN_FORM, the form in which it saves, beside MVL2, which each read
 import hashlib
 import os
 import sys
+from typing import BinaryIO, Iterator
 
 MARK = os.environ.get("STAND_IN_FORM", "MVL2").encode()
 
@@ -31,7 +32,7 @@ class StandIn:
         return "end 0" if kind == 4 else "refused 1"
 
 
-def records(stream):
+def records(stream: BinaryIO) -> Iterator[bytes]:
     while True:
         kind = stream.read(1)
         if not kind:

@@ -5,7 +5,7 @@ import json
 import os
 import threading
 import time
-from typing import Any, Dict, List, Tuple
+from typing import Any, Callable, Dict, List, Tuple
 
 from ledgerlog.errors import Full
 from ledgerlog.etcd import Etcd
@@ -47,8 +47,11 @@ class Store(Etcd):
             return self.answered(path, body)
 
     def answered(self, path: str, body: Body) -> Body:
-        answer = {"/v3/kv/range": self.ranged, "/v3/kv/put": self.asked_put, "/v3/kv/deleterange": self.deleted,
-                  "/v3/kv/txn": self.done, "/v3/maintenance/status": lambda _: {"dbSize": str(self.used)}}[path](body)
+        ways: Dict[str, Callable[[Body], Body]] = {
+            "/v3/kv/range": self.ranged, "/v3/kv/put": self.asked_put, "/v3/kv/deleterange": self.deleted, "/v3/kv/txn": self.done,
+            "/v3/maintenance/status": lambda _: {"dbSize": str(self.used)},
+        }
+        answer = ways[path](body)
         return {"header": {"revision": str(self.revision)}, **answer}
 
     def wait(self, first: bytes, end: bytes, revision: int, seconds: float) -> None:

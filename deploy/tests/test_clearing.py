@@ -1,4 +1,5 @@
 import unittest
+from typing import Iterable
 
 from ledgerlog.clearing import Clearing
 from ledgerlog.errors import LogError
@@ -16,7 +17,7 @@ class ClearingALog(unittest.TestCase):
         self.store = Store()
         self.log = made_log(self.store)
 
-    def agree(self, number: int, names=SET) -> None:
+    def agree(self, number: int, names: Iterable[str] = SET) -> None:
         for name in names:
             put_vote(self.log, name, SAVED, number, b"MVL2 %d" % number)
 

@@ -10,6 +10,7 @@ from ledgerlog.comparing import Comparing
 from ledgerlog.errors import Differs, NeedsPerson, OtherHistory
 from ledgerlog.following import Plan, Replica
 from ledgerlog.keys import LINES, PROGRAM, SAVED, numbered
+from ledgerlog.log import Log
 from ledgerlog.saves import SOCKET, Saves
 from ledgerlog.settings import Past
 from ledgerlog.status import Asked, Status, ask
@@ -31,7 +32,7 @@ def until(condition: Callable[[], Any]) -> None:
 class Running:
     """A replica in a thread, over a store in memory and the stand-in."""
 
-    def __init__(self, log, folder: str, name: str, is_again: bool = False, program: str = STAND_IN) -> None:
+    def __init__(self, log: Log, folder: str, name: str, is_again: bool = False, program: str = STAND_IN) -> None:
         self.saves = Saves(folder)
         self.status = Status(name)
         self.asked = Asked(self.saves.path(SOCKET), self.status)

@@ -1,11 +1,12 @@
 import unittest
-from typing import Any
+from typing import Any, List, Optional
 
 from ledgerlog.errors import LogError, OtherHistory, Refused
 from ledgerlog.keys import number_in, numbered
 from ledgerlog.log import Log, Offer
+from ledgerlog.requests import Body
 from ledgerlog.settings import Past, Settings, settings_of
-from ledgerlog.written import INLINE_BYTES, PIECE_BYTES, head_of
+from ledgerlog.written import INLINE_BYTES, PIECE_BYTES, Taken, head_of
 
 from .store import LOG_ID, SET, Store, fill, made_log, run
 
@@ -20,10 +21,10 @@ class Appending(unittest.TestCase):
         self.store = Store()
         self.log = made_log(self.store)
 
-    def put(self, offers, submitter="anyone"):
+    def put(self, offers: List[Offer], submitter: str = "anyone") -> List[int]:
         return list(self.log.append(offers, submitter, self.log.settings()))
 
-    def taken(self, first: int = 1):
+    def taken(self, first: int = 1) -> List[Taken]:
         return self.log.read(first).taken
 
     def test_records_get_the_next_numbers(self) -> None:
@@ -52,7 +53,7 @@ class Appending(unittest.TestCase):
         store = self.store
         real = store.asked_put
 
-        def put_and_lose(body):
+        def put_and_lose(body: Body) -> Body:
             answer = real(body)
             setattr(store, "asked_put", real)
             store.there = {key: one for key, one in store.there.items() if not key.startswith(b"L/piece/")}
@@ -82,7 +83,7 @@ class Appending(unittest.TestCase):
         other = made_log(self.store)
         real = self.store.done
 
-        def with_another_before(body):
+        def with_another_before(body: Body) -> Body:
             setattr(self.store, "done", real)
             fill(other, 1, "else")
             return real(body)
@@ -96,7 +97,7 @@ class Skipping(unittest.TestCase):
         self.store = Store()
         self.log = made_log(self.store)
 
-    def poison(self, value) -> str:
+    def poison(self, value: Optional[bytes]) -> str:
         """Why it is skipped when it is put by hand under the next number."""
         number = self.log.last() + 1
         if value is not None:

@@ -4,7 +4,7 @@ import tempfile
 import unittest
 
 from ledgerlog import saves
-from ledgerlog.saves import REFUSED, Saves, saves_in, vote_on
+from ledgerlog.saves import REFUSED, Save, Saves, saves_in, vote_on
 
 from .store import LOG_ID
 
@@ -17,7 +17,7 @@ class Folder(unittest.TestCase):
         self.saves = Saves(self.folder)
         self.addCleanup(self.saves.close)
 
-    def save(self, number: int, every: int = 4):
+    def save(self, number: int, every: int = 4) -> Save:
         with open(self.saves.new(), "wb") as file:
             file.write(b"MVL2 %d" % number)
         return self.saves.keep(number, LOG_ID, every)

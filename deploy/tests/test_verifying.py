@@ -3,7 +3,7 @@ import io
 import os
 import tempfile
 import unittest
-from typing import List
+from typing import List, Tuple
 
 from ledgerlog.errors import OtherHistory
 from ledgerlog.keys import LINES, SAVED
@@ -37,7 +37,7 @@ class VerifyingALog(unittest.TestCase):
     def path(self, name: str) -> str:
         return os.path.join(self.folder, name)
 
-    def verified(self):
+    def verified(self) -> Tuple[bool, str]:
         told = io.StringIO()
         with contextlib.redirect_stdout(told):
             return Verifying(self.log, STAND_IN, self.folder).run(), told.getvalue()

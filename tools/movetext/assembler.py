@@ -1,6 +1,6 @@
 """From a module's text to its tables: each name becomes the index of what it names."""
 
-from typing import Callable, Dict, Iterable, List, NamedTuple, Optional, Set, TypeVar, Union
+from typing import Callable, Dict, Iterable, List, NamedTuple, Optional, Set, Tuple, TypeVar, Union
 
 from . import habits, model, syntax
 from .coding import Coder
@@ -12,6 +12,8 @@ from .pools import Pool
 from .writer import write_module
 
 T = TypeVar("T")
+# A struct or a function as its handle names it: the index of a module handle and that of an identifier.
+HandleName = Tuple[int, int]
 
 LEAVES = {kind: Token(kind) for kind in model.LEAF_NAMES}
 
@@ -29,8 +31,8 @@ class Assembler:
         self.signatures: Pool[model.Signature] = Pool("signatures")
         self.constants: Pool[model.Constant] = Pool("constants")
         self.fields: Pool[model.FieldHandle] = Pool("field handles")
-        self.struct_places: Dict[tuple, int] = {}
-        self.function_places: Dict[tuple, int] = {}
+        self.struct_places: Dict[HandleName, int] = {}
+        self.function_places: Dict[HandleName, int] = {}
         self.definitions: List[model.StructDefinition] = []
         self.definition_places: Dict[int, int] = {}
         self.field_places: List[Dict[str, int]] = []
@@ -176,7 +178,7 @@ class Assembler:
             return unknown("type", path_text(struct), [*names, *model.LEAF_KINDS])
         return unknown("struct", path_text(struct), names)
 
-    def meant_names(self, module: int, path: syntax.Path, places: Dict[tuple, int]) -> List[str]:
+    def meant_names(self, module: int, path: syntax.Path, places: Dict[HandleName, int]) -> List[str]:
         """The names that might be meant by one that nothing has: the same one in another module, or any in this module."""
         name = entry_text(path.name)
         prefix = path_text(path)[:-len(name)]
@@ -342,7 +344,7 @@ class Assembler:
         self.each(function.acquires, lambda struct: body.acquires.append(self.definition(struct)))
 
 
-def check_field(one: syntax.Variable, seen: set) -> None:
+def check_field(one: syntax.Variable, seen: Set[str]) -> None:
     """Fails where a struct has two fields of a name."""
     name = entry_text(one.name)
     if name in seen and isinstance(one.name, syntax.Name):

@@ -45,7 +45,7 @@ class CodeParser(TermParser):
         if labels:
             self.fail(f"the label `{labels[0].text}` stands before no instruction", labels[0].at)
 
-    def label(self, function: syntax.Function, labels: list) -> None:
+    def label(self, function: syntax.Function, labels: List[syntax.Name]) -> None:
         """Reads a label or an instruction's number, and the colon."""
         start, place = self.start, len(function.code)
         if self.kind == scanner.NUMBER:

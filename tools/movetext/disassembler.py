@@ -3,7 +3,7 @@
 import os
 import re
 import sys
-from typing import Dict, List, NamedTuple, Optional
+from typing import Dict, List, NamedTuple, Optional, Tuple
 
 from .certificates import read_certificate
 from .commandline import (DONE, REFUSED, SECONDS, WORDS, Argument, CommandLine, Option, TimeIsUp, WordsError, fault, limited,
@@ -205,7 +205,7 @@ def picture(given: Given, inputs: Inputs) -> List[str]:
     return borrow_graph(subject, function, int(given["INSTRUCTION"]), certificate)
 
 
-def drawn_module(inputs: Inputs, wanted: str) -> "tuple[Subject, Optional[bytes]]":
+def drawn_module(inputs: Inputs, wanted: str) -> Tuple[Subject, Optional[bytes]]:
     """The module of a function that is drawn, with its certificate if any: of a stream the last one that has the function."""
     if inputs.kind == MODULE:
         return Subject(read_module(inputs.data), 0, inputs.names.of(inputs.data)), inputs.certificate
@@ -222,7 +222,7 @@ def drawn_module(inputs: Inputs, wanted: str) -> "tuple[Subject, Optional[bytes]
     raise NoPicture(f"no module of the stream has the function `{wanted}`")
 
 
-def printed(given: Given, inputs: Inputs) -> "tuple[str, int, str]":
+def printed(given: Given, inputs: Inputs) -> Tuple[str, int, str]:
     """The text that is printed, the status, and what standard error says."""
     if given["--explain"] is not None:
         said = explain(given, inputs)

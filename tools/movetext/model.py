@@ -4,13 +4,20 @@ A module keeps its tables as lists in their order, and what refers to an entry h
 from it again exactly. Indices may be out of bounds: what resolves them answers None there."""
 
 from dataclasses import dataclass, field
-from typing import List, Optional, Sequence, Tuple, TypeVar, Union
+from typing import Any, List, Optional, Sequence, Tuple, TypeVar, Union
 
 from .opcodes import Opcode
-from .record_model import (AUDIT, LEDGER_MAGIC, PUBLISH, RUN, SHOW, Audit, Ledger, Offer, Publish, RawRecord,  # noqa: F401
+from .record_model import (AUDIT, LEDGER_MAGIC, PUBLISH, RUN, SHOW, Audit, Ledger, Offer, Publish, RawRecord,
                            Record, Run, Show, Stored, Stream, Tally)
-from .values import (ADDRESS, ADDRESS_BYTES, BOOL, LATE_KINDS, LEAF_KINDS, LEAF_NAMES, LEAF_WIDTHS, MUTABLE,  # noqa: F401
+from .values import (ADDRESS, ADDRESS_BYTES, BOOL, LATE_KINDS, LEAF_KINDS, LEAF_NAMES, LEAF_WIDTHS, MUTABLE,
                      NUMBER_KINDS, REFERENCE, SIGNER, STRUCT, U8, U16, U32, U64, U128, Value, read_leaf, write_leaf)
+
+# What this module has of others for those that import it.
+__all__ = [
+    "ADDRESS", "ADDRESS_BYTES", "AUDIT", "BOOL", "LATE_KINDS", "LEAF_KINDS", "LEAF_NAMES", "LEAF_WIDTHS", "LEDGER_MAGIC", "MUTABLE",
+    "NUMBER_KINDS", "PUBLISH", "REFERENCE", "RUN", "SHOW", "SIGNER", "STRUCT", "U8", "U16", "U32", "U64", "U128", "Audit", "Ledger",
+    "Offer", "Publish", "RawRecord", "Record", "Run", "Show", "Stored", "Stream", "Tally", "Value", "read_leaf", "write_leaf",
+]
 
 T = TypeVar("T")
 
@@ -193,9 +200,10 @@ class Module:
     field_handles: List[FieldHandle] = field(default_factory=list)
     own: int = 0
 
-    def table(self, kind: int) -> list:
+    def table(self, kind: int) -> List[Any]:
         """The entries of the table of a kind."""
-        return getattr(self, TABLE_FIELDS[kind])
+        found: List[Any] = getattr(self, TABLE_FIELDS[kind])
+        return found
 
     def identifier(self, index: Optional[int]) -> Optional[str]:
         return entry(self.identifiers, index)

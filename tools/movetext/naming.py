@@ -264,12 +264,14 @@ class Mentions:
         """The kinds of tables of handles that don't begin with the imports in their order and end with the definitions."""
         module = self.module
         other = {model.MODULE_HANDLES} if module.own else set()
-        rows: List[Tuple[int, list]] = [(model.STRUCT_HANDLES, module.structs), (model.FUNCTION_HANDLES, module.functions)]
-        for kind, definitions in rows:
-            handles = module.table(kind)
+        rows: List[Tuple[int, List[int]]] = [
+            (model.STRUCT_HANDLES, [one.handle for one in module.structs]),
+            (model.FUNCTION_HANDLES, [one.handle for one in module.functions])]
+        for kind, defined in rows:
+            handles: List[Union[model.StructHandle, model.FunctionHandle]] = module.table(kind)
             imported = [index for index, handle in enumerate(handles) if handle.module != module.own]
             imported.sort(key=lambda index: handles[index].module)
-            if imported + [one.handle for one in definitions] != list(range(len(handles))):
+            if imported + defined != list(range(len(handles))):
                 other.add(kind)
         return other
 

@@ -1,7 +1,7 @@
 """What all parts of the parser stand on: the next word of a text, and the names, numbers, types and values that it begins."""
 
 import re
-from typing import Callable, Iterable, List, NoReturn, Optional, Tuple, Union
+from typing import Callable, Iterable, List, NoReturn, Optional, Tuple, TypeVar, Union
 
 from . import model, scanner, syntax
 from .errors import TextError, meant, one_of
@@ -9,6 +9,7 @@ from .model import ADDRESS_BYTES, LATE_KINDS, LEAF_KINDS, LEAF_NAMES, LEAF_WIDTH
 from .numbers import INDEX
 from .scanner import Words
 
+T = TypeVar("T")
 NUMBER_PATTERN = re.compile(r"(0x[0-9a-fA-F_]*[0-9a-fA-F]|[0-9][0-9_]*)(u8|u16|u32|u64|u128)?\Z")
 
 # No number has more letters than these, which are enough for any with `_` between digits.
@@ -112,7 +113,7 @@ class WordParser:
             item()
             self.expect_end()
 
-    def in_parentheses(self, item: Callable[[], object]) -> list:
+    def in_parentheses(self, item: Callable[[], T]) -> List[T]:
         """Items in parentheses with commas between them."""
         self.expect("(")
         items = []
@@ -126,7 +127,7 @@ class WordParser:
                 self.skip_lines()
         return items
 
-    def listed(self, item: Callable[[], object]) -> list:
+    def listed(self, item: Callable[[], T]) -> List[T]:
         """One item or more, with commas between them."""
         items = [item()]
         while self.accept(","):

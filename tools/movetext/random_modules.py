@@ -2,22 +2,27 @@
 ones, with indices that are out of bounds, entries that stand twice or are named by nothing, and names that are words of the
 language."""
 
+from random import Random
+from typing import Any, Collection, Dict, Hashable, Iterable, List, Optional, Sequence, Type, TypeVar, Union
+
 from . import model
 from .ledgers import Structs
 from .model import (Audit, Constant, Field, FieldHandle, FunctionDefinition, FunctionHandle, Instruction, Module, ModuleHandle,
                     Offer, Publish, RawRecord, Run, Show, Stream, StructDefinition, StructHandle, Token, Value)
 from .numbers import INDEX
-from .opcodes import CONSTANT, FIELD, FUNCTION, LOCAL, NUMBER, OPCODES, STRUCT, TARGET
+from .opcodes import CONSTANT, FIELD, FUNCTION, LOCAL, NUMBER, OPCODES, STRUCT, TARGET, Opcode
 from .writer import write_module
 
 LETTERS = "abcdefghijklmnopqrstuvwxyzABCDEFGHIJKLMNOPQRSTUVWXYZ"
 ODD_NAMES = ["module", "struct", "import", "public", "entry", "fun", "let", "has", "acquires", "locals", "tables", "u64",
              "bool", "address", "signer", "mut", "copy", "drop", "store", "key", "Self", "as", "version", "x", "p0", "l1",
              "b0", "Ret", "LdU64", "true", "false", "publish", "run", "by", "budget", "json", "bytes", "record", "prove"]
+# An entry of a table.
+T = TypeVar("T", bound=Hashable)
 LEAVES = [kind for kind in model.LEAF_NAMES if kind != model.SIGNER]
 
 
-def random_name(random, is_wild=False):
+def random_name(random: Random, is_wild: bool = False) -> str:
     """An identifier."""
     if is_wild and random.random() < 0.3:
         return random.choice(ODD_NAMES)
@@ -26,43 +31,44 @@ def random_name(random, is_wild=False):
     return first + "".join(random.choice(LETTERS + "0123456789_") for _ in range(size))
 
 
-def random_address(random):
+def random_address(random: Random) -> bytes:
     if random.random() < 0.6:
         return random.randrange(1, 9).to_bytes(16, "big")
     return random.getrandbits(128).to_bytes(16, "big")
 
 
-def random_value(random, kind):
+def random_value(random: Random, kind: int) -> Union[bool, int, bytes]:
     """A value of a leaf type, as it's kept."""
     if kind == model.ADDRESS:
         return random_address(random)
     if kind == model.BOOL:
         return random.random() < 0.5
     bits = 8 * model.LEAF_WIDTHS[kind]
-    return random.choice((0, 1, 2 ** bits - 1, random.getrandbits(bits), random.randrange(100)))
+    values: List[int] = [0, 1, (1 << bits) - 1, random.getrandbits(bits), random.randrange(100)]
+    return random.choice(values)
 
 
 class Maker:
     """Makes one module."""
 
-    def __init__(self, random, is_wild, size=1):
+    def __init__(self, random: Random, is_wild: bool, size: int = 1):
         self.random = random
         self.is_wild = is_wild
         self.size = size
-        self.places = {}
+        self.places: Dict[int, Dict[Any, int]] = {}
         self.module = Module(version=random.choice(model.VERSIONS))
         self.leaves = [kind for kind in LEAVES if self.module.version == 6 or kind not in model.LATE_KINDS]
 
-    def count(self, most):
+    def count(self, most: int) -> int:
         return self.random.randrange(most * self.size + 1)
 
-    def place(self, table):
+    def place(self, table: Sequence[object]) -> int:
         """An index of a table; a wild one may be out of bounds."""
         if not table or self.is_wild and self.random.random() < 0.03:
             return self.random.choice((len(table), len(table) + 1, 127, 128, 300, INDEX))
         return self.random.randrange(len(table))
 
-    def put(self, table, one):
+    def put(self, table: List[T], one: T) -> int:
         """The place of an entry, which is put at the table's end where it isn't there; a wild one may stand twice."""
         places = self.places.get(id(table))
         if places is None:
@@ -73,18 +79,18 @@ class Maker:
         table.append(one)
         return len(table) - 1
 
-    def name(self, taken=()):
+    def name(self, taken: Collection[Optional[str]] = ()) -> int:
         """The place of an identifier that none of these is."""
         name = random_name(self.random, self.is_wild)
         while name in taken and not self.is_wild:
             name = random_name(self.random)
         return self.put(self.module.identifiers, name)
 
-    def fresh_name(self, others):
+    def fresh_name(self, others: Iterable[Union[StructHandle, FunctionHandle, Field]]) -> int:
         """The place of an identifier that no handle of these has."""
         return self.name({self.module.identifier(one.name) for one in others})
 
-    def token(self, allow_reference=True, allow_signer=True):
+    def token(self, allow_reference: bool = True, allow_signer: bool = True) -> Token:
         draw = self.random.random()
         if allow_reference and draw < 0.25:
             return Token(self.random.choice((model.REFERENCE, model.MUTABLE)), inner=self.token(False, allow_signer))
@@ -92,11 +98,11 @@ class Maker:
             return Token(model.STRUCT, struct=self.place(self.module.struct_handles))
         return Token(self.random.choice(self.leaves + [model.SIGNER] * allow_signer))
 
-    def signature(self, most):
+    def signature(self, most: int) -> int:
         types = tuple(self.token() for _ in range(self.count(most) % 65))
         return self.put(self.module.signatures, types)
 
-    def make(self):
+    def make(self) -> Module:
         """A module with all of its parts."""
         self.add_modules()
         self.add_structs()
@@ -107,7 +113,7 @@ class Maker:
             self.add_code(function)
         return self.module
 
-    def add_modules(self):
+    def add_modules(self) -> None:
         module = self.module
         for _ in range(1 + self.count(3)):
             address = self.put(module.addresses, random_address(self.random))
@@ -117,13 +123,13 @@ class Maker:
         if self.is_wild and self.random.random() < 0.2:
             module.own = self.place(module.module_handles)
 
-    def handles(self, own, others):
+    def handles(self, own: int, others: int) -> List[int]:
         """The modules of handles: those of other modules in order, then so many of the own one."""
         foreign = [index for index in range(len(self.module.module_handles)) if index != self.module.own]
         chosen = sorted(self.random.choice(foreign) for _ in range(others)) if foreign else []
         return chosen + [self.module.own] * own
 
-    def add_structs(self):
+    def add_structs(self) -> None:
         module = self.module
         for place in self.handles(self.count(4), self.count(3)):
             name = self.fresh_name(module.struct_handles)
@@ -132,16 +138,16 @@ class Maker:
             if handle.module == module.own:
                 module.structs.append(StructDefinition(index, self.fields()))
 
-    def fields(self):
+    def fields(self) -> List[Field]:
         """The fields of a struct, no two of one name."""
-        fields = []
+        fields: List[Field] = []
         for _ in range(self.count(4) % 33):
             name = self.fresh_name(fields)
             if self.is_wild or all(name != one.name for one in fields):
                 fields.append(Field(name, self.token(self.is_wild, self.is_wild)))
         return fields
 
-    def add_functions(self):
+    def add_functions(self) -> None:
         module = self.module
         for place in self.handles(self.count(4) % 200, self.count(3)):
             name = self.fresh_name(module.function_handles)
@@ -150,7 +156,7 @@ class Maker:
             if handle.module == module.own:
                 self.add_function(index)
 
-    def add_function(self, handle):
+    def add_function(self, handle: int) -> None:
         random, module = self.random, self.module
         function = FunctionDefinition(handle, random.random() < 0.5, random.random() < 0.5)
         if module.structs:
@@ -158,7 +164,7 @@ class Maker:
         function.locals = self.signature(4)
         module.functions.append(function)
 
-    def make_wild(self):
+    def make_wild(self) -> None:
         """Entries in other orders, and ones that nothing names."""
         random, module = self.random, self.module
         for kind in model.TABLE_FIELDS:
@@ -175,18 +181,21 @@ class Maker:
         module.functions = module.functions[:250]
         self.places = {}
 
-    def add_code(self, function):
+    def add_code(self, function: FunctionDefinition) -> None:
         count = self.count(40) % 4097
         code = [Instruction(opcode) for opcode in (self.random.choice(OPCODES) for _ in range(count))
                 if opcode.version <= self.module.version]
         for instruction in code:
-            instruction.operand = self.operand(instruction.opcode, function, code)
+            operand = self.operand(instruction.opcode, function, code)
+            if operand is not None:
+                instruction.operand = operand
         function.code = [one for one in code if one.operand is not None or not one.opcode.operand]
 
-    def operand(self, opcode, function, code):
+    def operand(self, opcode: Opcode, function: FunctionDefinition, code: List[Instruction]) -> Optional[int]:
         """An operand, or None where there is nothing that it could name."""
         if opcode.operand == NUMBER:
-            return self.random.choice((0, 1, 2 ** (8 * opcode.width) - 1, self.random.getrandbits(8 * opcode.width)))
+            values: List[int] = [0, 1, (1 << 8 * opcode.width) - 1, self.random.getrandbits(8 * opcode.width)]
+            return self.random.choice(values)
         if opcode.operand == TARGET:
             return self.place(code)
         if opcode.operand == LOCAL:
@@ -195,11 +204,11 @@ class Maker:
             return self.constant()
         if opcode.operand == FIELD:
             return self.field_handle()
-        tables = {STRUCT: self.module.structs, FUNCTION: self.module.function_handles}
+        tables: Dict[int, List[Any]] = {STRUCT: self.module.structs, FUNCTION: self.module.function_handles}
         table = tables.get(opcode.operand)
         return self.place(table) if table or table is not None and self.is_wild else None
 
-    def constant(self):
+    def constant(self) -> int:
         """The place of a constant."""
         kind = self.random.choice(self.leaves)
         data = model.write_leaf(kind, random_value(self.random, kind))
@@ -207,7 +216,7 @@ class Maker:
             data = bytes(self.random.randrange(256) for _ in range(self.random.randrange(4)))
         return self.put(self.module.constants, Constant(Token(kind), data))
 
-    def field_handle(self):
+    def field_handle(self) -> Optional[int]:
         """The place of a field handle, or None where there is no field."""
         module = self.module
         if self.is_wild and self.random.random() < 0.1:
@@ -219,12 +228,12 @@ class Maker:
         return self.put(module.field_handles, FieldHandle(struct, self.random.randrange(len(module.structs[struct].fields))))
 
 
-def random_module(random, is_wild=False, size=1):
+def random_module(random: Random, is_wild: bool = False, size: int = 1) -> Module:
     """A module; with a greater size it's about so many times as large."""
     return Maker(random, is_wild, size).make()
 
 
-def random_record(random):
+def random_record(random: Random) -> model.Record:
     """A record of any kind."""
     draw = random.randrange(8)
     if draw < 3:
@@ -236,18 +245,19 @@ def random_record(random):
         return Run(random_address(random), random_address(random), random_name(random, True), random_name(random, True),
                    random.choice((0, 1, 100, 2 ** 64 - 1)), arguments)
     if draw < 7:
-        return random.choice((Show, Audit))(random.random() < 0.5)
+        kinds: Sequence[Union[Type[Show], Type[Audit]]] = (Show, Audit)
+        return random.choice(kinds)(random.random() < 0.5)
     payload = bytes(random.randrange(2, 256) for _ in range(random.randrange(1, 90)))
     return RawRecord(random.randrange(256), payload)
 
 
-def random_stream(random):
+def random_stream(random: Random) -> Stream:
     """Records, and at times bytes after them that are none."""
     rest = b"\x01\x7f" if random.random() < 0.2 else b""
     return Stream([random_record(random) for _ in range(random.randrange(6))], rest)
 
 
-def random_ledger(random):
+def random_ledger(random: Random) -> model.Ledger:
     """A saved ledger of either form, with values of such structs as have leaves that are known."""
     modules = [random_module(random) for _ in range(random.randrange(4))]
     structs = Structs(modules)
@@ -257,7 +267,9 @@ def random_ledger(random):
     ledger.tallies = [model.Tally(random.randrange(1000), random.randrange(1000)) for _ in ledger.scarce]
     for place, struct in ledger.keys:
         kinds = structs.leaves(place, struct)
-        addresses = {random_address(random) for _ in range(random.randrange(4))} if kinds is not None else ()
+        if kinds is None:
+            continue
+        addresses = {random_address(random) for _ in range(random.randrange(4))}
         for address in sorted(addresses):
             leaves = [Value(kind, random_value(random, kind)) for kind in kinds]
             ledger.stored.append(model.Stored(address, place, struct, leaves))

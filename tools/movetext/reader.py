@@ -2,7 +2,7 @@
 they aren't as docs/FORMATS.md has them, and why."""
 
 from dataclasses import dataclass, field
-from typing import Dict, List, Optional, Tuple
+from typing import Any, Dict, List, Optional, Tuple
 
 from . import model, numbers
 from .cursor import Cursor, Fault, Stop
@@ -149,7 +149,7 @@ def read_own(cursor: Cursor, reading: ModuleReading) -> None:
         cursor.fault(cursor.at, f"{cursor.left()} after the own module handle, which is the last part")
 
 
-def read_module_handle(cursor: Cursor, _module: Module, entries: list) -> None:
+def read_module_handle(cursor: Cursor, _module: Module, entries: List[Any]) -> None:
     address = cursor.index("a module handle's address")
     entries.append(ModuleHandle(address, cursor.index("a module handle's name")))
 
@@ -161,7 +161,7 @@ def read_no_type_parameters(cursor: Cursor, what: str) -> None:
         cursor.fault(at, f"{what} has {count} type parameters; there are no generics, so the number is 0")
 
 
-def read_struct_handle(cursor: Cursor, _module: Module, entries: list) -> None:
+def read_struct_handle(cursor: Cursor, _module: Module, entries: List[Any]) -> None:
     module = cursor.index("a struct handle's module")
     name = cursor.index("a struct handle's name")
     abilities = cursor.number(numbers.ABILITY_BITS, "a struct handle's abilities")
@@ -169,7 +169,7 @@ def read_struct_handle(cursor: Cursor, _module: Module, entries: list) -> None:
     entries.append(StructHandle(module, name, abilities))
 
 
-def read_function_handle(cursor: Cursor, _module: Module, entries: list) -> None:
+def read_function_handle(cursor: Cursor, _module: Module, entries: List[Any]) -> None:
     module = cursor.index("a function handle's module")
     name = cursor.index("a function handle's name")
     parameters = cursor.index("a function handle's parameters")
@@ -178,26 +178,26 @@ def read_function_handle(cursor: Cursor, _module: Module, entries: list) -> None
     entries.append(FunctionHandle(module, name, parameters, results))
 
 
-def read_signature(cursor: Cursor, module: Module, entries: list) -> None:
+def read_signature(cursor: Cursor, module: Module, entries: List[Any]) -> None:
     count = cursor.number(numbers.SIGNATURE_TYPES, "the number of a signature's types")
     entries.append(tuple(cursor.token(module.version, "a signature's type") for _ in range(count)))
 
 
-def read_constant(cursor: Cursor, module: Module, entries: list) -> None:
+def read_constant(cursor: Cursor, module: Module, entries: List[Any]) -> None:
     token = cursor.token(module.version, "a constant's type")
     count = cursor.index("the number of a constant's bytes")
     entries.append(Constant(token, cursor.bytes(count, "a constant's bytes")))
 
 
-def read_identifier(cursor: Cursor, _module: Module, entries: list) -> None:
+def read_identifier(cursor: Cursor, _module: Module, entries: List[Any]) -> None:
     entries.append(cursor.identifier("an identifier"))
 
 
-def read_address(cursor: Cursor, _module: Module, entries: list) -> None:
+def read_address(cursor: Cursor, _module: Module, entries: List[Any]) -> None:
     entries.append(cursor.address("an address"))
 
 
-def read_struct(cursor: Cursor, module: Module, entries: list) -> None:
+def read_struct(cursor: Cursor, module: Module, entries: List[Any]) -> None:
     definition = StructDefinition(cursor.index("a struct definition's handle"))
     at = cursor.at
     mark = cursor.byte("the byte 02 of a struct definition")
@@ -209,7 +209,7 @@ def read_struct(cursor: Cursor, module: Module, entries: list) -> None:
     entries.append(definition)
 
 
-def read_field_handle(cursor: Cursor, _module: Module, entries: list) -> None:
+def read_field_handle(cursor: Cursor, _module: Module, entries: List[Any]) -> None:
     struct = cursor.index("a field handle's struct definition")
     entries.append(FieldHandle(struct, cursor.index("a field handle's position")))
 
@@ -223,7 +223,7 @@ def read_choice(cursor: Cursor, what: str, choices: Tuple[int, int]) -> bool:
     return byte == choices[1]
 
 
-def read_function(cursor: Cursor, module: Module, entries: list) -> None:
+def read_function(cursor: Cursor, module: Module, entries: List[Any]) -> None:
     function = FunctionDefinition(cursor.index("a function definition's handle"))
     function.is_public = read_choice(cursor, "a function's visibility", (0, 1))
     function.is_entry = read_choice(cursor, "a function's flags", (0, 4))

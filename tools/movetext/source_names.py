@@ -4,7 +4,7 @@
 import hashlib
 import json
 from dataclasses import dataclass, field
-from typing import Dict, List, Optional, Tuple
+from typing import Any, Dict, List, Optional, Tuple
 
 from . import syntax
 from .errors import Source
@@ -136,7 +136,7 @@ def read_names(data: bytes) -> NameTable:
     return table
 
 
-def names_of(told: dict) -> ModuleNames:
+def names_of(told: Dict[str, Any]) -> ModuleNames:
     """A module's names from their fields."""
     entries = {KINDS[name]: [pair(one) for one in places] for name, places in told["entries"].items()}
     functions = [
@@ -146,7 +146,7 @@ def names_of(told: dict) -> ModuleNames:
     return ModuleNames(str(told["file"]), pair(told["place"]), entries, functions)
 
 
-def pair(told: list) -> LineColumn:
+def pair(told: List[Any]) -> LineColumn:
     """A line and a column."""
     line, column = told
     return int(line), int(column)

@@ -29,7 +29,7 @@ class TableParser(CodeParser):
             self.skip_ends()
         return tables
 
-    def table(self, tables: syntax.Tables, seen: set) -> None:
+    def table(self, tables: syntax.Tables, seen: Set[str]) -> None:
         """How a table begins."""
         start, kind = self.start, self.text
         if self.kind != scanner.NAME:

@@ -1,6 +1,6 @@
 """Sets of edges between references, locals and stored values, found by the node that an edge leads to."""
 
-from typing import Callable, Dict, Iterable, Iterator, List, NamedTuple, Tuple
+from typing import Callable, Dict, Iterable, Iterator, List, NamedTuple, Optional, Tuple
 
 from .. import model
 from ..model import NODE_NAMES
@@ -104,7 +104,7 @@ class Edges:
 
     __slots__ = ("table", "into")
 
-    def __init__(self, table: Origins, into: "Dict[Node, int] | None" = None):
+    def __init__(self, table: Origins, into: Optional[Dict[Node, int]] = None):
         self.table = table
         self.into: Dict[Node, int] = into or {}
 

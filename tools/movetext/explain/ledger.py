@@ -1,8 +1,7 @@
 """What a ledger is: its modules, what is stored, how many values were packed and unpacked, and the runs that it had. It takes
 bundles and saved ledgers, or says why not."""
 
-from collections import Counter
-from typing import Dict, Iterator, List, NamedTuple, NoReturn, Optional, Sequence, Tuple
+from typing import Counter, Dict, Iterator, List, NamedTuple, NoReturn, Optional, Sequence, Tuple
 
 from .. import model
 from ..ledgers import LedgerReading, read_ledger
@@ -34,8 +33,8 @@ class Ledger:
         self.names = names or NameTable()
         self.modules: Dict[ModuleName, Published] = {}
         self.stored: Dict[StoredKey, Value] = {}
-        self.packed: Counter = Counter()
-        self.unpacked: Counter = Counter()
+        self.packed: Counter[StructKey] = Counter()
+        self.unpacked: Counter[StructKey] = Counter()
         self.runs = 0
 
     def publish(self, record: model.Publish, place: RecordPlace) -> Optional[Refusal]:
@@ -138,7 +137,7 @@ class Ledger:
         return [self.built(*self.definition(owner, one.type), leaves) if one.type.kind == STRUCT else next(leaves)
                 for one in owner.module.structs[struct].fields]
 
-    def count(self, owner: Published, struct: int, value: Value, counts: Counter) -> None:
+    def count(self, owner: Published, struct: int, value: Value, counts: Counter[StructKey]) -> None:
         """Counts the struct values of a value, at any depth."""
         counts[owner.place, struct] += 1
         for one, inner in zip(owner.module.structs[struct].fields, value):
@@ -147,7 +146,7 @@ class Ledger:
 
     def check_tallies(self) -> None:
         """Wants the tallies to be those of what is stored."""
-        counts: Counter = Counter()
+        counts: Counter[StructKey] = Counter()
         modules = self.in_order()
         for (place, struct, _), value in self.stored.items():
             self.count(modules[place], struct, value, counts)

@@ -1,6 +1,6 @@
 """Phase 13: the rules a to h, over all modules that the ledger would then have."""
 
-from typing import Dict, List, NoReturn, Optional, Sequence, Set, Tuple
+from typing import Any, Dict, List, NoReturn, Optional, Sequence, Set, Tuple
 
 from .. import model
 from ..model import STRUCT, known
@@ -15,7 +15,7 @@ MOST_NESTED, MOST_LEAVES = 8, 256
 ModuleName = Tuple[bytes, str]
 StructName = Tuple[bytes, str, str]
 # A type as any module has it: its kind alone, or with the struct's name, or with the type that a reference refers to.
-FullType = tuple
+FullType = Tuple[Any, ...]
 FullSignature = Tuple[Tuple[FullType, ...], Tuple[FullType, ...]]
 
 
@@ -26,7 +26,7 @@ class Published:
     def __init__(self, subject: Subject):
         self.subject, self.module = subject, subject.module
         self.place = 0
-        self.operations: Dict[int, list] = {}
+        self.operations: Dict[int, List[Any]] = {}
         module = subject.module
         self.name = self.module_name(module.own)
         self.structs = {self.definition_name(index): index for index in range(len(module.structs))}
@@ -68,7 +68,7 @@ class Published:
         return [name for name in names if name != self.name]
 
 
-def name_text(name: tuple) -> str:
+def name_text(name: Tuple[Any, ...]) -> str:
     """A module's or a struct's full name."""
     return "::".join([address_text(name[0]), *map(quoted, name[1:])])
 

@@ -1,7 +1,7 @@
 """Pictures of a function in the language of Graphviz: its flow graph with what is stated of each block, and the borrow graph
 before an instruction."""
 
-from typing import Iterable, List, NamedTuple, Optional, Sequence, Tuple
+from typing import Iterable, List, NamedTuple, Optional, Sequence, Tuple, Union
 
 from .. import model
 from ..model import SLOT
@@ -113,7 +113,7 @@ def edges_before(subject: Subject, function: int, at: int, flows: Flows) -> Edge
     if state is None:
         return edges_of_broken(subject, function, at, flows)
     before = Block(graph[block].first, at - 1, [], True)
-    found = through(flows.borrows, [before], 0, state)
+    found: Union[Edges, Broken] = through(flows.borrows, [before], 0, state)
     if isinstance(found, Broken):
         raise NoPicture(f"{subject.instruction(function, found.at).text}: {found.need}")
     return found
@@ -123,7 +123,8 @@ def edges_of_broken(subject: Subject, function: int, at: int, flows: Flows) -> E
     """The edges before the instruction at which the search for the least states breaks off."""
     broken = least_states(flows.borrows, subject.graph(function))
     if isinstance(broken, Broken) and broken.at == at:
-        return broken.state
+        edges: Edges = broken.state
+        return edges
     where = f" but before instruction {broken.at}" if isinstance(broken, Broken) else ""
     raise NoPicture(f"the function has no least states, and none are known{where}")
 

@@ -1,6 +1,6 @@
 """Runs: why one isn't begun, how one ends, and where it was given up."""
 
-from typing import List, NamedTuple, NoReturn, Optional
+from typing import List, NamedTuple, NoReturn, Optional, Sequence, Tuple
 
 from .. import model
 from ..errors import meant
@@ -44,7 +44,7 @@ def answered(ledger: Ledger, record: model.Run, offset: int) -> Outcome:
     return Outcome(ending.words, given_up(ledger, ending.frames, ending.words, ending.why))
 
 
-def begun(ledger: Ledger, record: model.Run, offset: int) -> "tuple[Published, int]":
+def begun(ledger: Ledger, record: model.Run, offset: int) -> Tuple[Published, int]:
     """The module and the function that a record runs. Raises the first reason why it isn't begun."""
     name = record.address, record.module
     where = f"{name_text(name)}::{quoted(record.function)}"
@@ -75,7 +75,7 @@ def begun(ledger: Ledger, record: model.Run, offset: int) -> "tuple[Published, i
     return owner, function
 
 
-def types_said(types: "list[Token] | tuple[Token, ...]") -> str:
+def types_said(types: Sequence[Token]) -> str:
     """Types of arguments in words."""
     return "(" + ", ".join(LEAF_NAMES[one.kind] for one in types) + ")" if types else "no arguments"
 
