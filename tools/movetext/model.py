@@ -136,8 +136,8 @@ class StructDefinition:
 
 @dataclass
 class Instruction:
-    """A row of the table of instructions with an operand: an index or a number, or None where the row has none. `offset` is where it stands in the
-    bytes that it was read from."""
+    """A row of the table of instructions with an operand: an index or a number, or None where the row has none. `offset` is where
+    it stands in the bytes that it was read from."""
 
     opcode: Opcode
     operand: int = None  # type: ignore[assignment]

@@ -1,0 +1,105 @@
+"""What the scripts have in common: where things stand, the program, the text tools, and the outcome of a command."""
+
+import argparse
+import os
+import random
+import shutil
+import subprocess
+import sys
+from pathlib import Path
+from typing import Dict, Mapping, NamedTuple, Optional, Sequence, Tuple, Union
+
+TOP = Path(__file__).resolve().parent.parent
+CRATES = TOP / "crates"
+TESTS = CRATES / "moveledger_tests/src/tests"
+EXAMPLES = TOP / "examples"
+TOOLS = TOP / "tools"
+# Where a build leaves the program, from the top.
+BUILT = "crates/moveledger_program/out/moveledger_program"
+
+Word = Union[str, Path]
+
+
+def use_tools() -> None:
+    """Lets the scripts import the package movetext."""
+    if str(TOOLS) not in sys.path:
+        sys.path.insert(0, str(TOOLS))
+
+
+def arguments(description: Optional[str]) -> argparse.ArgumentParser:
+    """A reader of the command line that says for --help what a script says of itself, without the usage that it makes itself."""
+    about = (description or "").partition("\nusage:")[0]
+    return argparse.ArgumentParser(description=about, formatter_class=argparse.RawDescriptionHelpFormatter, allow_abbrev=False)
+
+
+def add_seed(parser: argparse.ArgumentParser) -> None:
+    parser.add_argument("--seed", help="what is made at random depends on it; the same seed makes the same again")
+
+
+def seed_of(given: argparse.Namespace) -> str:
+    """The seed that was given, otherwise another one each time. Prints it, so that what was made can be made again."""
+    seed: str = given.seed or str(random.SystemRandom().randrange(10 ** 6))
+    print(f"seed {seed}", flush=True)
+    return seed
+
+
+def program(only_here: bool = False) -> Optional[str]:
+    """The path of a program of these sources: the one that was built here, or that of dist/, or one that is built now. With
+    `only_here` none is built, and None is answered where there is none."""
+    words: Sequence[Word] = [TOP / "scripts/program", *(["--here"] if only_here else [])]
+    found = subprocess.run(words, stdout=subprocess.PIPE, text=True)
+    if found.returncode and not only_here:
+        sys.exit(found.returncode)
+    return found.stdout.strip() or None
+
+
+class Outcome(NamedTuple):
+    """How a command ended, and what it wrote to standard output and standard error."""
+
+    status: int
+    printed: str
+    said: str
+
+
+def outcome(words: Sequence[Word], given: bytes = b"", folder: Path = TOP, environment: Optional[Mapping[str, str]] = None) -> Outcome:
+    """Runs a command, which reads what is given, and answers how it ended."""
+    ended = subprocess.run(words, input=given, stdout=subprocess.PIPE, stderr=subprocess.PIPE, cwd=folder, env=environment)
+    return Outcome(ended.returncode, ended.stdout.decode("utf-8", "replace"), ended.stderr.decode("utf-8", "replace"))
+
+
+class Comparison:
+    """Compares what is found with what is wanted, prints a line for each, and counts those that differ."""
+
+    def __init__(self, name: str):
+        self.name = name
+        self.tried = self.wrong = 0
+
+    def note(self, shows: str, fault: str = "") -> bool:
+        """Notes what was tried, and what is wrong with it, if anything. Answers whether it is right."""
+        self.tried += 1
+        self.wrong += bool(fault)
+        print(f"{'wrong' if fault else 'ok   '} {shows}{': ' + fault if fault else ''}", flush=True)
+        return not fault
+
+    def same(self, shows: str, found: object, wanted: object) -> bool:
+        return self.note(shows, "" if found == wanted else f"{found!r}, not {wanted!r}")
+
+    def end(self, passed: str) -> int:
+        """Prints how it came out, and answers the status of the script."""
+        print(f"{self.name}: {self.wrong} of {self.tried} wrong" if self.wrong or not self.tried else f"{self.name}: {passed}")
+        return 1 if self.wrong or not self.tried else 0
+
+
+def crates() -> Dict[str, Tuple[str, ...]]:
+    """Each crate of crates.txt with all that it uses, in the order in which they stand there."""
+    lines = [line.partition(":") for line in (TOP / "crates.txt").read_text().splitlines() if not line.startswith("#")]
+    return {name.split()[0]: tuple(uses.split()) for name, colon, uses in lines if colon}
+
+
+def has(command: str) -> bool:
+    return shutil.which(command) is not None
+
+
+def processors() -> int:
+    """How many processors this process may use."""
+    return len(os.sched_getaffinity(0))
