@@ -9,7 +9,7 @@ ghost use Rattle.mv_linker.specs.Outline.{IsOutline};
 ghost use Rattle.mv_linker.specs.Shapes.{part_by, parts_by};
 
 use crate::lists::Lists;
-use crate::outline::Outline;
+use crate::outline::{Outline, field_count};
 use crate::shapes::{Part, part_of, put_parts};
 use mv_binary_format::{FunctionDefinition, Module};
 use mv_move_types::{Definition, Token};
@@ -119,7 +119,7 @@ fn parts_of(
     ensures { IfOk result (λ l. l ≡ map (λ d. parts_by structs.now d.fields) m.now.structs) }
 {
     let definitions = m.structs();
-    let mut parts = Lists::with_capacity(alloc, definitions.len(), 0)?;
+    let mut parts = Lists::with_capacity(alloc, definitions.len(), field_count(m))?;
     let mut one = Vec::new(alloc);
     for d in definitions {
         one.clear();
@@ -127,6 +127,24 @@ fn parts_of(
         parts.push(&one)?;
     }
     Ok(parts)
+}
+
+// How many parameters the functions of a module have together, so that their types get just the room that they take.
+fn parameter_count(m: &Module<'_>) -> usize {
+    let mut count: usize = 0;
+    for d in m.functions() {
+        count = count.saturating_add(parameters(m, d).len());
+    }
+    count
+}
+
+// How many results they have together, likewise.
+fn result_count(m: &Module<'_>) -> usize {
+    let mut count: usize = 0;
+    for d in m.functions() {
+        count = count.saturating_add(results(m, d).len());
+    }
+    count
 }
 
 // The types of the parameters of each function of a module.
@@ -138,7 +156,7 @@ fn parameters_of(
     ensures { IfOk result (λ l. l ≡ map (λ d. types_by structs.now (unwrap_or (parameter_tokens m.now d) [])) m.now.functions) }
 {
     let functions = m.functions();
-    let mut types = Lists::with_capacity(alloc, functions.len(), 0)?;
+    let mut types = Lists::with_capacity(alloc, functions.len(), parameter_count(m))?;
     let mut one = Vec::new(alloc);
     for d in functions {
         one.clear();
@@ -157,7 +175,7 @@ fn results_of(
     ensures { IfOk result (λ l. l ≡ map (λ d. types_by structs.now (unwrap_or (result_tokens m.now d) [])) m.now.functions) }
 {
     let functions = m.functions();
-    let mut types = Lists::with_capacity(alloc, functions.len(), 0)?;
+    let mut types = Lists::with_capacity(alloc, functions.len(), result_count(m))?;
     let mut one = Vec::new(alloc);
     for d in functions {
         one.clear();

@@ -1,5 +1,5 @@
 // What the structs, fields and functions of a module are called and how they may be used, without types.
-ghost use Rattle.std.specs.Prelude.{◌≡◌, ◌≤◌, ◌<◌, ℕ, length, map, option_map, position, slice_get, false, [], Some, IfOk, OnOk, IfSome, MatchOption};
+ghost use Rattle.std.specs.Prelude.{◌≡◌, ◌≤◌, ◌<◌, ℕ, length, map, option_map, position, slice_get, false, [], Some, IsTrue, IfOk, OnOk, IfSome, MatchOption};
 ghost use Rattle.std.specs.Option.{option_map_or};
 ghost use Rattle.std.specs.Str.{bytes_eq};
 ghost use Rattle.mv_move_types.specs.Limits.{most_name_bytes};
@@ -70,6 +70,26 @@ fn identifier_in<'a>(m: &Module<'a>, index: usize) -> &'a [u8]
     }
 }
 
+// How many bytes the identifiers of a module's table have together, so that they get just the room that they take.
+fn byte_count(m: &Module<'_>) -> usize {
+    let mut count: usize = 0;
+    for i in 0..m.identifier_count() {
+        if let Some(name) = m.identifier(i) {
+            count = count.saturating_add(name.len());
+        }
+    }
+    count
+}
+
+// How many fields the structs of a module have together, likewise.
+pub(crate) fn field_count(m: &Module<'_>) -> usize {
+    let mut count: usize = 0;
+    for d in m.structs() {
+        count = count.saturating_add(d.fields().len());
+    }
+    count
+}
+
 // The identifiers of a module's table.
 fn identifiers_of(alloc: Global, m: &Module<'_>) -> Result<Lists<u8>, AllocError>
     ensures { IfOk result (λ l. l ≡ m.now.identifiers) }
@@ -77,7 +97,7 @@ fn identifiers_of(alloc: Global, m: &Module<'_>) -> Result<Lists<u8>, AllocError
     // For the prover: at most 65,536 identifiers.
     m.has_text();
     let count = m.identifier_count();
-    let mut identifiers = Lists::with_capacity(alloc, count, 0)?;
+    let mut identifiers = Lists::with_capacity(alloc, count, byte_count(m))?;
     for i in 0..count {
         identifiers.push(identifier_in(m, i))?;
     }
@@ -155,7 +175,7 @@ fn fields_of(alloc: Global, m: &Module<'_>) -> Result<Lists<u16>, AllocError>
     ensures { IfOk result (λ l. l ≡ map names_by m.now.structs) }
 {
     let structs = m.structs();
-    let mut fields = Lists::with_capacity(alloc, structs.len(), 0)?;
+    let mut fields = Lists::with_capacity(alloc, structs.len(), field_count(m))?;
     let mut names = Vec::new(alloc);
     for d in structs {
         names.clear();
@@ -187,11 +207,34 @@ fn first_function(
         .position(|f| name == identifier_at(identifiers, f.identifier))
 }
 
+// Whether a module defines neither structs nor functions.
+fn defines_nothing(m: &Module<'_>) -> bool
+    ensures structs { IsTrue result → m.now.structs ≡ [] }
+    ensures functions { IsTrue result → m.now.functions ≡ [] }
+{
+    m.structs().is_empty() && m.functions().is_empty()
+}
+
 impl Outline {
+    /// That of a module that defines nothing.
+    fn new(alloc: Global) -> Self
+        ensures { result ≡ record { structs = []; fields = []; functions = [] } }
+    {
+        Outline {
+            identifiers: Lists::new(alloc),
+            structs: Vec::new(alloc),
+            fields: Lists::new(alloc),
+            functions: Vec::new(alloc),
+        }
+    }
+
     /// That of a module.
     pub fn of(alloc: Global, m: &Module<'_>) -> Result<Self, AllocError>
         ensures { IfOk result (λ o. InBounds m.now → IsOutline m.now o) }
     {
+        if defines_nothing(m) {
+            return Ok(Outline::new(alloc));
+        }
         Ok(Outline {
             identifiers: identifiers_of(alloc, m)?,
             structs: structs_of(alloc, m)?,

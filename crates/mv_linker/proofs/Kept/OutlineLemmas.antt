@@ -1,12 +1,12 @@
 -- Outlines of modules: that what is made of a module's tables is its outline, and that a function is found by its identifier.
---   outline-is           what is made of a module whose indices are in bounds
+--   outline-is, outline-none   what is made of a module whose indices are in bounds, and of one that defines nothing
 --   named-place          the function that has an identifier is the one of this name
 --   no-function-named    there is none of this name where none has the identifier
 --   struct-found, function-found, struct-missing, function-missing    what searches find
 use Rattle.mv_linker.proofs.Common.{[], ℕ, ◌∙◌, ◌∷◌, ◌≡◌, AreEach, AreFieldNames, Bool, Field, FunctionDefinition, FunctionEntry, FunctionOutline, InBounds, IsFunctionNamed, IsFunctionOutline}
 use Rattle.mv_linker.proofs.Common.{IsOutline, IsStructNamed, IsStructOutline, List, Module, None, Option, OutlineView, Some, StructDefinition, StructEntry, StructOutline, WellDefined, and_parts, ap, arith}
 use Rattle.mv_linker.proofs.Common.{below, bytes_eq, bytes_eq-Decides, false, field_in, function_by, function_handle_in, function_kept, function_place, identifier_at, length, list_all, ltb-true, map, map-map}
-use Rattle.mv_linker.proofs.Common.{name_of_function, names_by, option_map, option_map_or, outline_by, position, refl, same_Some, slice_get, slice_get-map, slice_get_within, struct_by, struct_handle_in}
+use Rattle.mv_linker.proofs.Common.{name_of_function, names_by, none-some, option_map, option_map_or, outline_by, position, refl, same_Some, slice_get, slice_get-map, slice_get_within, struct_by, struct_handle_in}
 use Rattle.mv_linker.proofs.Common.{struct_in, struct_kept, subst, sym, true, unwrap_or}
 use Rattle.std.specs.List.{AllZip}
 use Rattle.std.specs.Prelude.{MatchOption}
@@ -59,6 +59,17 @@ module _ (m : Module) (bounds : InBounds m) where
     functions = subst (AreEach (IsFunctionOutline m) m.functions) (sym (map-map (function_kept m.identifiers) (function_by m) m.functions))
         (each-mapped (IsFunctionOutline m) (λ d. function_kept m.identifiers (function_by m d)) m.functions function-is);
   }
+
+-- that of a module that defines nothing
+each-none : {A B : Type 0} (R : A → B → Type 0) (xs : List A) → xs ≡ [] → AreEach R xs []
+each-none R xs none = record { len = sym (ap length none); each = λ k x y at y_at. absurd (none-some y y_at) }
+
+pub outline-none : (m : Module) → m.structs ≡ [] → m.functions ≡ [] → IsOutline m (record { structs = []; fields = []; functions = [] })
+outline-none m structs functions = record {
+  structs = each-none (IsStructOutline m) m.structs structs;
+  fields = each-none (AreFieldNames m) m.structs structs;
+  functions = each-none (IsFunctionOutline m) m.functions functions;
+}
 
 -- the function that has an identifier is the one of this name
 pub named-place : (n : Module) (functions : List FunctionOutline) (k : ℕ) (name : List ℕ) → WellDefined n → AreEach (IsFunctionOutline n) n.functions functions → (f : FunctionOutline)

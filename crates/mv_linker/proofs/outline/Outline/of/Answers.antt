@@ -1,5 +1,5 @@
 use Rattle.mv_linker.proofs.Common.{◌∙◌, ◌≡◌, IsOutline, ap, map, names_by, outline_by, outline_kept, struct_by, subst, sym}
-use Rattle.mv_linker.proofs.Kept.OutlineLemmas.{outline-is}
+use Rattle.mv_linker.proofs.Kept.OutlineLemmas.{outline-is, outline-none}
 use Rattle.mv_linker.proofs.outline.Outline.of.Goals as goal
 
 pub returns : goal.returns
@@ -11,3 +11,8 @@ returns c = λ bounds.
     ∙ ap (λ f. outline_kept m.identifiers (map (struct_by m) m.structs) f c.in_ok-functions_of.field-0.items) c.in_ok-fields_of.ensures
     ∙ ap (outline_kept m.identifiers (map (struct_by m) m.structs) (map names_by m.structs)) c.in_ok-functions_of.ensures.value in
     subst (IsOutline m) (sym same) (outline-is m bounds)
+
+pub returns-then-defines_nothing : goal.returns-then-defines_nothing
+returns-then-defines_nothing c = λ bounds.
+    let m = c.args.m.now in
+    subst (IsOutline m) (sym c.new.ensures) (outline-none m (c.defines_nothing.ensures.structs c.if-defines_nothing.true) (c.defines_nothing.ensures.functions c.if-defines_nothing.true))
