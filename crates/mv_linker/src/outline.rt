@@ -130,7 +130,10 @@ fn structs_of(alloc: Global, m: &Module<'_>) -> Result<Vec<StructEntry>, AllocEr
     ensures value { IfOk result (λ v. v.items ≡ map (struct_by m.now) m.now.structs) }
     ensures few { IfOk result (λ v. length v.items ≤ 65536) }
 {
-    m.structs().iter().map(|d| struct_entry(m, d)).collect(alloc)
+    m.structs()
+        .iter()
+        .map(|d| struct_entry(m, d))
+        .collect(alloc)
 }
 
 // A function definition, whose handle is there.

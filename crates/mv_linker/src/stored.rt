@@ -41,7 +41,10 @@ impl Store {
         ensures { result ≡ name_at (tables_in self.now) d.place d.index }
     {
         let code = self.codes.get(usize::from(d.place))?;
-        let identifier = code.interface.outline.struct_identifier(usize::from(d.index))?;
+        let identifier = code
+            .interface
+            .outline
+            .struct_identifier(usize::from(d.index))?;
         let (name, _) = self.modules.get_index(usize::from(d.place))?;
         Some(StructName::new(name.address, name.identifier.as_slice(), identifier))
     }

@@ -1,12 +1,14 @@
 -- The types of a function's parameters as the linker keeps them: arguments are of these where they are of the module's own.
 --   same-arguments    whether arguments are of the types
 --   same-sender       the sender stands in front for both
-use Rattle.mv_ledger.proofs.Common.{[], ◌&&◌, ◌∷◌, ◌≡◌, List, Module, Token, ap, ap₂, map, refl, ℕ, are_arguments, with_sender, Value, StructPart, LeafPart, Nothing}
+use Rattle.mv_ledger.proofs.Common.{[], ◌&&◌, ◌∷◌, ◌≡◌, ◌∙◌, List, Module, Token, ap, ap₂, map, refl, ℕ, are_arguments, with_sender, Value, StructPart, LeafPart, Nothing}
 use Rattle.mv_machine.specs.Ledger.{is_argument}
 use Rattle.mv_ledger.specs.ParameterTypes.{asked_type}
 use Rattle.mv_linker.specs.Interface.{AreTypes, IsType}
 use Rattle.mv_linker.specs.declared.interface.LinkedType.{LinkedType}
 use Rattle.mv_linker.specs.declared.interface.LinkedType.TheVariants as L
+use Rattle.mv_move_types.specs.declared.token.LeafKind.{LeafKind}
+use Rattle.mv_move_types.specs.declared.token.LeafKind.TheVariants.{Address, Boolean, Number, Signer}
 use Rattle.mv_move_types.specs.declared.token.Token.TheVariants.{Plain, Reference, MutableReference}
 use Rattle.mv_move_types.specs.declared.token.ValueType.TheVariants.{OfLeaf, OfStruct}
 
@@ -35,9 +37,15 @@ module _ (modules : List Module) (m : Module) where
   same-arguments [] (x ∷ xs) vs are = absurd are
   same-arguments (t ∷ ts) [] vs are = absurd are
 
-  -- the sender's place is known by the first type
+  -- the sender's place is known by the first type, whatever follows it
+  none-after : (sender : ℕ) (kind : LeafKind) (ts us : List Token) (vs : List Value) → with_sender sender (Plain (OfLeaf kind) ∷ ts) vs ≡ with_sender sender (Plain (OfLeaf kind) ∷ us) vs
+  none-after sender Boolean ts us vs = refl
+  none-after sender Address ts us vs = refl
+  none-after sender Signer ts us vs = refl
+  none-after sender (Number w) ts us vs = refl
+
   first-sender : (sender : ℕ) (t : Token) (x : LinkedType) (ts us : List Token) (vs : List Value) → IsType modules m t x → with_sender sender (t ∷ ts) vs ≡ with_sender sender (asked_type x ∷ us) vs
-  first-sender sender (Plain (OfLeaf k)) (L.Plain (LeafPart kind)) ts us vs is = grind (is)
+  first-sender sender (Plain (OfLeaf k)) (L.Plain (LeafPart kind)) ts us vs is = ap (λ t. with_sender sender (t ∷ ts) vs) is ∙ none-after sender kind ts us vs
   first-sender sender (Plain (OfLeaf k)) (L.Plain (StructPart d)) ts us vs is = let e = is.1 in absurd cc
   first-sender sender (Plain (OfLeaf k)) (L.Plain Nothing) ts us vs is = absurd cc
   first-sender sender (Plain (OfStruct h)) (L.Plain (LeafPart kind)) ts us vs is = absurd cc

@@ -1,4 +1,4 @@
-use Rattle.mv_ledger.proofs.Common.{◌<◌, ◌∙◌, ◌≡◌, ◌≤◌, Err, None, Option, Some, ap, arith, length, map, option_map, refl, subst, sym, true, ℕ, err_from_is_err_and, IfSome, slice_get}
+use Rattle.mv_ledger.proofs.Common.{◌<◌, ◌∙◌, ◌≡◌, ◌≤◌, Err, List, None, Option, Some, ap, arith, length, map, option_map, refl, subst, sym, true, ℕ, err_from_is_err_and, IfSome, slice_get}
 use Rattle.mv_ledger.proofs.Common.{FunctionDefinition, Module, parameter_tokens, function_place, is_module, module_place, PublishedModule, RunRequest, are_arguments, with_sender}
 use Rattle.mv_ledger.proofs.Common.{FunctionCall, Value, found_at, tables_in, arg_value, request_of, Rejected}
 use Rattle.mv_linker.specs.Interface.{AreTypesOf, IsSignatureAt}
@@ -144,3 +144,18 @@ returns-clause-admitted c =
     let made : List Value → FunctionCall = λ vs. record { function = record { place = c.in_ok-place.place; index = c.in_ok-index.index }; arguments = vs } in
     admits c.args.store.now c.args.runs (request_of c.args.asked) c.in_ok-place.place f.home c.in_ok-index.index f.definition f.types.tokens _ (types-found here f)
     (arguments-are here f ∙ c.if-not-are_passed.false) (omega (arith, c.if-runs-ge-MOST_RUNS.false)) (ap made (sender-found here f)) refl
+
+pub returns-clause-call : goal.returns-clause-call
+returns-clause-call c =
+    let here = (goal.at.returns-clause-call c).After-are_passed in
+    let f = found-of (goal.at.returns-clause-call c).In_ok-index in
+    record {
+      home = f.home;
+      function = f.definition;
+      tokens = f.types.tokens;
+      home_is = f.found.at.home_is;
+      function_is = f.found.d_is;
+      tokens_are = f.types.there;
+      fit = ap (are_arguments f.types.tokens) (sender-found here f) ∙ arguments-are here f ∙ c.if-not-are_passed.false;
+      range = c.in_ok-arguments.ensures.range;
+    }

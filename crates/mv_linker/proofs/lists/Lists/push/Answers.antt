@@ -8,8 +8,7 @@ invariant_of-self-2 g c =
     let all = c.self.inside.all.items in
     let spans : List Span = c.reserve-2.new.self.items in
     let within : list_all (is_span_in all) spans ≡ true = subst (λ (ss : List Span). list_all (is_span_in all) ss ≡ true) (sym c.in_ok-reserve-2.ensures.items) c.self.invariant.0 in
-    let grown = c.put_all.ensures.items ∙ ap (λ l. l ++ c.args.one.now) c.in_ok-reserve.ensures.items in
-    (
+    let grown = c.put_all.ensures.items ∙ ap (λ l. l ++ c.args.one.now) c.in_ok-reserve.ensures.items in (
       (lists-pushed all c.put_all.new.all.items c.args.one.now spans c.push_reserved.new.self.items _ within grown (omega (arith, c.len-first.ensures, c.in_ok-reserve.ensures.len)) (omega (arith, c.len-last.ensures)) c.push_reserved.ensures.items).within,
       omega (arith, c.self.invariant.1, c.requires.short, ap length grown, length-append all c.args.one.now, c.push_reserved.ensures.len, c.in_ok-reserve-2.ensures.len),
     )
