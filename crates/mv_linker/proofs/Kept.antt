@@ -9,6 +9,8 @@
 --   SpanLemmas         `spanned-more`: lists that stand in one list, one after the other
 --   FewIdentifiers     `few_identifiers`, `short-identifier`: the identifiers of a module that has a text
 --   OutlineLemmas      `outline-is`, `named-place`: the outlines of modules, and that they find a function by its identifier
+--   ByHalves           `by-name`, `nowhere`: definitions in ascending order of their names, and the search for one by halves
+--   OutlineOrders      `struct-found`, `function-found`: the search for a name finds what an outline has
 --   StructNames        `named-there`: the names of a store's structs, by the name of their module and their identifiers there
 --   HandleDefinitions  `struct-there`, `all-defined`: where the structs of a bundle's handles are defined, once it joins
 --   ShapeLemmas        `parts-are`: of what the structs of a module are made, by where those that its handles name are defined
@@ -21,6 +23,8 @@ pub mod IndexLemmas
 pub mod SpanLemmas
 pub mod FewIdentifiers
 pub mod OutlineLemmas
+pub mod ByHalves
+pub mod OutlineOrders
 pub mod StructNames
 pub mod HandleDefinitions
 pub mod ShapeLemmas

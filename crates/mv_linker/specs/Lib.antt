@@ -1,3 +1,4 @@
+pub mod ByName
 pub mod Code
 pub mod Codes
 pub mod Handles

@@ -1,11 +1,12 @@
 // What the structs, fields and functions of a module are called and how they may be used, without types.
-ghost use Rattle.std.specs.Prelude.{◌≡◌, ◌≤◌, ◌<◌, ℕ, length, map, option_map, position, slice_get, false, [], Some, IsTrue, IfOk, OnOk, IfSome, MatchOption};
+ghost use Rattle.std.specs.Prelude.{◌≡◌, ◌≤◌, ◌<◌, ℕ, length, map, option_map, slice_get, false, [], Some, IsTrue, IfOk, OnOk, IfSome, MatchOption};
 ghost use Rattle.std.specs.Option.{option_map_or};
-ghost use Rattle.std.specs.Str.{bytes_eq};
 ghost use Rattle.mv_move_types.specs.Limits.{most_name_bytes};
 ghost use Rattle.mv_bounds.specs.Bounds.{InBounds};
+ghost use Rattle.mv_linker.specs.ByName.{IsByName, names_at};
 ghost use Rattle.mv_linker.specs.Outline.{IsOutline, IsStructNamed, IsFunctionNamed, identifier_at, struct_by, function_by, names_by};
 
+use crate::by_name::{ByName, by_name, find};
 use crate::handles::is_public;
 use crate::lists::Lists;
 use mv_binary_format::{FunctionDefinition, Module, StructDefinition};
@@ -36,21 +37,26 @@ pub struct Outline {
     structs: Vec<StructEntry>,
     fields: Lists<u16>,
     functions: Vec<FunctionEntry>,
+    structs_by_name: Vec<ByName>,
+    functions_by_name: Vec<ByName>,
 }
 
 impl Model for Outline {
-    ghost use Rattle.std.specs.Prelude.{◌≤◌, length};
+    ghost use Rattle.std.specs.Prelude.{◌≤◌, length, map};
+    ghost use Rattle.mv_linker.specs.ByName.{IsByName, names_at};
     ghost use Rattle.mv_linker.specs.Outline.{OutlineView, outline_kept};
 
     ghost Value = { OutlineView };
 
     ghost view = { λ o. outline_kept o.identifiers o.structs.items o.fields o.functions.items };
 
-    ghost invariant = { λ o. length o.structs.items ≤ 65536 × length o.functions.items ≤ 256 };
+    ghost invariant = { λ o. length o.structs.items ≤ 65536 × length o.functions.items ≤ 256
+        × IsByName o.identifiers (names_at o.identifiers (map (λ s. s.identifier) o.structs.items)) o.structs_by_name.items
+        × IsByName o.identifiers (names_at o.identifiers (map (λ f. f.identifier) o.functions.items)) o.functions_by_name.items };
 }
 
 // The identifier at an index of a module's table.
-fn identifier_at(identifiers: &Lists<u8>, index: u16) -> &[u8]
+pub fn identifier_at(identifiers: &Lists<u8>, index: u16) -> &[u8]
     ensures { result.now ≡ identifier_at identifiers.now index }
 {
     identifiers.get(usize::from(index)).unwrap_or(&[])
@@ -188,26 +194,30 @@ fn fields_of(alloc: Global, m: &Module<'_>) -> Result<Lists<u16>, AllocError>
     Ok(fields)
 }
 
-// The index of the first struct with an identifier.
-fn first_struct(identifiers: &Lists<u8>, structs: &[StructEntry], name: &[u8]) -> Option<usize>
-    ensures { result ≡ position (λ s. bytes_eq name.now (identifier_at identifiers.now s.identifier)) structs.now }
+// The struct definitions of a module by their names.
+fn structs_by_name(
+    alloc: Global,
+    identifiers: &Lists<u8>,
+    structs: &[StructEntry],
+) -> Result<Vec<ByName>, AllocError>
+    requires { length structs.now ≤ 65536 }
+    ensures { IfOk result (λ v. IsByName identifiers.now (names_at identifiers.now (map (λ s. s.identifier) structs.now)) v.items) }
 {
-    structs
-        .iter()
-        .position(|s| name == identifier_at(identifiers, s.identifier))
+    let names: Vec<u16> = structs.iter().map(|s| s.identifier).collect(alloc)?;
+    by_name(alloc, identifiers, &names)
 }
 
-// The index of the first function with an identifier.
-fn first_function(
+// The function definitions of a module by their names.
+fn functions_by_name(
+    alloc: Global,
     identifiers: &Lists<u8>,
     functions: &[FunctionEntry],
-    name: &[u8],
-) -> Option<usize>
-    ensures { result ≡ position (λ f. bytes_eq name.now (identifier_at identifiers.now f.identifier)) functions.now }
+) -> Result<Vec<ByName>, AllocError>
+    requires { length functions.now ≤ 65536 }
+    ensures { IfOk result (λ v. IsByName identifiers.now (names_at identifiers.now (map (λ f. f.identifier) functions.now)) v.items) }
 {
-    functions
-        .iter()
-        .position(|f| name == identifier_at(identifiers, f.identifier))
+    let names: Vec<u16> = functions.iter().map(|f| f.identifier).collect(alloc)?;
+    by_name(alloc, identifiers, &names)
 }
 
 // Whether a module defines neither structs nor functions.
@@ -220,15 +230,22 @@ fn defines_nothing(m: &Module<'_>) -> bool
 
 impl Outline {
     /// That of a module that defines nothing.
-    fn new(alloc: Global) -> Self
-        ensures { result ≡ record { structs = []; fields = []; functions = [] } }
+    fn new(alloc: Global) -> Result<Self, AllocError>
+        ensures { IfOk result (λ o. o ≡ record { structs = []; fields = []; functions = [] }) }
     {
-        Outline {
-            identifiers: Lists::new(alloc),
-            structs: Vec::new(alloc),
+        let identifiers = Lists::new(alloc);
+        let structs = Vec::new(alloc);
+        let functions = Vec::new(alloc);
+        let structs_by_name = structs_by_name(alloc, &identifiers, &structs)?;
+        let functions_by_name = functions_by_name(alloc, &identifiers, &functions)?;
+        Ok(Outline {
+            identifiers,
+            structs,
             fields: Lists::new(alloc),
-            functions: Vec::new(alloc),
-        }
+            functions,
+            structs_by_name,
+            functions_by_name,
+        })
     }
 
     /// That of a module.
@@ -236,13 +253,21 @@ impl Outline {
         ensures { IfOk result (λ o. InBounds m.now → IsOutline m.now o) }
     {
         if defines_nothing(m) {
-            return Ok(Outline::new(alloc));
+            return Outline::new(alloc);
         }
+        let identifiers = identifiers_of(alloc, m)?;
+        let structs = structs_of(alloc, m)?;
+        let functions = functions_of(alloc, m)?;
+        let structs_by_name = structs_by_name(alloc, &identifiers, &structs)?;
+        let functions_by_name = functions_by_name(alloc, &identifiers, &functions)?;
+        let fields = fields_of(alloc, m)?;
         Ok(Outline {
-            identifiers: identifiers_of(alloc, m)?,
-            structs: structs_of(alloc, m)?,
-            fields: fields_of(alloc, m)?,
-            functions: functions_of(alloc, m)?,
+            identifiers,
+            structs,
+            fields,
+            functions,
+            structs_by_name,
+            functions_by_name,
         })
     }
 
@@ -318,9 +343,10 @@ impl Outline {
 
     /// The index of a struct with an identifier. In a module there is no second one.
     pub fn find_struct(&self, name: &[u8]) -> Option<usize>
-        ensures { MatchOption result ((k : ℕ) → IsStructNamed self.now k name.now → ⊥) (λ k. IsStructNamed self.now k name.now) }
+        ensures found { MatchOption result ((k : ℕ) → IsStructNamed self.now k name.now → ⊥) (λ k. IsStructNamed self.now k name.now) }
+        ensures few { IfSome result (λ k. k < 65536) }
     {
-        first_struct(&self.identifiers, &self.structs, name)
+        find(&self.identifiers, &self.structs_by_name, name)
     }
 
     /// The index of a function with an identifier. In a module there is no second one.
@@ -328,6 +354,6 @@ impl Outline {
         ensures found { MatchOption result ((k : ℕ) → IsFunctionNamed self.now k name.now → ⊥) (λ k. IsFunctionNamed self.now k name.now) }
         ensures few { IfSome result (λ k. k < 256) }
     {
-        first_function(&self.identifiers, &self.functions, name)
+        find(&self.identifiers, &self.functions_by_name, name)
     }
 }

@@ -1,10 +1,16 @@
-use Rattle.mv_linker.proofs.Common.{ap, sym, ◌∙◌, OutlineView, StructEntry, bytes_eq, identifier_at, position}
-use Rattle.mv_linker.proofs.Kept.OutlineLemmas.{struct-searched}
+use Rattle.mv_linker.proofs.Common.{ℕ, List, map, subst, sym}
+use Rattle.std.specs.Prelude.{MatchOption}
+use Rattle.mv_linker.specs.ByName.{IsByName, names_at}
+use Rattle.mv_linker.specs.Outline.{IsStructNamed, OutlineView}
+use Rattle.mv_linker.specs.declared.by_name.ByName.{ByName}
+use Rattle.mv_linker.specs.declared.outline.StructEntry.{StructEntry}
+use Rattle.mv_linker.proofs.Kept.OutlineOrders.{struct-found}
 use Rattle.mv_linker.proofs.outline.Outline.find_struct.Goals as goal
 
-pub returns : goal.returns
-returns c =
-    let identifiers = c.self.inside.identifiers in
-    let name = c.args.name.now in
-    struct-searched identifiers c.self.inside.structs.items c.args.self.now name c.first_struct.result (ap (λ (o : OutlineView). o.structs) (sym c.self.view_is))
-    (c.first_struct.ensures ∙ ap (position (λ (s : StructEntry). bytes_eq name (identifier_at identifiers s.identifier))) c.deref.ensures.value)
+pub returns-clause-found : goal.returns-clause-found
+returns-clause-found c =
+    let o = c.self.inside in
+    let names = names_at o.identifiers (map (λ (s : StructEntry). s.identifier) o.structs.items) in
+    subst (λ (v : OutlineView). MatchOption c.find.result ((k : ℕ) → IsStructNamed v k c.args.name.now → ⊥) (λ k. IsStructNamed v k c.args.name.now)) c.self.view_is
+    (struct-found o.identifiers o.structs.items o.fields o.functions.items c.args.name.now c.find.result
+        (c.find.ensures.found names (subst (λ (l : List ByName). IsByName o.identifiers names l) (sym c.deref.ensures.value) c.self.invariant.2)))
