@@ -67,6 +67,7 @@ pub use Rattle.mv_linker.proofs.KeptSlots.{IsSlot, KeepsSlots}
 pub use Rattle.mv_linker.specs.Code.{called, entered, entered_in, operation, operations, operations_from, program}
 pub use Rattle.mv_linker.specs.Codes.{IsCallee, IsCode, IsSlotOf}
 pub use Rattle.mv_linker.specs.DependencyGraph.{AreHandlePlaces, IsOrdered, others}
+pub use Rattle.mv_linker.specs.Found.{AreOutlines, AreTargets, IsFound, IsTarget}
 pub use Rattle.mv_linker.specs.FoundStructs.{AreFoundFor, IsFoundAt}
 pub use Rattle.mv_linker.specs.Identifiers.{struct_identifier}
 pub use Rattle.mv_linker.specs.Indexed.{ArePlacesOf, PutsName, PutsPlace, has_name_of}
@@ -79,6 +80,7 @@ pub use Rattle.mv_linker.specs.LinkedBy.{AreAlong, AreOperations, Gives, GoesOn,
 pub use Rattle.mv_linker.specs.Lowered.{AreOthers, AreOwnSizes, AreSized, IsCalled, IsLowered, IsLoweredIn, IsToLink, called_by, widths_in, words_of_size}
 pub use Rattle.mv_linker.specs.Outline.{AreEach, AreFieldNames, FunctionOutline, IsFunctionNamed, IsFunctionOutline, IsOutline, IsStructNamed, IsStructOutline, OutlineView, StructOutline}
 pub use Rattle.mv_linker.specs.Outline.{function_by, function_kept, identifier_at, names_by, outline_by, outline_kept, struct_by, struct_kept}
+pub use Rattle.mv_linker.specs.Matches.{IsOf, IsStructOf, function_matches, struct_matches}
 pub use Rattle.mv_linker.specs.News.{published_of, published_one}
 pub use Rattle.mv_linker.specs.Operations.{BorrowInside, BorrowLocal as BorrowOperation, Differ as DifferOperation, Discard as DiscardOperation, Enter, GiveUp, Leave}
 pub use Rattle.mv_linker.specs.Operations.{Load as LoadOperation, Operation, Push, PutStored as PutStoredOperation, Read as ReadOperation, Same as SameOperation, Store as StoreOperation}
@@ -96,8 +98,7 @@ pub use Rattle.mv_linker.specs.Slots.{AreCarried, AreFilled, AreOnce, AreSlots, 
 pub use Rattle.mv_linker.specs.Slotted.{AreSlotted, IsSlotted}
 pub use Rattle.mv_linker.specs.Stored.{AreCodesOf, AreDependenciesOf, AreLowered, AreNames, AreNamesOf, IsLinkedTo, IsSizeAt, KeepsDependencies, LinkedBundle, with_at, with_codes}
 pub use Rattle.mv_linker.specs.Stored.{with_dependencies}
-pub use Rattle.mv_linker.specs.Targets.{AreFunctionsAt, AreStructsAt, AreTargets, EachAt, IsFunctionAt, IsFunctionIn, IsStructAt, IsStructIn, IsTarget, function_matches, modules_in}
-pub use Rattle.mv_linker.specs.Targets.{struct_matches, tables_of}
+pub use Rattle.mv_linker.specs.Targets.{AreFunctionsAt, AreStructsAt, EachAt, IsFunctionAt, IsFunctionIn, IsStructAt, IsStructIn, modules_in}
 pub use Rattle.mv_linker.specs.TypesByName.{both_there, same_signature, same_types, signature_named, token_named, tokens_named, value_type_named}
 pub use Rattle.mv_linker.specs.Upgrades.{function_stays, have_one_type, may_replace, same_fields, same_struct_definition, structs_stay}
 pub use Rattle.mv_linker.specs.Widths.{width_of_tag, width_of_token, width_of_tokens}
@@ -126,7 +127,9 @@ pub use Rattle.mv_linker.specs.declared.sizes.Defined.{Defined}
 pub use Rattle.mv_linker.specs.declared.sizes.Defined.TheVariants.{Bundled, Published}
 pub use Rattle.mv_linker.specs.declared.sizes.Size.{Size}
 pub use Rattle.mv_linker.specs.declared.store_rules.Names.{Names}
-pub use Rattle.mv_linker.specs.declared.targets.Target.{Target}
+pub use Rattle.mv_linker.specs.declared.named_modules.Found.{Found}
+pub use Rattle.mv_linker.specs.declared.named_modules.Found.TheVariants.{Kept as FoundKept, New as FoundNew}
+pub use Rattle.mv_linker.specs.declared.named_modules.Target.{Target}
 pub use Rattle.mv_linker.specs.declared.to_link.Called.{Called}
 pub use Rattle.mv_linker.specs.declared.to_link.Lowered.{Lowered}
 pub use Rattle.mv_linker.specs.declared.to_link.ToLink.{ToLink}

@@ -4,6 +4,9 @@
 -- Read first specs/Link.antt and StoreRules.antt (the rules), then Scopes (store and bundle looked at as one) and Assembling.
 --   Scopes         `place-for`, `within_tables`: the modules of a scope are found by name and by place
 --   Resolving      `struct-of-all`, `function-of-all`: what a handle names, in the module that its module handle leads to
+--   TypesCompared  `types-compared`: types are one by names exactly where they are one by where structs are defined
+--   NamedThere     `matched`, `function-matched`: what the outline of a module says of what a handle of another one names
+--   KeptFits       `kept-fits`: whether a function fits a handle, by the interface that is kept of its module
 --   Empty          `store_of_nothing`: no modules are a store
 --   Bundled        `bundle-at`, `old-at`: where the modules of a bundle stand once it joins
 --   Replaced       `replaced-low`, `replaced-none`: the place that a module of a bundle takes tells what it replaces
@@ -12,11 +15,16 @@
 --   StillThere     `structs-still-there`, `function-still-there`: handles of a module that stays lead where they led
 --   Assembling     `joining`, `links-all`: the rules of linking over all modules of a result, from those over the bundle
 --   Joins          `joining`, `names-hold`: a scope whose bundle joins its store: where its modules stand, and that what they name is there
+--   FoundLemmas    `new-found`, `kept-found`: what stands at a place of a scope, as others name it
+--   Turns          `turn-at`: a list that is taken element by element
 --   Joined         `joined-store`, `joined-linked`: a store that a bundle joined is a store
 --   JoinedTargets  `appended-joined`: what the handles of old modules lead to, for order and sizes
 pub mod Scopes
 pub mod Resolving
 pub mod Empty
+pub mod TypesCompared
+pub mod NamedThere
+pub mod KeptFits
 pub mod Bundled
 pub mod Replaced
 pub mod Compatible
@@ -24,5 +32,7 @@ pub mod Upgraded
 pub mod StillThere
 pub mod Assembling
 pub mod Joins
+pub mod FoundLemmas
+pub mod Turns
 pub mod Joined
 pub mod JoinedTargets

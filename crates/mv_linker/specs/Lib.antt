@@ -1,6 +1,7 @@
 pub mod ByName
 pub mod Code
 pub mod Codes
+pub mod Found
 pub mod Handles
 pub mod Identifiers
 pub mod Indexed
@@ -10,6 +11,7 @@ pub mod Link
 pub mod Linked
 pub mod LinkedBy
 pub mod Lowered
+pub mod Matches
 pub mod StoreRules
 pub mod News
 pub mod Operations
@@ -29,6 +31,7 @@ pub mod FoundStructs
 pub mod Spans
 pub mod Stored
 pub mod Targets
+pub mod TypesByDefinition
 pub mod TypesByName
 pub mod Upgrades
 pub mod Widths

@@ -5,7 +5,6 @@ ghost use Rattle.mv_move_types.specs.Names.{same_struct};
 ghost use Rattle.std.specs.Str.{bytes_eq};
 ghost use Rattle.mv_move_types.specs.Module.{module_name as name_of_module, own_name, struct_name as name_at_handle, name_of_function};
 ghost use Rattle.mv_move_types.specs.Options.{find_index};
-ghost use Rattle.mv_bounds.specs.Definitions.{WellDefined};
 ghost use Rattle.mv_linker.specs.Identifiers.{struct_identifier as identifier_at};
 ghost use Rattle.mv_move_types.specs.Named.{is_struct, function_place as place_of_function};
 
@@ -141,25 +140,6 @@ pub fn struct_place(m: &Module<'_>, name: &StructName<'_>) -> Option<usize>
     first_struct(m, name)
 }
 
-/// The same, where no two definitions have one name: that at a likely index, if one is given, is tried before the others.
-pub fn likely_struct_place(
-    m: &Module<'_>,
-    name: &StructName<'_>,
-    likely: Option<usize>,
-) -> Option<usize>
-    requires { WellDefined m.now }
-    ensures { result ≡ find_index (is_struct m.now name.now) m.now.structs }
-{
-    if let Some(index) = likely {
-        if let Some(d) = m.structs().get(index) {
-            if is_named(m, name, d) {
-                return Some(index);
-            }
-        }
-    }
-    struct_place(m, name)
-}
-
 /// Whether a function definition of the module has this identifier.
 fn has_identifier(m: &Module<'_>, name: &[u8], d: &FunctionDefinition) -> bool
     ensures { result ≡ option_map_or (bytes_eq name.now) (name_of_function m.now d.now) false }
@@ -192,20 +172,4 @@ pub fn function_place(m: &Module<'_>, name: &[u8]) -> Option<usize>
     ensures { result ≡ place_of_function m.now name.now }
 {
     first_function(m, name)
-}
-
-/// The same, where no two definitions have one identifier: that at a likely index, if one is given, is tried before the
-/// others.
-pub fn likely_function_place(m: &Module<'_>, name: &[u8], likely: Option<usize>) -> Option<usize>
-    requires { WellDefined m.now }
-    ensures { result ≡ place_of_function m.now name.now }
-{
-    if let Some(index) = likely {
-        if let Some(d) = m.functions().get(index) {
-            if has_identifier(m, name, d) {
-                return Some(index);
-            }
-        }
-    }
-    function_place(m, name)
 }

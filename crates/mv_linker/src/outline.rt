@@ -7,8 +7,8 @@ ghost use Rattle.mv_linker.specs.ByName.{IsByName, names_at};
 ghost use Rattle.mv_linker.specs.Outline.{IsOutline, IsStructNamed, IsFunctionNamed, identifier_at, struct_by, function_by, names_by};
 
 use crate::by_name::{ByName, by_name, find};
-use crate::handles::is_public;
 use crate::lists::Lists;
+use crate::named_functions::is_public;
 use mv_binary_format::{FunctionDefinition, Module, StructDefinition};
 use mv_move_types::{Abilities, Field};
 use std::alloc::{AllocError, Global};

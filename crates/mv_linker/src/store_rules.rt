@@ -1,10 +1,10 @@
-// The rules over a whole store, c to g of linking, for the modules that it has once a bundle joins it: c is in targets.rt,
-// d and e are in handles.rt, f in acyclic.rt and g in small_structs.rt.
+// The rules over a whole store, c to g of linking, for the modules that it has once a bundle joins it: c is in named_modules.rt, d in
+// named_structs.rt, e in named_functions.rt, f in acyclic.rt and g in small_structs.rt.
 ghost use Rattle.std.specs.Prelude.{◌+◌, ◌≤◌, length, IsTrue, IfOk, IfErr, OnOk};
 ghost use Rattle.std.specs.List.{list_all};
 ghost use Rattle.mv_move_types.specs.Refusals.{IsRefusedIn};
-ghost use Rattle.mv_bounds.specs.Definitions.{all_differ};
-ghost use Rattle.mv_linker.specs.Link.{tables_in, have_one_name};
+ghost use Rattle.mv_linker.specs.Found.{AreOutlines};
+ghost use Rattle.mv_linker.specs.Link.{tables_in};
 ghost use Rattle.mv_linker.specs.StoreRules.{Links, names_hold};
 ghost use Rattle.mv_linker.specs.Relinked.{IsFitting};
 ghost use Rattle.mv_linker.specs.Scope.{offered};
@@ -12,9 +12,10 @@ ghost use Rattle.mv_linker.specs.Stored.{KeepsDependencies, AreLowered, AreNames
 ghost use Rattle.mv_linker.specs.Targets.{modules_in};
 
 use crate::dependencies::{DependenciesAt, placed};
+use crate::named_modules::places_of;
+use crate::outline::Outline;
 use crate::pushed::pushed;
 use crate::scope::Scope;
-use crate::targets::places_of;
 use crate::to_link::Lowered;
 use mv_binary_format::Module;
 use mv_move_types::{Definition, Refusal};
@@ -41,14 +42,17 @@ pub struct Changes {
 }
 
 impl<'a> Scope<'a> {
-    /// What a module's handles name; `Phase(13)`, where something is not there as a handle says.
-    pub fn names(&self, alloc: Global, m: &Module<'_>) -> Result<Names, Refusal>
+    /// What a module's handles name; `Phase(13)`, where something is not there as a handle says. `outlines` has those of the
+    /// bundle.
+    fn names(&self, alloc: Global, outlines: &[Outline], m: &Module<'_>) -> Result<Names, Refusal>
         requires few { length (modules_in self.now) ≤ 65536 }
+        requires fits { IsFitting self.now }
+        requires outlines { AreOutlines (offered self.now.new.now) outlines.now }
         ensures names { IfOk result (AreNames (modules_in self.now) m.now) }
         ensures there { OnOk result (IsTrue (names_hold (modules_in self.now) m.now)) }
         ensures refused { IfErr result (IsRefusedIn 13 (IsTrue (names_hold (modules_in self.now) m.now))) }
     {
-        let targets = match self.targets(alloc, m) {
+        let targets = match self.targets(alloc, outlines, m) {
             Ok(targets) => targets,
             Err(e) => return Err(e),
         };
@@ -57,7 +61,7 @@ impl<'a> Scope<'a> {
             Ok(structs) => structs,
             Err(e) => return Err(e),
         };
-        let functions = match self.functions(alloc, m, &targets) {
+        let functions = match self.functions(alloc, m, &targets, &structs) {
             Ok(functions) => functions,
             Err(e) => return Err(e),
         };
@@ -69,16 +73,17 @@ impl<'a> Scope<'a> {
     }
 
     /// What the handles of the bundle's modules name; `Phase(13)`, where rule c, d or e fails.
-    fn named(&self, alloc: Global) -> Result<Vec<Names>, Refusal>
+    fn named(&self, alloc: Global, outlines: &[Outline]) -> Result<Vec<Names>, Refusal>
         requires few { length (modules_in self.now) ≤ 65536 }
-        requires once { IsTrue (all_differ have_one_name (offered self.now.new.now)) }
+        requires fits { IsFitting self.now }
+        requires outlines { AreOutlines (offered self.now.new.now) outlines.now }
         ensures names { IfOk result (λ v. AreNamesOf (modules_in self.now) (offered self.now.new.now) v.items) }
         ensures ok { OnOk result (IsTrue (list_all (names_hold (modules_in self.now)) (offered self.now.new.now))) }
         ensures refused { IfErr result (IsRefusedIn 13 (Links (modules_in self.now))) }
     {
         let mut all = Vec::with_capacity(alloc, self.new.len())?;
         for i in 0..self.new.len() {
-            match self.names(alloc, self.new[i].module.module()) {
+            match self.names(alloc, outlines, self.new[i].module.module()) {
                 Ok(names) => pushed(&mut all, names)?,
                 Err(e) => return Err(e),
             }
@@ -96,13 +101,14 @@ impl<'a> Scope<'a> {
         ensures dependencies { IfOk result (λ c. KeepsDependencies (tables_in self.now.store.now) (modules_in self.now) c.dependencies.items) }
         ensures refused { IfErr result (IsRefusedIn 13 (Links (modules_in self.now))) }
     {
-        let names = self.named(alloc)?;
+        let outlines = self.outlines(alloc)?;
+        let names = self.named(alloc, &outlines)?;
         let needed = self.dependencies(alloc, &names)?;
         if !self.is_ordered(alloc, &needed)? {
             return Err(Refusal::Phase(13));
         }
         let sizes = self.sizes(alloc, &names)?;
-        let lowered = self.lowered(alloc, &names, &sizes)?;
+        let lowered = self.lowered(alloc, &names, &sizes, outlines)?;
         let dependencies = placed(alloc, &self.places, needed)?;
         Ok(Changes {
             lowered,

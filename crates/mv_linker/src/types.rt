@@ -37,7 +37,7 @@ fn kind_code(kind: LeafKind) -> u8
 }
 
 /// Whether two kinds of leaves are one.
-fn same_kind(a: LeafKind, b: LeafKind) -> bool
+pub fn same_kind(a: LeafKind, b: LeafKind) -> bool
     ensures { result ≡ is_one_kind a b }
 {
     kind_code(a) == kind_code(b)

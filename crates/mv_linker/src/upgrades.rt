@@ -11,7 +11,7 @@ ghost use Rattle.mv_linker.specs.Upgrades.{same_field as is_one_field, same_fiel
 ghost use Rattle.mv_linker.specs.Upgrades.{structs_stay as all_stay, function_stays as this_stays, have_one_type, may_replace as may_stand_for};
 
 use crate::Store;
-use crate::handles::{function_handle, is_public};
+use crate::named_functions::{function_handle, is_public};
 use crate::names::{function_name, function_place, struct_name};
 use crate::scope::Scope;
 use crate::types::{are_same, same_signature, same_token};

@@ -1,7 +1,7 @@
 -- A scope whose bundle joins its store: where its modules stand, and that what they name is there.
 use Rattle.mv_linker.proofs.Common.{ℕ, ◌==◌, ◌∙◌, ◌≡◌, InBounds, IsSome, Joins, Links, List, Module, New, None, Option, Scope, Some, all_differ, and_from, ap, arith, eq-eqb, false}
 use Rattle.mv_linker.proofs.Common.{find_index, function_is_there, have_one_name, inl, inr, is_some, length, length-map, list_all, modules_are_there, modules_in, names_hold, not, offered}
-use Rattle.mv_linker.proofs.Common.{position, refl, slice_get, slice_get_within, structs_are_there, sym, tables_in, true}
+use Rattle.mv_linker.proofs.Common.{position, refl, slice_get, slice_get_within, structs_are_there, sym, tables_in, true, WellDefined}
 use Rattle.std.proofs.lemmas.Bool.{not-false}
 use Rattle.mv_linker.proofs.Lemmas.{among-at, among-result, differ-result, all_at, element_at}
 use Rattle.mv_linker.proofs.Joining.Assembling.{joining-offered}
@@ -73,3 +73,9 @@ module _ (s : Scope) (joins : Joins s) where
     | inl new ↦ joining.new_bounds m new
     | inr old ↦ joining.bounds m old.0
   ]
+
+-- each module of a bundle that fits, or of its store, is well defined
+pub well-defined : (s : Scope) → IsFitting s → (q : ℕ) (m : Module) → slice_get (modules_in s) q ≡ Some m → WellDefined m
+well-defined s fits q m at =
+    let j = fitting s fits in
+    elim (among-result (tables_in s.store.now) (offered s.new.now) m fits.store.once (among-at (modules_in s) q m at)) [ inl new ↦ j.new_defined m new | inr old ↦ j.defined m old.0 ]

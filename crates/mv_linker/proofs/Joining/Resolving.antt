@@ -1,16 +1,23 @@
 -- What a handle names, in the module that its module handle leads to.
 use Rattle.mv_linker.proofs.Common.{[], ℕ, ◌++◌, ◌+◌, ◌<◌, ◌>>=◌, ◌∙◌, ◌∷◌, ◌≡◌, ◌≤◌, Abilities, AreTargets, Definition, EachAt, FunctionHandle, IsFunctionAt, IsFunctionIn, IsRefusedIn}
-use Rattle.mv_linker.proofs.Common.{IsStructAt, IsStructIn, IsTarget, IsTrue, List, Memory, Module, ModuleName, None, Option, Phase, Refusal, Some, StructHandle, StructName, Target}
+use Rattle.mv_linker.proofs.Common.{IsOf, IsStructAt, IsStructOf, IsTarget, IsTrue, List, Memory, Module, ModuleName, None, Option, Phase, Refusal, Some, StructHandle, StructName, Target}
 use Rattle.mv_linker.proofs.Common.{and_from, and_parts, ap, arith, both_ways, cases_eq, declared, declared_in, false, first_so, function_is_there, function_matches, inl, inr, is_module}
 use Rattle.mv_linker.proofs.Common.{length, length_push, list_all, list_any, module_is_there, module_name, module_named, module_place, modules_are_there, option_and_then, option_map_or}
 use Rattle.mv_linker.proofs.Common.{refl, same_abilities, same_Some, second_so, slice_get, slice_get_past, slice_get_within, struct_is_there, struct_matches, structs_are_there, subst, suc}
-use Rattle.mv_linker.proofs.Common.{sym, tables_of, true, zero}
-use Rattle.mv_linker.proofs.Lemmas.{all-among, among-all, among-any, among-at, at-among, found_at, past_from, place_below, struct_parts}
+use Rattle.mv_linker.proofs.Common.{sym, own_name, true, zero}
+use Rattle.mv_linker.proofs.Lemmas.{all-among, among-all, among-any, among-at, at-among, found_at, past_from, place_below}
+use Rattle.mv_linker.proofs.NameLemmas.{module_place-is, named_in}
 use Rattle.mv_bounds.proofs.Entries.{last_or_before}
 
 -- the module of the name that a target has
-target_named : (modules : List Module) (m : Module) (h : ℕ) (t : Target) (is : IsTarget modules m h t) → module_named modules is.name ≡ Some (tables_of t.module)
+target_named : (modules : List Module) (m : Module) (h : ℕ) (t : Target) (is : IsTarget modules m h t) → module_named modules is.name ≡ Some is.home
 target_named modules m h t is = ap (option_and_then (slice_get modules)) is.place ∙ is.there
+
+-- and what it is to the handle's module
+pub target-of : (modules : List Module) (m : Module) (h : ℕ) (t : Target) (is : IsTarget modules m h t) → IsOf m h is.home is.name
+target-of modules m h t is =
+    let f = module_place-is modules is.name t.place is.place in
+    record { named = is.named; own = ap own_name (same_Some is.home f.0 (sym is.there ∙ f.1)) ∙ f.2; defined = is.defined }
 
 -- a name that is the place of no module
 pub not_there : (modules : List Module) (name : ModuleName) → module_place modules name ≡ None → list_any (is_module name) modules ≡ false
@@ -30,47 +37,45 @@ refused_by P Q Memory f r = r
 -- ---- structs and functions
 
 -- a struct of this name is among the modules with these abilities where it is in one of them with these
-abbrev AreOne : List Module → Module → Abilities → Option StructName → Type 0
-AreOne modules n abilities o =
-    option_map_or (λ name. option_map_or (same_abilities abilities) (declared modules name) false) o false
-    ≡ option_map_or (λ name. option_map_or (same_abilities abilities) (declared_in name n) false) o false
+abbrev AreOne : List Module → Module → ModuleName → Abilities → Option (List ℕ) → Type 0
+AreOne modules n home abilities o =
+    option_map_or (λ name. option_map_or (same_abilities abilities) (declared modules name) false) (o >>= λ name. Some (named_in home name)) false
+    ≡ option_map_or (λ name. option_map_or (same_abilities abilities) (declared_in (named_in home name) n) false) o false
 
 module _ (modules : List Module) (m : Module) (targets : List Target) (named : AreTargets modules m targets) where
-  pub struct_there_is : (h : ℕ) (handle : StructHandle) (t : Target) → slice_get m.struct_handles h ≡ Some handle → slice_get targets handle.module ≡ Some t
-      → struct_is_there modules m h handle ≡ struct_matches m h handle.abilities (tables_of t.module)
+  pub struct_there_is : (h : ℕ) (handle : StructHandle) (t : Target) → slice_get m.struct_handles h ≡ Some handle → (q : slice_get targets handle.module ≡ Some t)
+      → struct_is_there modules m h handle ≡ struct_matches m handle (named.each handle.module t q).home (named.each handle.module t q).name
   struct_there_is h handle t p q =
       let is = named.each handle.module t q in
-      rw (p, is.named) (elim (slice_get m.identifiers handle.name) as (λ o. AreOne modules (tables_of t.module) handle.abilities (o >>= λ n. Some (record { home = is.name; name = n }))) [
+      rw (p, is.named) (elim (slice_get m.identifiers handle.name) as (λ o. AreOne modules is.home is.name handle.abilities o) [
         | None ↦ refl
         | Some n ↦ rw (target_named modules m handle.module t is) refl
       ])
 
-  pub function_there_is : (handle : FunctionHandle) (t : Target) → slice_get targets handle.module ≡ Some t → function_is_there modules m handle ≡ function_matches m handle (tables_of t.module)
+  pub function_there_is : (handle : FunctionHandle) (t : Target) (q : slice_get targets handle.module ≡ Some t)
+      → function_is_there modules m handle ≡ function_matches m handle (named.each handle.module t q).home
   function_there_is handle t q = let is = named.each handle.module t q in rw (is.named, target_named modules m handle.module t is) refl
 
-  pub struct_at : (h : ℕ) (handle : StructHandle) (t : Target) (i : ℕ) → slice_get m.struct_handles h ≡ Some handle → slice_get targets handle.module ≡ Some t → IsStructIn m h (tables_of t.module) i
+  pub struct_at : (h : ℕ) (handle : StructHandle) (t : Target) (i : ℕ) → slice_get m.struct_handles h ≡ Some handle → (q : slice_get targets handle.module ≡ Some t)
+      → IsStructOf m handle (named.each handle.module t q).home (named.each handle.module t q).name i
       → IsStructAt modules m h (record { place = t.place; index = i })
   struct_at h handle t i p q s =
       let is = named.each handle.module t q in
       record {
-        name = s.name;
-        home = tables_of t.module;
-        named = s.named;
-        place = ap (module_place modules) (homes is) ∙ is.place;
+        name = named_in is.name s.0;
+        home = is.home;
+        named = rw (p, is.named, s.1) refl;
+        place = is.place;
         there = is.there;
-        index = s.place;
+        index = s.2;
       }
-    where
-      homes : (is : IsTarget modules m handle.module t) → s.name.home ≡ is.name
-      homes is = struct_parts m h s.name s.named (λ x x_is home_is name_is.
-          same_Some s.name.home is.name (sym home_is ∙ ap (λ z. module_name m z.module) (same_Some x handle (sym x_is ∙ p)) ∙ is.named))
 
-  pub function_at : (h : ℕ) (handle : FunctionHandle) (t : Target) (i : ℕ) → slice_get m.function_handles h ≡ Some handle → slice_get targets handle.module ≡ Some t
-      → IsFunctionIn m handle (tables_of t.module) i
+  pub function_at : (h : ℕ) (handle : FunctionHandle) (t : Target) (i : ℕ) → slice_get m.function_handles h ≡ Some handle → (q : slice_get targets handle.module ≡ Some t)
+      → IsFunctionIn m handle (named.each handle.module t q).home i
       → IsFunctionAt modules m h (record { place = t.place; index = i })
   function_at h handle t i p q f =
       let is = named.each handle.module t q in
-      record { handle = handle; name = is.name; home = tables_of t.module; is_handle = p; named = is.named; place = is.place; there = is.there; index = f }
+      record { handle = handle; name = is.name; home = is.home; is_handle = p; named = is.named; place = is.place; there = is.there; index = f }
 
   -- a place that a target has is one
   pub target_below : (h : ℕ) (t : Target) → slice_get targets h ≡ Some t → t.place < length modules

@@ -51,7 +51,7 @@ stayed-at m n (x ∷ ds) (y ∷ es) j zero d e h p l q = absurd (omega (arith, l
 stayed-at m n (x ∷ ds) (y ∷ es) zero (suc k) d e h p l q = (x, refl, subst (λ z. same_struct_definition m x n z ≡ true) (same_Some y e q) (first_so (same_struct_definition m x n y) (structs_stay m ds n es) h))
 stayed-at m n (x ∷ ds) (y ∷ es) (suc j) (suc k) d e h p l q = stayed-at m n ds es j k d e (second_so (same_struct_definition m x n y) (structs_stay m ds n es) h) p (omega (arith, l)) q
 
-so-struct : (m : Module) (name : StructName) (d : StructDefinition) → name_of_struct m d ≡ Some name → is_struct m name d ≡ true
+pub so-struct : (m : Module) (name : StructName) (d : StructDefinition) → name_of_struct m d ≡ Some name → is_struct m name d ≡ true
 so-struct m name d e = subst (λ (x : Option StructName). option_map_or (λ own. same_struct own name) x false ≡ true) (sym e) (same_struct-same name)
 
 -- a module that takes another's place, both of one name and with their own structs

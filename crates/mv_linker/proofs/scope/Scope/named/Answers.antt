@@ -15,7 +15,7 @@ returns-in-Err-clause-refused c =
     let among = offered-among s.new.now c.loop-i.i n (slice_get_read s.new.now (length s.new.now) c.loop-i.i n refl c.loop-i-test.true c.index-self-i.is) in
     refused_by (IsTrue (names_hold (modules_in s) c.module.result.now)) (Links (modules_in s)) c.in-Err.e
     (λ (links : Links (modules_in s)). ap (names_hold (modules_in s)) c.module.ensures.value ∙ ap (λ (x : New). names_hold (modules_in s) x.module) (sym c.index-self-i.is)
-    ∙ all-among (names_hold (modules_in s)) (offered s.new.now) n.module (bundle-links (tables_in s.store.now) (offered s.new.now) c.requires.once links).named among) c.in-Err.ensures.refused
+    ∙ all-among (names_hold (modules_in s)) (offered s.new.now) n.module (bundle-links (tables_in s.store.now) (offered s.new.now) c.requires.fits.once links).named among) c.in-Err.ensures.refused
 
 pub loop-i-preserved : goal.loop-i-preserved
 loop-i-preserved c =

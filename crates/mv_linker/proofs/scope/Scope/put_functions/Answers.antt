@@ -48,3 +48,6 @@ function-requires-clause-handle c = sym c.in-Some.ensures
 
 pub function-requires-clause-few : goal.function-requires-clause-few
 function-requires-clause-few c = c.requires.few
+
+pub function-requires-clause-structs : goal.function-requires-clause-structs
+function-requires-clause-structs c = c.requires.structs

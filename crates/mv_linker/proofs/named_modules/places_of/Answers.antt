@@ -1,5 +1,5 @@
 use Rattle.mv_linker.proofs.Common.{[], ◌++◌, ◌+◌, ◌∙◌, ◌∷◌, ◌≡◌, Target, ap, map, map-append, sym, take, take_more}
-use Rattle.mv_linker.proofs.targets.places_of.Goals as goal
+use Rattle.mv_linker.proofs.named_modules.places_of.Goals as goal
 
 pub loop-t-preserved : goal.loop-t-preserved
 loop-t-preserved c =
