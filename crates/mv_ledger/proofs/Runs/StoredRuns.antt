@@ -4,6 +4,8 @@ use Rattle.mv_ledger.proofs.Common.{storage_of, LedgerState, settled, Told, Tall
 use Rattle.mv_ledger.proofs.Common.{tables_in, Agrees, call_of, Arg, told, told_ending, IsSettled, run_of, tally_after, IsNamed, IsSmall, all_of, state_of, tallied, view_of, Call, Tally}
 use Rattle.std.proofs.Common.{subst}
 use Rattle.mv_machine.specs.declared.Outcome.{Outcome}
+use Rattle.mv_machine.specs.declared.Ending.{Ending}
+use Rattle.mv_ledger.specs.Changes.{RunsTo}
 use Rattle.mv_ledger.specs.Running.{left_by}
 use Rattle.mv_ledger.specs.declared.Reply.TheVariants.{Ran}
 use Rattle.mv_ledger.proofs.Runs.TalliesAfter.{tallies-after}
@@ -82,3 +84,13 @@ module _ (published : List PublishedModule) (call : Call) (stored new : List Fla
       by_outcome runs (Aborted kind n steps) h = told_as _ _ _ _ (ap (λ (x : Outcome). told_ending x.ending x.steps) h) (same runs)
       by_outcome runs (Exhausted stop steps) h = told_as _ _ _ _ (ap (λ (x : Outcome). told_ending x.ending x.steps) h) (same runs)
       by_outcome runs (Faulted fault steps) h = absurd h
+
+-- a run that doesn't return leaves storage and tallies
+pub runs-to : (outcome : Outcome) (old new : List FlatEntry) (before after : List Tally) → ((outcome.ending ≡ HasReturned → ⊥) → (new ≡ old) × (after ≡ before))
+    → RunsTo (told (Ran outcome)) old new before after
+runs-to outcome old new before after = by_ending outcome.ending
+  where
+    by_ending : (e : Ending) → ((e ≡ HasReturned → ⊥) → (new ≡ old) × (after ≡ before)) → RunsTo (Some (told_ending e outcome.steps)) old new before after
+    by_ending HasReturned h = tt
+    by_ending (HasAborted kind n) h = h (λ e. cc)
+    by_ending (HasExhausted stop) h = h (λ e. cc)

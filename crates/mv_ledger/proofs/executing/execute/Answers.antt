@@ -2,7 +2,7 @@ use Rattle.mv_ledger.proofs.Common.{◌+◌, ◌-◌, ◌^◌, ◌∙◌, ◌≡
 use Rattle.mv_ledger.proofs.Common.{AreCountable, AreScarce, IsNamed, IsSmall, all_of, Tally}
 use Rattle.mv_machine.specs.declared.Ending.TheVariants.{Returned}
 use Rattle.mv_ledger.proofs.Runs.Countable.{all-countable-kept, run-countable}
-use Rattle.mv_ledger.proofs.Runs.StoredRuns.{tallied-after, settled-returned, settled-kept, small-kept}
+use Rattle.mv_ledger.proofs.Runs.StoredRuns.{tallied-after, settled-returned, settled-kept, small-kept, runs-to}
 use Rattle.mv_ledger.proofs.Runs.ScarceTallies.{all-scarce, scarce-ordered}
 use Rattle.mv_ledger.proofs.Runs.TalliesAfter.{named-after, most-after, small-after, scarce-after}
 use Rattle.mv_ledger.proofs.executing.execute.Goals as goal
@@ -81,4 +81,13 @@ returns-after-eq-clause-settled c =
           let other : c.in-Ok.outcome.ending ≡ Returned → ⊥ = search rules in
           settled-kept c.args.store.now c.args.call.now c.args.storage.now.committed c.run_over.new.storage.committed (all_of c.args.tallies.now) (all_of c.if-eq.tallies) c.in-Ok.outcome c.in-Ok.tally.items layers
           c.in-Ok.ensures.machine other (c.in-Ok.ensures.other other) (ap all_of w.tallies-is)
+    ]
+
+pub returns-after-eq-clause-kept : goal.returns-after-eq-clause-kept
+returns-after-eq-clause-kept c =
+    elim c.if-eq.branch [
+      | then-eq w ↦ let ended : c.in-Ok.outcome.ending ≡ Returned = search rules in runs-to c.in-Ok.outcome _ _ _ _ (λ other. absurd (other ended))
+      | else-eq w ↦
+          let other : c.in-Ok.outcome.ending ≡ Returned → ⊥ = search rules in
+          runs-to c.in-Ok.outcome _ _ _ _ (λ _. (c.in-Ok.ensures.other other, ap all_of w.tallies-is))
     ]
