@@ -56,12 +56,12 @@ each_tallied storage names (t ∷ ts) same h =
     subst (λ (l : List StructName). AllZip (IsTalliedBy storage) l (t ∷ ts)) same ((refl, h.0), each_tallied storage (map (λ t. t.struct) ts) ts refl h.1)
 
 later_above : (key : Key) (es : Storage) → AreAbove key es → All (λ (e : Entry). key_before key e.key ≡ true) es
-later_above key [] h = All-nil _
-later_above key (e ∷ es) h = All-cons _ e es h.0 (later_above key es h.1)
+later_above key [] h = All-nil (λ (e : Entry). key_before key e.key ≡ true)
+later_above key (e ∷ es) h = All-cons (λ (e : Entry). key_before key e.key ≡ true) e es h.0 (later_above key es h.1)
 
 keys_ascend : (es : Storage) → IsAscending es → KeysAscend es
 keys_ascend [] h = λ i j d before within. absurd (omega (arith, within))
-keys_ascend (e ∷ es) h = AllPairs-cons _ e es (later_above e.key es h.0) (keys_ascend es h.1)
+keys_ascend (e ∷ es) h = AllPairs-cons (λ (earlier later : Entry). key_before earlier.key later.key ≡ true) e es (later_above e.key es h.0) (keys_ascend es h.1)
 
 -- a sound ledger's is accounted for
 pub is_accounted : (s : LedgerState) → IsSoundLedger s → IsAccounted s

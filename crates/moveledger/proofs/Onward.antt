@@ -1,5 +1,5 @@
 -- From one record to the next, where numbers go on from those of earlier records.
-use Rattle.std.proofs.Common.{◌≡◌, ℕ, ◌+◌, ◌-◌, ◌^◌, List, [], ◌∷◌, ◌++◌, length, arith, refl, sym, ap, ◌∙◌, subst, append_assoc, append-nil}
+use Rattle.std.proofs.Common.{◌≡◌, ℕ, ◌+◌, ◌-◌, ◌^◌, List, [], ◌∷◌, ◌++◌, length, arith, refl, sym, ap, ◌∙◌, subst, append_assoc}
 use Rattle.std.proofs.Common.{Option, inl, inr, ◌⊎◌, flat_map}
 use Rattle.std.specs.Io.{StartsWith}
 use Rattle.std.specs.Io.KnownBytes.{Consumes, Appends}
@@ -7,10 +7,10 @@ use Rattle.std.proofs.KnownBytes.{Consumes-nil, Appends-nil, Consumes-trans, App
 use Rattle.mv_ledger.specs.View.{LedgerView}
 use Rattle.mv_machine.specs.Lines.{Refused, reply_lines, numbered}
 use Rattle.moveledger.specs.Records.{Record, Whole, Cut, IsText, AreRecords, AreWhole}
-use Rattle.moveledger.specs.Headline.{Step, Reports}
-use Rattle.moveledger.specs.Reading.{IsCutAt, IsTaken, IsUnfinished}
+use Rattle.moveledger.specs.Headline.{Reports}
+use Rattle.moveledger.specs.Reading.{IsCutAt, IsUnfinished}
 use Rattle.moveledger.specs.Outcome.{left_of, Stays, Begun}
-use Rattle.moveledger.specs.Answered.{IsAnswered, IsBegun, MayBeAnswered}
+use Rattle.moveledger.specs.Answered.{IsAnswered, MayBeAnswered}
 use Rattle.moveledger.specs.Continuing.{GoesOn, StopsAfter}
 use Rattle.moveledger.proofs.Steps.{AreRecords-push, Reports-push, length-push, Tells-trans, nonempty}
 use Rattle.moveledger.proofs.Taken.{Tells-taken}

@@ -1,4 +1,4 @@
-use Rattle.std.proofs.Common.{◌≡◌, ℕ, ◌+◌, List, refl, sym, arith, subst}
+use Rattle.std.proofs.Common.{ℕ, List, refl, sym, arith, subst}
 use Rattle.std.proofs.lemmas.Result.{err_from_is_err_and}
 use Rattle.moveledger.specs.Records.{IsText}
 use Rattle.moveledger.proofs.Onward.{Continues-next, Continues-ends, Continues-full, Continues-cut, Continues-unread, Continues-answered, Continues-begun_cut}
