@@ -90,10 +90,11 @@ class Comparison:
         return 1 if self.wrong or not self.tried else 0
 
 
-def crates() -> Dict[str, Tuple[str, ...]]:
-    """Each crate of crates.txt with all that it uses, in the order in which they stand there."""
+def crates(with_static: bool = True) -> Dict[str, Tuple[str, ...]]:
+    """Each crate of crates.txt with all that it uses, in the order in which they stand there; with or without those that are built as
+    a static library for other languages."""
     lines = [line.partition(":") for line in (TOP / "crates.txt").read_text().splitlines() if not line.startswith("#")]
-    return {name.split()[0]: tuple(uses.split()) for name, colon, uses in lines if colon}
+    return {name.split()[0]: tuple(uses.split()) for name, colon, uses in lines if colon and (with_static or "staticlib" not in name)}
 
 
 def has(command: str) -> bool:
