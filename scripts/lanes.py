@@ -4,6 +4,7 @@ their proofs. That takes a third less of the processors than a build by `rt lib`
 The crates that the longest chain of others waits for have the processors first, the others what these leave.
 usage: scripts/lanes.py NAME JOBS    builds one library, over those below it as they were built"""
 
+import argparse
 import contextlib
 import importlib.util
 import os
@@ -11,6 +12,7 @@ import shutil
 import subprocess
 import sys
 import time
+from typing import IO, Any, Callable, Dict, Iterator, List, Mapping, Sequence
 
 TOP = os.path.dirname(os.path.dirname(os.path.realpath(__file__)))
 PARTS = "src", "specs", "proofs"
@@ -29,22 +31,24 @@ GIVES_WAY, GIVES_MUCH_WAY = 5, 15
 ROOM = 5_000_000
 
 
-def toolchain():
+def toolchain() -> Any:
     """The part of `rt` that calls the compiler, which lies beside it."""
-    folder = os.path.dirname(os.path.realpath(shutil.which("rt")))
+    folder = os.path.dirname(os.path.realpath(shutil.which("rt") or "rt"))
     spec = importlib.util.spec_from_file_location("rtlib", f"{folder}/rtlib.py")
+    assert spec is not None and spec.loader is not None
     made = importlib.util.module_from_spec(spec)
     spec.loader.exec_module(made)
     return made
 
 
 @contextlib.contextmanager
-def stamps_once(rtlib):
+def stamps_once(rtlib: Any) -> Iterator[None]:
     """For a while, each crate's stamp is reckoned once. It has the stamps of the crates that it uses, and by itself it is reckoned anew on
     each of the thousands of ways that lead to a crate at the bottom."""
-    reckoned, known = rtlib.Crate.stamp, {}
+    reckoned: Callable[[Any], str] = rtlib.Crate.stamp
+    known: Dict[str, str] = {}
 
-    def stamp(crate):
+    def stamp(crate: Any) -> str:
         if crate.folder not in known:
             known[crate.folder] = reckoned(crate)
         return known[crate.folder]
@@ -60,23 +64,24 @@ class Crate:
     """A library of the repository: those that it uses, its sources' bytes, and the bytes of the longest chain that waits for it, with it
     and without it."""
 
-    def __init__(self, name, used):
-        self.name, self.used, self.behind, self.waiting = name, used, 0, 0
+    def __init__(self, name: str, used: List[str]):
+        self.name, self.used = name, used
+        self.behind = self.waiting = 0
         folders = [f"crates/{name}/{it}" for it in PARTS]
         self.size = BEFORE + sum(os.path.getsize(f"{at}/{it}") for top in folders for at, _, names in os.walk(top) for it in names)
 
 
-def libraries(uses, program):
+def libraries(uses: Mapping[str, List[str]], program: str) -> Dict[str, Crate]:
     """The libraries that the program stands on, each by its name, after those that it uses, with what waits for it reckoned."""
     crates = {name: Crate(name, used) for name, used in uses.items() if name != program}
-    for crate in reversed(crates.values()):
+    for crate in reversed(list(crates.values())):
         crate.behind = crate.waiting + crate.size
         for it in crate.used:
             crates[it].waiting = max(crates[it].waiting, crate.behind)
     return crates
 
 
-def has_room():
+def has_room() -> bool:
     """Whether there is memory for another crate."""
     with open("/proc/meminfo", encoding="ascii") as lines:
         return next(int(it.split()[1]) for it in lines if it.startswith("MemAvailable:")) > ROOM
@@ -85,18 +90,18 @@ def has_room():
 class Lane:
     """A build of one crate."""
 
-    def __init__(self, crate, jobs, gives_way, log):
+    def __init__(self, crate: Crate, jobs: int, gives_way: int, log: IO[bytes]):
         self.crate, self.jobs, self.gives_way = crate, jobs, gives_way
         words = ["nice", "-n", str(gives_way), sys.executable, os.path.realpath(__file__)]
         self.run = subprocess.Popen([*words, crate.name, str(self.jobs)], stdin=subprocess.DEVNULL, stdout=log, stderr=log)
 
-    def end(self):
+    def end(self) -> None:
         """Gives the build up; its compiler ends with it."""
         self.run.terminate()
         self.run.wait()
 
 
-def way_given(crate, running, left):
+def way_given(crate: Crate, running: Sequence[Lane], left: Sequence[Crate]) -> int:
     """How much way a crate gives: none where it is wanted soon after those that are wanted now, or after the next one of the longest
     chain."""
     now = [it.crate.waiting for it in running if not it.gives_way] or [left[0].waiting]
@@ -104,19 +109,21 @@ def way_given(crate, running, left):
     return 0 if before <= FAR * crate.size else GIVES_WAY if before < MUCH else GIVES_MUCH_WAY
 
 
-def are_new(uses, program):
+def are_new(uses: Mapping[str, List[str]], program: str) -> bool:
     """Whether no check has left work of a library here."""
     return not any(os.path.exists(f"crates/{it}/out/incremental") for it in uses if it != program)
 
 
-def build(uses, program, processors, log, tell):
+def build(uses: Mapping[str, List[str]], program: str, processors: int, log: IO[bytes],
+          tell: Callable[[Sequence[str]], object]) -> bool:
     """Builds the libraries that aren't built, and returns whether all are. `tell` is called now and then with the names of those that are."""
     rtlib, crates = toolchain(), libraries(uses, program)
     of_rt = {name: rtlib.Crate(f"{TOP}/crates/{name}", TOP, {}) for name in crates}
     with_lock = rtlib.lock(of_rt.values())
     with stamps_once(rtlib):
         built = [name for name, it in of_rt.items() if it.is_built()]
-    running, well = [], True
+    running: List[Lane] = []
+    well = True
     left = sorted((it for it in crates.values() if it.name not in built), key=lambda it: -it.behind)
     try:
         while running or (left and well):
@@ -140,7 +147,7 @@ def build(uses, program, processors, log, tell):
     return well
 
 
-def prove(name, jobs):
+def prove(name: str, jobs: str) -> int:
     """Proves and builds one library, and marks it as built from its sources, by which `rt` knows it again. Returns the status."""
     rtlib = toolchain()
     crate = rtlib.Crate(f"{TOP}/crates/{name}", TOP, {})
@@ -150,7 +157,7 @@ def prove(name, jobs):
     shutil.rmtree(folder, ignore_errors=True)
     os.makedirs(folder)
     words = crate.words(["--jobs", jobs], keeps=False)
-    status = crate.call(rtlib.RATTLE, "build", *words, "--statements", "-o", crate.rlib)
+    status: int = crate.call(rtlib.RATTLE, "build", *words, "--statements", "-o", crate.rlib)
     with stamps_once(rtlib):
         is_same = stamp == crate.stamp()
     if not status and is_same:
@@ -159,5 +166,13 @@ def prove(name, jobs):
     return status
 
 
+def main() -> int:
+    words = argparse.ArgumentParser(description="Builds one library, over those below it as they were built")
+    words.add_argument("name", metavar="NAME")
+    words.add_argument("jobs", metavar="JOBS")
+    given = words.parse_args()
+    return prove(given.name, given.jobs)
+
+
 if __name__ == "__main__":
-    sys.exit(prove(*sys.argv[1:]))
+    sys.exit(main())
