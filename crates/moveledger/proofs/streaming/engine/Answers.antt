@@ -1,6 +1,6 @@
 use Rattle.mv_ledger.specs.View.{state_of}
 use Rattle.moveledger.proofs.HeadlineLemmas.{is_accounted}
-use Rattle.moveledger.proofs.engine.engine.Goals as goal
+use Rattle.moveledger.proofs.streaming.engine.Goals as goal
 
 pub returns-clause-began : goal.returns-clause-began
 returns-clause-began g c = is_accounted (state_of c.args.ledger.now) c.is_sound.ensures
