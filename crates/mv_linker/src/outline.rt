@@ -233,9 +233,9 @@ impl Outline {
     fn new(alloc: Global) -> Result<Self, AllocError>
         ensures { IfOk result (λ o. o ≡ record { structs = []; fields = []; functions = [] }) }
     {
-        let identifiers = Lists::new(alloc);
-        let structs = Vec::new(alloc);
-        let functions = Vec::new(alloc);
+        let identifiers: Lists<u8> = Lists::new(alloc);
+        let structs: Vec<StructEntry> = Vec::new(alloc);
+        let functions: Vec<FunctionEntry> = Vec::new(alloc);
         let structs_by_name = structs_by_name(alloc, &identifiers, &structs)?;
         let functions_by_name = functions_by_name(alloc, &identifiers, &functions)?;
         Ok(Outline {

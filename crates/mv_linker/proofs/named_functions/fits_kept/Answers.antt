@@ -7,9 +7,9 @@ pub returns-in_default : goal.returns-in_default
 returns-in_default c modules n home d of is are at =
     absurd (kept-parameters modules c.args.m.now n c.args.structs.now are home c.args.handle c.args.kept.now of is c.args.index d at (sym c.in_default.ensures))
 
-pub returns-in_default-get-2 : goal.returns-in_default-get-2
-returns-in_default-get-2 c modules n home d of is are at =
-    absurd (kept-results modules c.args.m.now n c.args.structs.now are home c.args.handle c.args.kept.now of is c.args.index d at (sym c.in_default-get-2.ensures))
+pub returns-in_default-get : goal.returns-in_default-get
+returns-in_default-get c modules n home d of is are at =
+    absurd (kept-results modules c.args.m.now n c.args.structs.now are home c.args.handle c.args.kept.now of is c.args.index d at (sym c.in_default-get.ensures))
 
 pub returns : goal.returns
 returns c modules n home d of is are at =
@@ -18,5 +18,5 @@ returns c modules n home d of is are at =
     c.fits_types.ensures
     ∙ ap (λ p. (p || both_there same_module (module_name m handle.module) (own_name m))
         && (option_map_or (λ ts. are_types c.args.structs.now ts c.in-Some.parameters.now) (slice_get m.signatures handle.parameters) false
-        && option_map_or (λ ts. are_types c.args.structs.now ts c.in-Some-get-2.results.now) (slice_get m.signatures handle.results) false)) c.is_public-is_public.ensures
-    ∙ kept-fits modules m n c.args.structs.now are home handle c.args.kept.now of is c.args.index d at c.in-Some.parameters.now c.in-Some-get-2.results.now (sym c.in-Some.ensures) (sym c.in-Some-get-2.ensures)
+        && option_map_or (λ ts. are_types c.args.structs.now ts c.in-Some-get.results.now) (slice_get m.signatures handle.results) false)) c.is_public-is_public.ensures
+    ∙ kept-fits modules m n c.args.structs.now are home handle c.args.kept.now of is c.args.index d at c.in-Some.parameters.now c.in-Some-get.results.now (sym c.in-Some.ensures) (sym c.in-Some-get.ensures)

@@ -36,7 +36,7 @@ pub returns-clause-dependencies : goal.returns-clause-dependencies
 returns-clause-dependencies c =
     let s = c.args.self.now in
     let needed = c.in_ok-needed.needed.items in
-    let is : c.in_ok-dependencies.dependencies.items ≡ placed s.places.items needed = c.in_ok-dependencies.ensures ∙ ap (λ (l : List ℕ). placed l needed) c.deref-6.ensures.value in
+    let is : c.in_ok-dependencies.dependencies.items ≡ placed s.places.items needed = c.in_ok-dependencies.ensures ∙ ap (λ (l : List ℕ). placed l needed) c.deref-7.ensures.value in
     subst (λ (l : List DependenciesAt). KeepsDependencies (tables_in s.store.now) (modules_in s) l) (sym is)
     (keeps-dependencies (tables_in s.store.now) (offered s.new.now) c.requires.fits.store.once c.requires.fits.once c.requires.fits.store.links s.places.items s.placed needed c.in_ok-needed.ensures)
 

@@ -1,5 +1,5 @@
 use Rattle.mv_linker.proofs.Common.{ℕ, ◌∙◌, List, ap, map, subst, sym, AreHandlePlaces, modules_in}
-use Rattle.mv_linker.specs.declared.targets.Target.{Target}
+use Rattle.mv_linker.specs.declared.named_modules.Target.{Target}
 use Rattle.mv_linker.proofs.Joining.JoinedTargets.{places_of_targets}
 use Rattle.mv_linker.proofs.Joining.Assembling.{names-parts}
 use Rattle.mv_linker.proofs.Joining.Resolving.{refused_by}
