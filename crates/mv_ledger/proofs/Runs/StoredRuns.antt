@@ -2,7 +2,8 @@
 use Rattle.mv_ledger.proofs.Common.{◌+◌, ◌∙◌, ◌≡◌, List, Option, Some, ap, ap₂, arith, map, sym, true, ℕ, All-weaker, All, Module, PublishedModule, is_scarce_in, StructTally, Layers, FlatEntry}
 use Rattle.mv_ledger.proofs.Common.{storage_of, LedgerState, settled, Told, Tallied, Aborted, Exhausted, Faulted, Returned, RunOutcome, run, Storage, HasAborted, HasExhausted, HasReturned}
 use Rattle.mv_ledger.proofs.Common.{tables_in, Agrees, call_of, Arg, told, told_ending, IsSettled, run_of, tally_after, IsNamed, IsSmall, all_of, state_of, tallied, view_of, Call, Tally}
-use Rattle.std.proofs.Common.{subst}
+use Rattle.std.proofs.Common.{refl, subst}
+use Rattle.mv_interpreter.specs.Runs.{IsFineWords}
 use Rattle.mv_machine.specs.declared.Outcome.{Outcome}
 use Rattle.mv_machine.specs.declared.Ending.{Ending}
 use Rattle.mv_ledger.specs.Changes.{RunsTo}
@@ -27,26 +28,6 @@ module _ (published : List PublishedModule) (call : Call) (stored new : List Fla
   -- a ledger after so many runs with this storage and these tallies
   abbrev after_runs : ℕ → Storage → List Tallied → LedgerState
   after_runs runs storage tallies = record { published = published; storage = storage; tallies = tallies; runs = runs + 1 }
-
-  -- the machine's run from what the overlay began with
-  pub run-same : (seen : List FlatEntry) (args : List Arg) → seen ≡ stored → args ≡ call.arguments.items → run modules (storage_of modules seen)
-      (call_of call.function args) call.budget ≡ run_of published stored call
-  run-same seen args seen_is args_are = ap₂ (λ (entries : List FlatEntry) (as' : List Arg). run modules (storage_of modules entries) (call_of call.function as') call.budget) seen_is args_are
-
-  -- what the overlay began with is what was stored, and what the storage holds after it is what the run left
-  pub agrees-left : (own : List FlatEntry) (args : List Arg) (outcome : Outcome) (tally : List StructTally) (seen : Layers) → own ≡ stored → args ≡ call.arguments.items
-      → new ≡ left_by outcome.ending seen
-      → Agrees modules (run modules (storage_of modules own) (call_of call.function args) call.budget) outcome tally seen
-      → Agrees modules (run_of published stored call) outcome tally (record { committed = stored; current = new })
-  agrees-left own args outcome tally seen own_is args_are new_is agrees =
-      by_outcome (run_of published stored call) (subst (λ (o : RunOutcome). Agrees modules o outcome tally seen) (run-same own args own_is args_are) agrees)
-    where
-      by_outcome : (o : RunOutcome) → Agrees modules o outcome tally seen → Agrees modules o outcome tally (record { committed = stored; current = new })
-      by_outcome (Returned steps storage events) h =
-          (h.0, h.1 ∙ ap (storage_of modules) (sym (new_is ∙ ap (λ (x : Outcome). left_by x.ending seen) h.0)), h.2)
-      by_outcome (Aborted kind n steps) h = h
-      by_outcome (Exhausted stop steps) h = h
-      by_outcome (Faulted fault steps) h = h
 
   -- what is told, and the ledger after it
   abbrev telling : Told → LedgerState → Option (Told × LedgerState)
@@ -94,3 +75,10 @@ runs-to outcome old new before after = by_ending outcome.ending
     by_ending HasReturned h = tt
     by_ending (HasAborted kind n) h = h (λ e. cc)
     by_ending (HasExhausted stop) h = h (λ e. cc)
+
+-- what a run leaves is values of their structs, as what was there and what it made are
+pub fine-left : (modules : List Module) (ending : Ending) (layers : Layers) (new : List FlatEntry) → new ≡ left_by ending layers
+    → (ending ≡ HasReturned → All (IsFineWords modules) layers.current) → All (IsFineWords modules) layers.committed → All (IsFineWords modules) new
+fine-left modules HasReturned layers new is ended kept = subst (λ (es : List FlatEntry). All (IsFineWords modules) es) (sym is) (ended refl)
+fine-left modules (HasAborted kind n) layers new is ended kept = subst (λ (es : List FlatEntry). All (IsFineWords modules) es) (sym is) kept
+fine-left modules (HasExhausted stop) layers new is ended kept = subst (λ (es : List FlatEntry). All (IsFineWords modules) es) (sym is) kept

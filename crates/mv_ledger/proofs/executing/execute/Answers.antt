@@ -13,7 +13,7 @@ add_run-requires-clause-ordered c = scarce-ordered (tables_in c.args.store.now) 
 
 pub add_run-requires-clause-few : goal.add_run-requires-clause-few
 add_run-requires-clause-few c =
-    subst (λ (run : List StructTally). AtMost (2 ^ 64 - 1) run) (sym c.deref-then-eq.ensures.value)
+    subst (λ (run : List StructTally). AtMost (2 ^ 64 - 1) run) (sym c.deref.ensures.value)
     (most-after c.args.call.now.budget c.in-Ok.tally.items c.in-Ok.ensures.few c.requires.budget).1
 
 pub returns-after-eq-clause-stored : goal.returns-after-eq-clause-stored
@@ -21,15 +21,20 @@ returns-after-eq-clause-stored c = c.in-Ok.ensures.fine
 
 pub returns-in-Err-Memory-clause-stored : goal.returns-in-Err-Memory-clause-stored
 returns-in-Err-Memory-clause-stored c =
-    let e : c.run_over.new.storage.committed ≡ c.args.storage.now.committed = cc in
+    let e : c.run_over.new.storage.committed ≡ c.args.storage.now.committed = rw c.in-Err-Memory.is at c.run_over.ensures.err in
     subst (λ (z : List FlatEntry). All (IsFineWords (tables_in c.args.store.now)) z) (sym e) c.requires.stored
+
+pub returns-in-Err-Memory-clause-kept : goal.returns-in-Err-Memory-clause-kept
+returns-in-Err-Memory-clause-kept c =
+    let e : c.run_over.new.storage.committed ≡ c.args.storage.now.committed = rw c.in-Err-Memory.is at c.run_over.ensures.err in
+    (e, refl)
 
 pub returns-after-eq-clause-named : goal.returns-after-eq-clause-named
 returns-after-eq-clause-named c =
     elim c.if-eq.branch [
       | then-eq w ↦
           let after : all_of c.if-eq.tallies ≡ map (tally_after c.in-Ok.tally.items) (all_of c.args.tallies.now) =
-          ap all_of w.tallies-is ∙ tallied-after c.in-Ok.tally.items w.deref-then-eq.result.now c.args.tallies.now w.add_run.new.self w.add_run.ensures w.deref-then-eq.ensures.value in
+          ap all_of w.tallies-is ∙ tallied-after c.in-Ok.tally.items w.deref.result.now c.args.tallies.now w.add_run.new.self w.add_run.ensures w.deref.ensures.value in
           subst (λ (ts : List Tally). All (IsNamed (tables_in c.args.store.now)) ts) (sym after)
           (named-after (tables_in c.args.store.now) c.in-Ok.tally.items (all_of c.args.tallies.now) c.requires.named)
       | else-eq w ↦ rw w.tallies-is c.requires.named
@@ -40,7 +45,7 @@ returns-after-eq-clause-small c = λ runs small.
     elim c.if-eq.branch [
       | then-eq w ↦
           let after : all_of c.if-eq.tallies ≡ map (tally_after c.in-Ok.tally.items) (all_of c.args.tallies.now) =
-          ap all_of w.tallies-is ∙ tallied-after c.in-Ok.tally.items w.deref-then-eq.result.now c.args.tallies.now w.add_run.new.self w.add_run.ensures w.deref-then-eq.ensures.value in
+          ap all_of w.tallies-is ∙ tallied-after c.in-Ok.tally.items w.deref.result.now c.args.tallies.now w.add_run.new.self w.add_run.ensures w.deref.ensures.value in
           subst (λ (ts : List Tally). All (IsSmall (runs + 1)) ts) (sym after)
           (small-after runs c.in-Ok.tally.items (all_of c.args.tallies.now) (most-after c.args.call.now.budget c.in-Ok.tally.items c.in-Ok.ensures.few c.requires.budget).0 small)
       | else-eq w ↦ rw w.tallies-is (small-kept runs (all_of c.args.tallies.now) small)
@@ -51,7 +56,7 @@ returns-after-eq-clause-scarce c =
     elim c.if-eq.branch [
       | then-eq w ↦
           subst (λ (tss : List (List Tally)). AreScarce (tables_in c.args.store.now) tss) (sym (w.tallies-is ∙ w.add_run.ensures))
-          (scarce-after w.deref-then-eq.result.now (tables_in c.args.store.now) c.args.tallies.now c.requires.scarce)
+          (scarce-after w.deref.result.now (tables_in c.args.store.now) c.args.tallies.now c.requires.scarce)
       | else-eq w ↦ rw w.tallies-is c.requires.scarce
     ]
 
@@ -59,7 +64,7 @@ pub returns-after-eq-clause-countable : goal.returns-after-eq-clause-countable
 returns-after-eq-clause-countable c =
     let had = all-countable-kept c.args.counters.now c.run_over.new.counters c.args.tallies.now c.run_over.ensures.kept c.requires.countable in
     elim c.if-eq.branch [
-      | then-eq w ↦ subst (AreCountable c.run_over.new.counters) (sym (w.tallies-is ∙ w.add_run.ensures)) (run-countable c.run_over.new.counters w.deref-then-eq.result.now c.args.tallies.now had)
+      | then-eq w ↦ subst (AreCountable c.run_over.new.counters) (sym (w.tallies-is ∙ w.add_run.ensures)) (run-countable c.run_over.new.counters w.deref.result.now c.args.tallies.now had)
       | else-eq w ↦ rw w.tallies-is had
     ]
 
@@ -72,7 +77,7 @@ returns-after-eq-clause-settled c =
     elim c.if-eq.branch [
       | then-eq w ↦
           let after : all_of c.if-eq.tallies ≡ map (tally_after c.in-Ok.tally.items) (all_of c.args.tallies.now) =
-          ap all_of w.tallies-is ∙ tallied-after c.in-Ok.tally.items w.deref-then-eq.result.now c.args.tallies.now w.add_run.new.self w.add_run.ensures w.deref-then-eq.ensures.value in
+          ap all_of w.tallies-is ∙ tallied-after c.in-Ok.tally.items w.deref.result.now c.args.tallies.now w.add_run.new.self w.add_run.ensures w.deref.ensures.value in
           let ended : c.in-Ok.outcome.ending ≡ Returned = search rules in
           settled-returned c.args.store.now c.args.call.now c.args.storage.now.committed c.run_over.new.storage.committed (all_of c.args.tallies.now) (all_of c.if-eq.tallies) c.in-Ok.outcome c.in-Ok.tally.items layers
           c.requires.named
