@@ -79,7 +79,7 @@ pub use Rattle.mv_linker.specs.Linked.{width_of_others, with_slot, with_target, 
 pub use Rattle.mv_linker.specs.LinkedBy.{AreAlong, AreOperations, Gives, GoesOn, IsLinker, Pushes, Stands, constant_numbers, literal_of, site_of}
 pub use Rattle.mv_linker.specs.Lowered.{AreOthers, AreOwnSizes, AreSized, IsCalled, IsLowered, IsLoweredIn, IsToLink, called_by, widths_in, words_of_size}
 pub use Rattle.mv_linker.specs.Outline.{AreEach, AreFieldNames, FunctionOutline, IsFunctionNamed, IsFunctionOutline, IsOutline, IsStructNamed, IsStructOutline, OutlineView, StructOutline}
-pub use Rattle.mv_linker.specs.Outline.{function_by, function_kept, identifier_at, names_by, outline_by, outline_kept, struct_by, struct_kept}
+pub use Rattle.mv_linker.specs.Outline.{function_by, function_kept, identifier_at, names_by, outline_kept, struct_by, struct_kept}
 pub use Rattle.mv_linker.specs.Matches.{IsOf, IsStructOf, function_matches, struct_matches}
 pub use Rattle.mv_linker.specs.News.{published_of, published_one}
 pub use Rattle.mv_linker.specs.Operations.{BorrowInside, BorrowLocal as BorrowOperation, Differ as DifferOperation, Discard as DiscardOperation, Enter, GiveUp, Leave}
@@ -98,7 +98,7 @@ pub use Rattle.mv_linker.specs.Slots.{AreCarried, AreFilled, AreOnce, AreSlots, 
 pub use Rattle.mv_linker.specs.Slotted.{AreSlotted, IsSlotted}
 pub use Rattle.mv_linker.specs.Stored.{AreCodesOf, AreDependenciesOf, AreLowered, AreNames, AreNamesOf, IsLinkedTo, IsSizeAt, KeepsDependencies, LinkedBundle, with_at, with_codes}
 pub use Rattle.mv_linker.specs.Stored.{with_dependencies}
-pub use Rattle.mv_linker.specs.Targets.{AreFunctionsAt, AreStructsAt, EachAt, IsFunctionAt, IsFunctionIn, IsStructAt, IsStructIn, modules_in}
+pub use Rattle.mv_linker.specs.Targets.{AreFunctionsAt, AreStructsAt, EachAt, IsFunctionAt, IsFunctionIn, IsStructAt, modules_in}
 pub use Rattle.mv_linker.specs.TypesByName.{both_there, same_signature, same_types, signature_named, token_named, tokens_named, value_type_named}
 pub use Rattle.mv_linker.specs.Upgrades.{function_stays, have_one_type, may_replace, same_fields, same_struct_definition, structs_stay}
 pub use Rattle.mv_linker.specs.Widths.{width_of_tag, width_of_token, width_of_tokens}

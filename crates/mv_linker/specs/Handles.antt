@@ -7,12 +7,6 @@ use Rattle.mv_move_types.specs.Module.{Module, module_name, struct_name}
 use Rattle.mv_move_types.specs.Named.{module_place, is_struct, function_place}
 use Rattle.mv_move_types.specs.Options.{find_index}
 
--- the index of the struct that a handle names, in the module that it is of
-pub record IsStructIn (m : Module) (h : ℕ) (n : Module) (index : ℕ) : Type 0 where
-  pub name : StructName
-  pub named : struct_name m h ≡ Some name
-  pub place : find_index (is_struct n name) n.structs ≡ Some index
-
 -- the index of the function that a handle names, in the module that it is of
 pub record IsFunctionIn (m : Module) (handle : FunctionHandle) (n : Module) (index : ℕ) : Type 0 where
   pub name : List ℕ

@@ -104,6 +104,3 @@ function_by m d = record {
   is_public = is_public d;
   is_entry = d.is_entry;
 }
-
-abbrev pub outline_by : Module → OutlineView
-outline_by m = outline_kept m.identifiers (map (struct_by m) m.structs) (map names_by m.structs) (map (function_by m) m.functions)

@@ -6,7 +6,7 @@
 use Rattle.mv_linker.proofs.Common.{[], ℕ, ◌∙◌, ◌∷◌, ◌≡◌, AreEach, AreFieldNames, Bool, Field, FunctionDefinition, FunctionEntry, FunctionOutline, InBounds, IsFunctionNamed, IsFunctionOutline}
 use Rattle.mv_linker.proofs.Common.{IsOutline, IsStructNamed, IsStructOutline, List, Module, None, Option, OutlineView, Some, StructDefinition, StructEntry, StructOutline, WellDefined, and_parts, ap, arith}
 use Rattle.mv_linker.proofs.Common.{below, bytes_eq, bytes_eq-Decides, false, field_in, function_by, function_handle_in, function_kept, function_place, identifier_at, length, list_all, ltb-true, map, map-map}
-use Rattle.mv_linker.proofs.Common.{name_of_function, names_by, none-some, option_map, option_map_or, outline_by, position, refl, same_Some, slice_get, slice_get-map, slice_get_within, struct_by, struct_handle_in}
+use Rattle.mv_linker.proofs.Common.{name_of_function, names_by, none-some, option_map, option_map_or, outline_kept, position, refl, same_Some, slice_get, slice_get-map, slice_get_within, struct_by, struct_handle_in}
 use Rattle.mv_linker.proofs.Common.{struct_in, struct_kept, subst, sym, true, unwrap_or}
 use Rattle.std.specs.List.{AllZip}
 use Rattle.std.specs.Prelude.{MatchOption}
@@ -16,6 +16,10 @@ use Rattle.mv_linker.proofs.Each.{each-mapped}
 use Rattle.mv_linker.proofs.Found.{none_passes, position-find_index}
 use Rattle.mv_linker.proofs.Lemmas.{all_at, element_at, found_at}
 use Rattle.mv_linker.proofs.OwnDefinitions.{function-at, function_named_so}
+
+-- what is made of a module's tables
+abbrev pub outline_by : Module → OutlineView
+outline_by m = outline_kept m.identifiers (map (struct_by m) m.structs) (map names_by m.structs) (map (function_by m) m.functions)
 
 module _ (m : Module) (bounds : InBounds m) where
   -- ---- what is made of each definition

@@ -1,5 +1,5 @@
-use Rattle.mv_linker.proofs.Common.{[], ◌∙◌, ◌≡◌, IsOutline, ap, map, names_by, outline_by, outline_kept, struct_by, subst, sym, IfOk-weaker, InBounds, OutlineView}
-use Rattle.mv_linker.proofs.Kept.OutlineLemmas.{outline-is, outline-none}
+use Rattle.mv_linker.proofs.Common.{[], ◌∙◌, ◌≡◌, IsOutline, ap, map, names_by, outline_kept, struct_by, subst, sym, IfOk-weaker, InBounds, OutlineView}
+use Rattle.mv_linker.proofs.Kept.OutlineLemmas.{outline-is, outline-none, outline_by}
 use Rattle.mv_linker.proofs.outline.Outline.of.Goals as goal
 
 pub returns : goal.returns
