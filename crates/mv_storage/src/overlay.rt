@@ -1,9 +1,9 @@
 // What a run sees of the storage, and what it does to it.
-ghost use Rattle.std.specs.Prelude.{◌≡◌, ◌<◌, ◌≤◌, ◌+◌, ◌^◌, length, take, drop, [], None, is_some, IfOk, IfSome, IsOk, OnOk, OnErr, MatchOption, option_copied, option_and_then, option_map};
+ghost use Rattle.std.specs.Prelude.{◌≡◌, ◌≤◌, ◌+◌, length, take, drop, None, is_some, IfOk, IfSome, IsOk, OnOk, OnErr, MatchOption, option_copied, option_and_then, option_map};
 ghost use Rattle.mv_move_types.specs.declared.tables.Key.{Key};
 ghost use Rattle.mv_storage.specs.WordLists.{spliced};
 ghost use Rattle.mv_storage.specs.FlatStorage.{words_under, with_words, without_words};
-ghost use Rattle.mv_storage.specs.Map.{overwritten, Ascends};
+ghost use Rattle.mv_storage.specs.Map.{overwritten};
 
 use crate::slot::Layer;
 use crate::{Storage, Value};

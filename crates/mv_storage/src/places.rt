@@ -171,7 +171,11 @@ pub(crate) fn recalled(last: &Option<(Key, usize)>, key: &Key) -> Option<usize>
 // Gives a key a place if it has none, and tells the one that it had. It fails only where memory runs out, and nothing
 // changes then.
 #[inline]
-fn enter(tree: &mut BTreeMap<Key, usize>, key: Key, place: usize) -> Result<Option<usize>, AllocError>
+fn enter(
+    tree: &mut BTreeMap<Key, usize>,
+    key: Key,
+    place: usize,
+) -> Result<Option<usize>, AllocError>
     ensures ordered { IsOrdered key_cmp tree.new }
     ensures had { IfOk result (λ had. had ≡ get key_cmp tree.old key) }
     ensures has { IfOk result (λ had. (q : Key) → get key_cmp tree.new q ≡ cond (same_key key q) (Some (unwrap_or had place)) (get key_cmp tree.old q)) }

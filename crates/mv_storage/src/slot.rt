@@ -1,6 +1,6 @@
 // What stands under a key: a value that the run at work has left alone, one that it has put, or the committed one and what
 // the run has made of it.
-ghost use Rattle.std.specs.Prelude.{◌≡◌, cond, None, Some, true, false, not, ◌||◌, is_some, option_copied, option_and_then, IfOk, OnOk, OnErr};
+ghost use Rattle.std.specs.Prelude.{◌≡◌, None, Some, true, false, not, is_some, option_copied, option_and_then, IfOk, OnOk, OnErr};
 ghost use Rattle.mv_storage.specs.Slots.{version, of_layer, is_change, is_vacant, edited};
 ghost use Rattle.mv_storage.specs.WordLists.{spliced};
 ghost use Rattle.mv_storage.specs.declared.slot.Layer.{Layer};

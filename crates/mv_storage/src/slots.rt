@@ -1,6 +1,6 @@
 // What a run does to the slots of keys, and the keys of those that it has changed, each with its place. The key that was
 // looked up last is remembered with its place, so that no search is needed as long as it is the same key.
-ghost use Rattle.std.specs.Prelude.{◌≡◌, ℕ, None, Some, IfOk, OnOk, OnErr, false, true, cond, not, is_some, option_and_then};
+ghost use Rattle.std.specs.Prelude.{◌≡◌, ℕ, None, Some, IfOk, OnOk, OnErr, false, true, is_some, option_and_then};
 ghost use Rattle.std.specs.List.{list_any};
 ghost use Rattle.std.specs.BTreeMap.{BTreeMap, get};
 ghost use Rattle.mv_move_types.specs.declared.tables.Key.{Key};
@@ -17,7 +17,12 @@ use std::alloc::{AllocError, Global};
 
 // Makes sure that the key of a slot that is about to be changed is among the keys touched.
 #[inline(always)]
-fn note(slot: &Slot, touched: &mut Vec<(Key, usize)>, key: &Key, place: usize) -> Result<(), AllocError>
+fn note(
+    slot: &Slot,
+    touched: &mut Vec<(Key, usize)>,
+    key: &Key,
+    place: usize,
+) -> Result<(), AllocError>
     ensures noted { OnOk result (is_change slot.now ≡ false → list_any (λ t. same_key key.now t.0) touched.new.items ≡ true) }
     ensures kept { (q : Key) → list_any (λ t. same_key q t.0) touched.old.items ≡ true → list_any (λ t. same_key q t.0) touched.new.items ≡ true }
     ensures placed { (tree : BTreeMap Key ℕ) → get key_cmp tree key.now ≡ Some place → ArePlaced tree touched.old.items → ArePlaced tree touched.new.items }
