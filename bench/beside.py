@@ -5,16 +5,17 @@ byte for byte, or it ends.
 usage: python3 bench/beside.py FOLDER [PROGRAM]    FOLDER is kept; it has the plain implementation as `plain`, or a rustc makes
 it there. Machine instructions are counted where there is a valgrind."""
 
-import re
-import shutil
 import subprocess
 import sys
 import time
 from pathlib import Path
+from typing import Any, Callable, Dict, Iterator, List, Optional, Tuple, Union
 
 import inputs
+import process
 from files import PROGRAM
 from inputs import ASSET, Module, publish, record, run, u64
+from process import difference
 
 HERE = Path(__file__).resolve().parent
 # The plain implementation, in the folder.
@@ -27,12 +28,12 @@ EMPTY, MINTS, WRITES, OWNER = 2_000, 100_000, 500, 7
 SHOW, SHOW_JSON, AUDIT = record(3, b""), record(3, b"\x01"), record(4, b"")
 
 
-def straight(code):
+def straight(code: str) -> str:
     """Code without a branch, as often as a function of 4,096 instructions has it, and Ret."""
     return code * (4_000 // code.count(";")) + "Ret"
 
 
-def coin():
+def coin() -> Tuple[bytes, bytes]:
     """The module that is run, and its certificate: what is known where its functions begin."""
     m = Module()
     m.struct("Coin", ASSET, "v: u64")
@@ -43,19 +44,23 @@ def coin():
     return m.bytes(), bytes([1, 1, 1, 0, 1, 1, 0, 1, 1, 0, 0])
 
 
-def streams():
+# What makes the records of an input, for n.
+Made = Callable[[int], List[bytes]]
+
+
+def streams() -> Iterator[Tuple[str, Made]]:
     """What is measured: what the records for n = 2 are, and the records for n."""
     published = record(1, publish(coin()))
     at = inputs.model.Value(inputs.model.ADDRESS, inputs.address(OWNER))
 
-    def empty(n):
+    def empty(n: int) -> List[bytes]:
         return [record(1, publish((Module(f"E{k}").bytes(), NO_STATE))) for k in range(EMPTY * n)]
 
-    def mints(n, *after):
+    def mints(n: int, *after: bytes) -> List[bytes]:
         senders = ((k * 0x9E3779B97F4A7C15 % 2**64) << 64 for k in range(MINTS * n))
         return [published, *(record(2, run("mint", 100, u64(7), sender=sender)) for sender in senders), *after]
 
-    def writes(n, name):
+    def writes(n: int, name: str) -> List[bytes]:
         first = record(2, run("mint", 100, u64(7), sender=OWNER))
         return [published, first, *[record(2, run(name, 10_000_000, at))] * (WRITES * n), SHOW, AUDIT]
 
@@ -70,34 +75,31 @@ def streams():
 class Side:
     """One of the two programs, which is run over streams in a folder."""
 
-    def __init__(self, folder, *words):
+    def __init__(self, folder: Path, *words: Union[str, Path]):
         self.folder, self.words = folder, words
 
-    def run(self, *before, stream, **how):
-        return subprocess.run([*before, *self.words, stream], check=True, cwd=self.folder, **how)
+    def run(self, stream: str, **how: Any) -> "subprocess.CompletedProcess[bytes]":
+        return subprocess.run([*self.words, stream], check=True, cwd=self.folder, **how)
 
-    def report(self, stream):
-        return self.run(stream=stream, capture_output=True).stdout
+    def report(self, stream: str) -> bytes:
+        printed: bytes = self.run(stream, stdout=subprocess.PIPE).stdout
+        return printed
 
-    def seconds(self, stream):
+    def seconds(self, stream: str) -> float:
         """The least seconds by the clock."""
         tries = []
         for _ in range(TRIES):
             start = time.monotonic()
-            self.run(stream=stream, stdout=subprocess.DEVNULL)
+            self.run(stream, stdout=subprocess.DEVNULL)
             tries.append(time.monotonic() - start)
         return min(tries)
 
-    def instructions(self, stream):
+    def instructions(self, stream: str) -> Optional[int]:
         """The machine instructions, or None where there is no valgrind."""
-        if not shutil.which("valgrind"):
-            return None
-        out = self.folder / "callgrind.out"
-        self.run("valgrind", "--tool=callgrind", f"--callgrind-out-file={out}", stream=stream, capture_output=True)
-        return int(re.search(r"^(?:summary|totals): (\d+)", out.read_text(), re.MULTILINE).group(1))
+        return process.instructions([*self.words, stream], self.folder)
 
 
-def sides(program, folder):
+def sides(program: Path, folder: Path) -> Tuple[Side, Side]:
     """The program and the plain implementation, which is made where there is none."""
     plain = folder / PLAIN
     if not plain.exists():
@@ -105,38 +107,37 @@ def sides(program, folder):
     return Side(folder, Path(program).resolve(), "apply"), Side(folder, plain)
 
 
-def compare(what, made, both, empty):
+def compare(what: str, made: Made, both: Tuple[Side, Side]) -> None:
     """Prints what an input costs on both sides, and how the program grows."""
-    spent, counts = {}, {}
+    spent: Dict[int, List[float]] = {}
+    counts: Dict[int, List[Optional[int]]] = {}
     for n in 1, 2:
         stream = f"beside{n}.stream"
         (both[0].folder / stream).write_bytes(b"".join(made(n)))
         reports = [side.report(stream) for side in both]
         assert reports[0] == reports[1], f"{what}: the reports differ"
         spent[n] = [side.seconds(stream) for side in both]
-        if empty is not None:
-            counts[n] = [side.instructions(stream) - less for side, less in zip(both, empty)]
+        counts[n] = [difference(side.instructions(stream), side.instructions("nothing.stream")) for side in both]
     ours, plain = spent[2]
     line = f"{ours:.3f} s by the clock, plain {plain:.3f} s"
-    if counts:
-        ours, plain = counts[2]
-        line += (f"; {ours:,} machine instructions, plain {plain:,}, {ours / plain:.2f} times as many (aim: {AIM}); "
-                 f"{ours / counts[1][0]:.2f} times those of half as much (aim: {GROWTH_AIM})")
+    counted, of_plain, of_half = counts[2][0], counts[2][1], counts[1][0]
+    if counted is not None and of_plain is not None and of_half is not None:
+        line += (f"; {counted:,} machine instructions, plain {of_plain:,}, {counted / of_plain:.2f} times as many (aim: {AIM}); "
+                 f"{counted / of_half:.2f} times those of half as much (aim: {GROWTH_AIM})")
     else:
         line += f"; {ours / spent[1][0]:.2f} times as long as half as much (aim: {GROWTH_AIM})"
     print(f"beside: {what}: {line}", flush=True)
 
 
-def tell(folder, program=HERE.parent / PROGRAM):
+def tell(folder: Path, program: Path = HERE.parent / PROGRAM) -> None:
     """Prints a line for each input."""
     folder = Path(folder).resolve()
     folder.mkdir(parents=True, exist_ok=True)
     both = sides(program, folder)
     (folder / "nothing.stream").write_bytes(b"")
-    empty = [side.instructions("nothing.stream") for side in both]
     for what, made in streams():
-        compare(what, made, both, None if None in empty else empty)
+        compare(what, made, both)
 
 
 if __name__ == "__main__":
-    tell(*sys.argv[1:])
+    tell(*map(Path, sys.argv[1:]))

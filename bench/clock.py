@@ -1,14 +1,15 @@
 """What is measured, each as a number: times in seconds, memory in bytes, machine instructions. A time is the least of several
 tries, since whatever else the machine does only makes a try slower; the tries of all measurements take turns."""
 
-import os
-import re
-import shutil
 import subprocess
 import time
+from functools import partial
 from pathlib import Path
+from typing import Any, Callable, Dict, Iterable, List, Optional, Tuple
 
+import process
 from files import AT_ADDRESS, BLOCKS, FUNCTIONS, PROGRAM, ROUNDS_OF_A_LOOP, UPGRADED_AMONG, WORK
+from process import Word, number_in
 
 STEPS = 10_000_000
 # What the number of a sender is multiplied by: so that addresses ascend, or come in no order.
@@ -21,112 +22,120 @@ STREAMS = (
 )
 
 
+# A measurement: its kind, and of what. The least of each is seconds, or of phases the seconds of each.
+Key = Tuple[str, str]
+Best = Dict[Key, Any]
+
+
 class Clock:
     """Runs the programs of a folder."""
 
-    def __init__(self, folder):
+    def __init__(self, folder: Path):
         self.folder = folder
         self.program = folder / PROGRAM
         self.bench = folder / "crates/mv_bench/out/mv_bench"
         self.baseline = folder / "baseline"
 
-    def lines(self, *words):
+    def lines(self, *words: Word) -> List[Tuple[int, ...]]:
         """The lines that a program prints, each as its numbers."""
         out = subprocess.run(words, check=True, capture_output=True, text=True, cwd=self.folder).stdout
         return [tuple(map(int, line.split())) for line in out.splitlines()]
 
-    def phases(self, name, times):
+    def phases(self, name: str, times: int) -> Dict[str, float]:
         """The least seconds of each phase of a module."""
         tries = self.lines(self.bench, "phases", f"{name}.module", f"{name}.certificate", str(times))
         return {phase: min(one[i] for one in tries) / 1e9 for i, phase in enumerate(PHASES)}
 
-    def prove(self, name, times):
+    def prove(self, name: str, times: int) -> float:
         return min(self.lines(self.bench, "prove", f"{name}.module", str(times)))[0] / 1e9
 
-    def runs(self, bundle, first, run, times, every, stride=SCATTERED):
+    def runs(self, bundle: str, first: str, run: str, times: int, every: int, stride: int = SCATTERED) -> List[Tuple[float, int]]:
         """The seconds of each so many runs, one after the other, and their steps."""
         words = f"{bundle}.bundle", f"{first}.run", f"{run}.run", str(times), str(every), str(stride)
         return [(spent / 1e9, steps) for spent, steps in self.lines(self.bench, "run", *words)]
 
-    def work(self, name):
+    def work(self, name: str) -> float:
         """The least seconds of one run of many steps."""
         tries = self.runs("working", "owner" if name in AT_ADDRESS else "no_step", name, 2, 1)
         assert all(steps == STEPS for _, steps in tries), name
-        return min(tries)[0]
+        seconds, _ = min(tries)
+        return seconds
 
-    def plain(self, name):
+    def plain(self, name: str) -> float:
         """The same of the plain interpreter."""
         return self.lines(self.baseline, name, str(STEPS))[0][0] / 1e9
 
-    def apply(self, stream):
+    def apply(self, stream: str) -> float:
         """The seconds of the processor that the program takes for a stream. The report goes to a file."""
         report = self.folder / "report.txt"
         with open(report, "wb") as out:
-            process = subprocess.Popen([self.program, "apply", f"{stream}.stream"], stdout=out, cwd=self.folder)
-            _, status, used = os.wait4(process.pid, 0)
-        process.returncode = os.waitstatus_to_exitcode(status)
-        assert process.returncode == 0, stream
+            used = process.used([self.program, "apply", f"{stream}.stream"], self.folder, out)
         count, word = (self.folder / f"{stream}.lines").read_text().split()
         last = report.read_text().splitlines()[-1:]
         assert count == "0" or last[0].startswith(f"{count} {word} "), (stream, last)
-        return used.ru_utime + used.ru_stime
+        return process.seconds_of(used)
 
-    def memory(self, pieces):
+    def memory(self, pieces: Iterable[bytes]) -> int:
         """The most memory that the program had once it has answered a stream, whose end it waits for."""
         with open(self.folder / "report.txt", "wb") as out:
-            process = subprocess.Popen([self.program, "apply", "/dev/stdin"], stdin=subprocess.PIPE, stdout=out, cwd=self.folder)
+            run = subprocess.Popen([self.program, "apply", "/dev/stdin"], stdin=subprocess.PIPE, stdout=out, cwd=self.folder)
+            assert run.stdin is not None
             for piece in pieces:
-                process.stdin.write(piece)
-            process.stdin.flush()
-            status = Path(f"/proc/{process.pid}/status")
+                run.stdin.write(piece)
+            run.stdin.flush()
+            status = Path(f"/proc/{run.pid}/status")
             while "State:\tS" not in status.read_text():
                 time.sleep(0.01)
-            most = int(re.search(r"VmHWM:\s+(\d+) kB", status.read_text()).group(1))
-            process.communicate()
-        assert process.returncode == 0
+            most = number_in(status.read_text(), r"VmHWM:\s+(\d+) kB")
+            run.communicate()
+        assert run.returncode == 0
         return most * 1024
 
-    def instructions(self, *words):
+    def instructions(self, *words: Word) -> Optional[int]:
         """The machine instructions of the program, or None where there is no valgrind."""
-        if not shutil.which("valgrind"):
-            return None
-        out = self.folder / "callgrind.out"
-        command = ["valgrind", "--tool=callgrind", f"--callgrind-out-file={out}", self.program, *words]
-        subprocess.run(command, check=True, capture_output=True, cwd=self.folder)
-        return int(re.search(r"^(?:summary|totals): (\d+)", out.read_text(), re.MULTILINE).group(1))
+        return process.instructions([self.program, *words], self.folder)
 
-    def tasks(self):
+    def mean(self, bundle: str, run: str, times: int, every: int) -> float:
+        """The least of so many means of the seconds of so many runs."""
+        seconds, _ = min(self.runs(bundle, run if bundle.endswith("60") else "no_step", run, times, every))
+        return seconds / every
+
+    def least(self, stream: str, tries: int) -> float:
+        """The least seconds of so many tries of a stream."""
+        return min(self.apply(stream) for _ in range(tries))
+
+    def tasks(self) -> Dict[Key, Callable[[], Any]]:
         """Each measurement of time, and how it is taken once."""
-        tasks = {}
+        tasks: Dict[Key, Callable[[], Any]] = {}
 
-        def add(key, take):
+        def add(key: Key, take: Callable[[], Any]) -> None:
             tasks[key] = take
 
         for size, times in ("small", 50), ("large", 5):
             for version in 5, 6:
-                add(("phases", f"{size}{version}"), lambda n=f"{size}{version}", t=times: self.phases(n, t))
+                add(("phases", f"{size}{version}"), partial(self.phases, f"{size}{version}", times))
         for count in FUNCTIONS:
-            add(("phases", f"mixed{count}"), lambda c=count: self.phases(f"mixed{c}", 5))
-            add(("phases", f"edges{count}"), lambda c=count: self.phases(f"edges{c}", 1))
-            add(("prove", f"mixed{count}"), lambda c=count: self.prove(f"mixed{c}", 5))
+            add(("phases", f"mixed{count}"), partial(self.phases, f"mixed{count}", 5))
+            add(("phases", f"edges{count}"), partial(self.phases, f"edges{count}", 1))
+            add(("prove", f"mixed{count}"), partial(self.prove, f"mixed{count}", 5))
         for name in [f"blocks{count}" for count in BLOCKS] + [f"rounds{count}" for count in ROUNDS_OF_A_LOOP]:
-            add(("prove", name), lambda n=name: self.prove(n, 2))
+            add(("prove", name), partial(self.prove, name, 2))
         for name in WORK:
-            add(("work", name), lambda n=name: self.work(n))
+            add(("work", name), partial(self.work, name))
             if name not in AT_ADDRESS and self.baseline.exists():
-                add(("plain", name), lambda n=name: self.plain(n))
-        add(("idle", "small"), lambda: min(self.runs("working", "no_step", "no_step", 3, 5_000))[0] / 5_000)
-        add(("idle", "large"), lambda: min(self.runs("working60", "no_step60", "no_step60", 3, 5_000))[0] / 5_000)
+                add(("plain", name), partial(self.plain, name))
+        add(("idle", "small"), partial(self.mean, "working", "no_step", 3, 5_000))
+        add(("idle", "large"), partial(self.mean, "working60", "no_step60", 3, 5_000))
         for name in "mint", "unpack":
-            add(("first", name), lambda n=name: min(self.runs("working", "no_step", n, 5, 2_000))[0] / 2_000)
+            add(("first", name), partial(self.mean, "working", name, 5, 2_000))
         for stream in STREAMS:
             tries = 4 if stream.startswith(("chain", "empty", "upgraded")) else 2
-            add(("apply", stream), lambda s=stream, n=tries: min(self.apply(s) for _ in range(n)))
+            add(("apply", stream), partial(self.least, stream, tries))
         return tasks
 
-    def best(self, rounds):
+    def best(self, rounds: int) -> Best:
         """The least of each measurement over so many rounds."""
-        best = {}
+        best: Best = {}
         for _ in range(rounds):
             for key, take in self.tasks().items():
                 now = take()
@@ -136,12 +145,12 @@ class Clock:
                     best[key] = now if key not in best else min(best[key], now)
         return best
 
-    def mint_behind(self, values, stride):
+    def mint_behind(self, values: int, stride: int) -> float:
         """The least seconds of a mint behind so many: of the means of 10,000."""
         before = values // 10_000
         return min(self.runs("working", "no_step", "mint", before + 5, 10_000, stride)[before:])[0] / 10_000
 
-    def plain_insertion(self, values, stride):
+    def plain_insertion(self, values: int, stride: int) -> Optional[float]:
         """The same of an insertion into a plain tree of Rust's library, or None where there is no rustc."""
         if not self.baseline.exists():
             return None

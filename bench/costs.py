@@ -6,14 +6,16 @@ process held, both less what the program takes for the records before.
 usage: python3 bench/costs.py PROGRAM FOLDER    FOLDER is kept; machine instructions are counted where there is a valgrind"""
 
 import os
-import re
-import shutil
+import resource
 import subprocess
 import sys
 from pathlib import Path
+from typing import Dict, Iterator, List, Optional, Sequence, Tuple
 
 import inputs
-from inputs import ASSET, Module, publish, record, run, u64
+import process
+from inputs import ASSET, Module, Offered, publish, record, run, u64
+from process import difference
 
 TRIES = 3
 UPGRADES = 300
@@ -28,62 +30,63 @@ SHOWS, SHOWN = 20, 1_000
 STATED = b"\x01\x01\x01\x80\x08" + b"".join(bytes([1, 1, 0, 0, 2, a, b, 0]) for a in range(32) for b in range(32))
 
 
+# Records as they stand in a stream. And what is stated of a local and a reference: the local, the reference, the list of fields, and
+# whether it is open.
+Records = Sequence[bytes]
+Edge = Tuple[int, int, Sequence[int], int]
+
+
 class Program:
     """Runs the program over streams in a folder."""
 
-    def __init__(self, program, folder):
+    def __init__(self, program: Path, folder: Path):
         self.path, self.folder = Path(program).resolve(), Path(folder)
 
-    def report(self, records, name="costs"):
+    def report(self, records: Records, name: str = "costs") -> bytes:
         (self.folder / f"{name}.stream").write_bytes(b"".join(records))
         out = subprocess.run([self.path, "apply", f"{name}.stream"], check=True, capture_output=True, cwd=self.folder).stdout
         return out
 
-    def used(self, records, name="costs"):
+    def used(self, records: Records, name: str = "costs") -> Iterator[resource.struct_rusage]:
         """What the system counted of the program for records, once for each try."""
         (self.folder / f"{name}.stream").write_bytes(b"".join(records))
         for _ in range(TRIES):
-            process = subprocess.Popen([self.path, "apply", f"{name}.stream"], cwd=self.folder, stdout=subprocess.DEVNULL)
-            _, status, used = os.wait4(process.pid, 0)
-            process.returncode = os.waitstatus_to_exitcode(status)
-            assert process.returncode == 0, name
-            yield used
+            yield process.used([self.path, "apply", f"{name}.stream"], self.folder)
 
-    def spent(self, records, name="costs"):
+    def spent(self, records: Records, name: str = "costs") -> float:
         """The least seconds of the processor that the program takes for records."""
-        return min(used.ru_utime + used.ru_stime for used in self.used(records, name))
+        return min(map(process.seconds_of, self.used(records, name)))
 
-    def cost(self, records, name="costs"):
+    def cost(self, records: Records, name: str = "costs") -> Tuple[float, int]:
         """The least seconds of the processor, and the least KB of memory, that the program takes for records."""
         tries = list(self.used(records, name))
-        return min(used.ru_utime + used.ru_stime for used in tries), min(used.ru_maxrss for used in tries)
+        return min(map(process.seconds_of, tries)), min(used.ru_maxrss for used in tries)
 
-    def instructions(self, records, name="costs"):
+    def instructions(self, records: Records, name: str = "costs") -> Optional[int]:
         """The machine instructions of the program for records, or None where there is no valgrind."""
-        if not shutil.which("valgrind"):
-            return None
         (self.folder / f"{name}.stream").write_bytes(b"".join(records))
-        out = self.folder / "callgrind.out"
-        words = ["valgrind", "--tool=callgrind", f"--callgrind-out-file={out}", self.path, "apply", f"{name}.stream"]
-        subprocess.run(words, check=True, capture_output=True, cwd=self.folder)
-        return int(re.search(r"^(?:summary|totals): (\d+)", out.read_text(), re.MULTILINE).group(1))
+        return process.instructions([self.path, "apply", f"{name}.stream"], self.folder)
 
-    def certificate(self, text):
+    def more_instructions(self, before: Records, offered: Records) -> Optional[int]:
+        """The machine instructions for records behind others, or None where there is no valgrind."""
+        return difference(self.instructions([*before, *offered]), self.instructions(before))
+
+    def certificate(self, text: bytes) -> bytes:
         (self.folder / "costs.module").write_bytes(text)
         out = subprocess.run([self.path, "prove", "costs.module"], check=True, capture_output=True, text=True, cwd=self.folder).stdout
         return bytes.fromhex(out.strip())
 
-    def published(self, *modules):
+    def published(self, *modules: bytes) -> bytes:
         """The record that publishes modules in one bundle, and what it is answered."""
         return record(1, publish(*((text, self.certificate(text)) for text in modules)))
 
 
-def small(own, version=5):
+def small(own: str, version: int = 5) -> bytes:
     """A module of some 500 bytes that names no other."""
     return inputs.link_of_a_chain(0, 1).renamed(own)
 
 
-def naming(own):
+def naming(own: str) -> bytes:
     """A module that calls a function of the one called U."""
     m = Module(own)
     m.foreign_function("U", "value", "u64", "u64")
@@ -91,7 +94,7 @@ def naming(own):
     return m.bytes()
 
 
-def upgraded():
+def upgraded() -> bytes:
     """The module U that is upgraded."""
     m = Module("U")
     m.struct("Coin", ASSET, "v: u64; w: u64")
@@ -100,30 +103,31 @@ def upgraded():
     return m.bytes()
 
 
-def tell_upgrades(program):
+def tell_upgrades(program: Program) -> None:
     """Upgrades of one module among few and many, and among small and large ones."""
     upgrade = program.published(upgraded())
     others = [record(1, publish((small(f"S{n}"), program.certificate(small("S0"))))) for n in range(MANY)]
-    times, counts = {}, {}
+    times: Dict[int, float] = {}
+    counts: Dict[int, Optional[int]] = {}
     for count in FEW, MANY:
         before = others[:count] + [upgrade]
         times[count] = program.spent(before + [upgrade] * UPGRADES) - program.spent(before)
-        first, last = program.instructions(before), program.instructions(before + [upgrade] * 10)
-        counts[count] = (last - first) / 10 if first is not None else None
-        counted = f", {counts[count]:.0f} machine instructions" if first is not None else ""
+        more = counts[count] = program.more_instructions(before, [upgrade] * 10)
+        counted = f", {more / 10:.0f} machine instructions" if more is not None else ""
         print(f"costs: an upgrade of a module that nothing names among {count} others: {times[count] / UPGRADES * 1e6:.0f} us{counted}", flush=True)
-    told = f", and {counts[MANY] / counts[FEW]:.2f} times the machine instructions" if counts[FEW] else ""
+    few, many = counts[FEW], counts[MANY]
+    told = f", and {many / few:.2f} times the machine instructions" if few and many else ""
     print(f"costs: among {MANY} it takes {times[MANY] / times[FEW]:.2f} times as long as among {FEW}{told} (aim: 1.1 or less)", flush=True)
     large = inputs.all_families(inputs.LARGE, 5)
     helping = program.published(inputs.helping().bytes())
     certificate = program.certificate(large.bytes())
-    counts = []
+    found: List[float] = []
     for before in (others[:30] + [upgrade], [helping, *(record(1, publish((large.renamed(f"L{n}"), certificate))) for n in range(30)), upgrade]):
-        first, second = program.instructions(before), program.instructions(before + [upgrade] * 10)
-        if first is not None:
-            counts.append((second - first) / 10)
-    if counts:
-        print(f"costs: an upgrade among 30 modules of 500 bytes {counts[0]:.0f} machine instructions, of 60 KB {counts[1]:.0f} "
+        more = program.more_instructions(before, [upgrade] * 10)
+        if more is not None:
+            found.append(more / 10)
+    if found:
+        print(f"costs: an upgrade among 30 modules of 500 bytes {found[0]:.0f} machine instructions, of 60 KB {found[1]:.0f} "
               f"(aim: as many)", flush=True)
     users = [record(1, publish((naming(f"N{n}"), program.certificate(naming("N0"))))) for n in range(FEW * 2)]
     times = {}
@@ -134,7 +138,7 @@ def tell_upgrades(program):
           f"{times[FEW * 2] / times[FEW]:.2f} times as long (aim: 2.2 or less)", flush=True)
 
 
-def naming_large(units=inputs.LARGE):
+def naming_large(units: int = inputs.LARGE) -> Module:
     """A module of 60 KB that also calls a function of the one called U."""
     m = inputs.all_families(units, 5)
     m.foreign_function("U", "value", "u64", "u64")
@@ -142,7 +146,7 @@ def naming_large(units=inputs.LARGE):
     return m
 
 
-def tell_dependants(program):
+def tell_dependants(program: Program) -> None:
     """Upgrades of a module that none, many small and many large modules name."""
     upgrade = program.published(upgraded())
     helping = program.published(inputs.helping().bytes())
@@ -164,7 +168,7 @@ def tell_dependants(program):
               f"(aim: 0.1 ms more, or 1.1 times, and 100 KB)", flush=True)
 
 
-def naming_each(own, others, structs=False):
+def naming_each(own: str, others: Sequence[str], structs: bool = False) -> bytes:
     """A module that names one function of each of others, or one struct."""
     m = Module(own)
     for other in others:
@@ -175,7 +179,7 @@ def naming_each(own, others, structs=False):
     return m.bytes()
 
 
-def tell_naming(program):
+def tell_naming(program: Program) -> None:
     """A module that names one entry of each of many small and of many large modules."""
     helping = program.published(inputs.helping().bytes())
     names = [f"L{n}" for n in range(LARGE_ONES)]
@@ -192,7 +196,7 @@ def tell_naming(program):
     print(f"costs: of 60 KB it takes {costs[1] / costs[0]:.2f} times as long as of 500 bytes (aim: 1.5 or less)", flush=True)
 
 
-def at_address(address, own="M", others=()):
+def at_address(address: int, own: str = "M", others: Sequence[int] = ()) -> bytes:
     """A module at an address, which has handles of modules called M at others."""
     tables = Module(own).tables()
     tables.addresses = [inputs.address(address), *map(inputs.address, others)]
@@ -201,17 +205,20 @@ def at_address(address, own="M", others=()):
     return inputs.writer.write_module(tables)
 
 
-def offered_at(address, *texts):
+def offered_at(address: int, *texts: bytes) -> bytes:
     """The record that publishes modules without code from an address."""
     offers = [inputs.model.Offer(text, b"") for text in texts]
     return record(*inputs.writer.write_payload(inputs.model.Publish(inputs.address(address), offers)))
 
 
-def tell_colliding(program):
+def tell_colliding(program: Program) -> None:
     """Modules whose names have one hash in the store, beside modules whose names have not."""
     count, named = 4_000, 2_500
     for what, half in ("collide", COLLIDING), ("don't collide", 12_345):
-        for where, place in ("low", lambda n: (n + 1) << 64 | half), ("high", lambda n: half << 64 | (n + 1)):
+        for where in "low", "high":
+            def place(n: int) -> int:
+                return (n + 1) << 64 | half if where == "low" else half << 64 | (n + 1)
+
             before = [offered_at(place(n), at_address(place(n))) for n in range(count)]
             spent = program.spent(before)
             naming = offered_at(1, at_address(1, "F", [place(n) for n in range(named)]))
@@ -222,7 +229,7 @@ def tell_colliding(program):
                   f"a module of {len(naming)} bytes that names {named} of them: {more * 1e3:.2f} ms", flush=True)
 
 
-def large_with_coins():
+def large_with_coins() -> bytes:
     """A module of 42 KB with a coin whose value holds a struct."""
     m = Module("M")
     m.struct("Amount", "has store", "v: u64; w: u64")
@@ -234,7 +241,7 @@ def large_with_coins():
     return m.bytes()
 
 
-def tell_shows(program):
+def tell_shows(program: Program) -> None:
     """Shows of values of a small module and of a large one, as text and as JSON."""
     coin = inputs.working().bytes()
     large = large_with_coins()
@@ -245,20 +252,20 @@ def tell_shows(program):
             show = record(3, payload)
             size = len(program.report(before + [show])) - len(program.report(before))
             spent = program.spent(before + [show] * SHOWS) - program.spent(before)
-            first, second = program.instructions(before), program.instructions(before + [show])
-            counted = f", {(second - first) / size:.1f} machine instructions for each byte" if first is not None else ""
+            more = program.more_instructions(before, [show])
+            counted = f", {more / size:.1f} machine instructions for each byte" if more is not None else ""
             aim = " (aim: 30 or less)" if form == "text" else ""
             print(f"costs: {SHOWN} values of {what} as {form}: {spent / SHOWS * 1e3:.2f} ms{counted}{aim}", flush=True)
 
 
-def many_constants(count, own):
+def many_constants(count: int, own: str) -> bytes:
     """A module with so many different constants, which nothing loads."""
     m = Module(own, 6)
     m.items.append("tables { constants { " + "; ".join(f"{n}u16" for n in range(count)) + " } }")
     return m.bytes()
 
 
-def many_foreign(count, own, home="H"):
+def many_foreign(count: int, own: str, home: str = "H") -> bytes:
     """A module that names so many structs of another one, in the order that is the last one's first."""
     m = Module(own)
     for n in reversed(range(count)):
@@ -266,7 +273,7 @@ def many_foreign(count, own, home="H"):
     return m.bytes()
 
 
-def many_own(count, own="H"):
+def many_own(count: int, own: str = "H") -> bytes:
     """The module that has them."""
     m = Module(own)
     for n in range(count):
@@ -274,7 +281,7 @@ def many_own(count, own="H"):
     return m.bytes()
 
 
-def state(holding, edges):
+def state(holding: Sequence[int], edges: Sequence[Edge]) -> bytes:
     """What is stated of a block: which locals hold a value, and edges: from a local's value to a reference, at a list that may be
     open."""
     count = bytes([len(edges)]) if len(edges) < 128 else bytes([len(edges) & 127 | 128, len(edges) >> 7])
@@ -286,24 +293,24 @@ ON = "MoveLoc 0; Pop; Branch next; next: MoveLoc {0}; Pop; Ret"
 PAIRS = [(a, b) for a in range(32) for b in range(32)]
 
 
-def stated(code, parameters="&u64; u64"):
+def stated(code: str, parameters: str = "&u64; u64") -> Offered:
     """A module with a function of one block, stated with 1,024 edges into its first parameter; and its certificate."""
     m = Module()
     m.function("f", parameters, "", "", code + "MoveLoc 0; Pop; Ret", entry=False)
     return m.bytes(), STATED
 
 
-def copying(times, below):
+def copying(times: int, below: int) -> Offered:
     """The first parameter is copied and released so often, above so many copies."""
     return stated("CopyLoc 0;" * below + "CopyLoc 0; Pop;" * times + "Pop;" * below)
 
 
-def moving(times, below):
+def moving(times: int, below: int) -> Offered:
     """It is moved to the stack and back so often, above so many copies."""
     return stated("CopyLoc 0;" * below + "MoveLoc 0; StLoc 0;" * times + "Pop;" * below)
 
 
-def calling(times, references):
+def calling(times: int, references: int) -> Offered:
     """So many copies of it are handed to a function that returns as many, again and again."""
     m = Module()
     kinds = "; ".join(["&u64"] * references)
@@ -312,7 +319,7 @@ def calling(times, references):
     return m.bytes(), b"\x01" * (1 + references) + b"\x00" + STATED
 
 
-def calling_on(times, references):
+def calling_on(times: int, references: int) -> Offered:
     """The same, and what the last call returns is stated in a block ahead, with as many open labels as can be."""
     m = Module()
     kinds = "; ".join(["&u64"] * references)
@@ -323,7 +330,7 @@ def calling_on(times, references):
     return m.bytes(), b"\x01" * (1 + references) + b"\x00" + here + state([0, 1, 1], [(1, 2, pair, 1) for pair in PAIRS])
 
 
-def gathered(times, parameters, locals_, last):
+def gathered(times: int, parameters: str, locals_: str, last: str) -> Offered:
     """A module with a function in which so many fields at different paths of what its first parameter refers to are borrowed, and a
     function returns one reference for all of them; and the certificates of the others."""
     m = Module()
@@ -336,20 +343,20 @@ def gathered(times, parameters, locals_, last):
     return m.bytes(), b"\x01\x01\x00" + b"\x01\x01\x01\x00"
 
 
-def gathering(times):
+def gathering(times: int) -> Offered:
     """The reference is released where the function ends."""
     text, others = gathered(times, "&S; u64", "", "Pop; MoveLoc 0; Pop; Ret")
     return text, others + STATED
 
 
-def gathering_on(times):
+def gathering_on(times: int) -> Offered:
     """The reference is stated in a block ahead, with as many open labels as can be."""
     text, others = gathered(times, "&S; u64", "&u64", "StLoc 2;" + ON.format(2))
     here = state([1, 1, 0], [(1, 0, pair, 0) for pair in PAIRS])
     return text, others + here + state([0, 1, 1], [(1, 2, pair, 1) for pair in PAIRS])
 
 
-def gathering_from(times):
+def gathering_from(times: int) -> Offered:
     """The reference leads into 61 locals, and what is stated ahead of one of them tells all paths apart."""
     parameters, others, last = 15, 46, 62
     text, certificates = gathered(times, "&S" + "; u64" * parameters, "u64; " * others + "&u64", f"StLoc {last};" + ON.format(last))
@@ -360,28 +367,28 @@ def gathering_from(times):
     return text, certificates + here + state([0, *holding, 1], ahead)
 
 
-def gathered_and_used(times, use):
+def gathered_and_used(times: int, use: str) -> Offered:
     """So many fields are gathered in one reference, which a local holds while this is done."""
     text, others = gathered(times, "&S; u64", "&u64", f"StLoc 2; {use} MoveLoc 2; Pop; MoveLoc 0; Pop; Ret")
     return text, others + state([1, 1, 0], [(1, 0, pair, 0) for pair in PAIRS])
 
 
-def gathered_and_moved(times, below, moves):
+def gathered_and_moved(times: int, below: int, moves: int) -> Offered:
     """The reference is copied so often, and then moved to the stack and back."""
     return gathered_and_used(times, "CopyLoc 2;" * below + "MoveLoc 2; StLoc 2;" * moves + "Pop;" * below)
 
 
-def gathered_and_called(times, calls):
+def gathered_and_called(times: int, calls: int) -> Offered:
     """Two copies of the reference are handed to a function that returns one reference for both."""
     return gathered_and_used(times, "CopyLoc 2; CopyLoc 2; Call with; Pop;" * calls)
 
 
-def lending(times, below):
+def lending(times: int, below: int) -> Offered:
     """A local's value is borrowed so often, above so many copies of a reference with 1,024 edges."""
     return stated("CopyLoc 0;" * below + "ImmBorrowLoc 1; Pop;" * times + "Pop;" * below)
 
 
-def lending_mutably(times, below, each):
+def lending_mutably(times: int, below: int, each: bool) -> Offered:
     """A local's value is borrowed mutably, and copies of the reference are released above so many copies of another one with 1,024
     edges: so many times from one reference, or each time from a new one."""
     m = Module()
@@ -393,7 +400,7 @@ def lending_mutably(times, below, each):
     return m.bytes(), state([1, 1, 1, 0], [(1, 0, pair, 0) for pair in PAIRS])
 
 
-def lending_below(times, references, calls):
+def lending_below(times: int, references: int, calls: int) -> Offered:
     """A local's value, to which so many references lead by 17 labels each, is borrowed so often below mutable references to another
     one: 8 for one of them at each call."""
     m = Module()
@@ -406,7 +413,7 @@ def lending_below(times, references, calls):
     return m.bytes(), b"\x01\x01\x00" + state([1, 1, *[0] * references], []) + state([1, 1, *[1] * references], ahead)
 
 
-def replacing(times, borrows):
+def replacing(times: int, borrows: int) -> Offered:
     """A mutable reference is copied, and the copy takes its place, so often; then a local from which a reference leads is borrowed so
     often."""
     m = Module()
@@ -416,7 +423,7 @@ def replacing(times, borrows):
     return m.bytes(), state([1, 1, 1, 0, 0, 0], [(1, 0, pair, 0) for pair in PAIRS])
 
 
-def tell_dearest(program):
+def tell_dearest(program: Program) -> None:
     """What records cost that are dear for their size, beside ordinary ones."""
     ordinary = inputs.all_families(inputs.LARGE, 5).bytes()
     helping = program.published(inputs.helping().bytes())
@@ -424,15 +431,14 @@ def tell_dearest(program):
     mean = (program.spent([helping] + [publishing] * 10) - program.spent([helping])) / 10 / len(publishing) * 1e6
     print(f"costs: 1 MB of ordinary modules takes {mean * 1e3:.0f} ms", flush=True)
 
-    def counted(offered, before):
+    def counted(offered: bytes, before: Records) -> float:
         """The machine instructions for each byte of a record, or 0 where there is no valgrind."""
-        first, last = program.instructions(before), program.instructions([*before, offered])
-        return (last - first) / len(offered) if first is not None else 0
+        return (program.more_instructions(before, [offered]) or 0) / len(offered)
 
     usual = counted(publishing, [helping])
     dear = []
 
-    def tell_one(what, offered, before=()):
+    def tell_one(what: str, offered: bytes, before: Records = ()) -> None:
         answer = program.report([*before, offered]).decode().splitlines()[-1]
         assert " published " in answer, (what, answer)
         spent = program.spent([*before, offered]) - program.spent(before)
@@ -476,17 +482,17 @@ def tell_dearest(program):
               f"(aim: 100 or less)", flush=True)
 
 
-def tell(program, folder):
+def tell(program: Path, folder: Path) -> None:
     """Prints a line for each measurement."""
     os.makedirs(folder, exist_ok=True)
-    program = Program(program, folder)
-    tell_upgrades(program)
-    tell_dependants(program)
-    tell_naming(program)
-    tell_colliding(program)
-    tell_shows(program)
-    tell_dearest(program)
+    measured = Program(program, folder)
+    tell_upgrades(measured)
+    tell_dependants(measured)
+    tell_naming(measured)
+    tell_colliding(measured)
+    tell_shows(measured)
+    tell_dearest(measured)
 
 
 if __name__ == "__main__":
-    tell(*sys.argv[1:])
+    tell(*map(Path, sys.argv[1:]))

@@ -8,10 +8,12 @@ bindings/library puts it if none is given. It needs cc, and counts machine instr
 import argparse
 import subprocess
 from pathlib import Path
+from typing import List, Optional, Tuple
 
 import beside
 from beside import Side
 from files import PROGRAM
+from process import Word, difference
 
 HERE = Path(__file__).resolve().parent
 TOP = HERE.parent
@@ -21,28 +23,28 @@ KEPT = 250_000
 WAYS = {"once": "all in one call", "each": "a call for each"}
 
 
-def compiled(folder, library):
+def compiled(folder: Path, library: Path) -> Path:
     """The measuring program."""
     made = folder / "embedding"
-    words = ["-std=c11", "-O2", "-Wall", "-Wextra", "-I", TOP / "bindings/c", "-o", made, HERE / "embedding.c"]
+    words: List[Word] = ["-std=c11", "-O2", "-Wall", "-Wextra", "-I", TOP / "bindings/c", "-o", made, HERE / "embedding.c"]
     subprocess.run(["cc", *words, library / "libmoveledger.a"], check=True)
     return made
 
 
-def mints(n):
+def mints(n: int) -> List[bytes]:
     """So many records that mint, behind the one that publishes."""
     made = dict(beside.streams())[f"{beside.MINTS * 2:,} mints"]
     return made(1)[:1] + made(-(-n // beside.MINTS))[1 : n + 1]
 
 
-def spent(side, stream):
+def spent(side: Side, stream: str) -> Tuple[Optional[int], float]:
     """The machine instructions, or None, and the seconds, each less what an empty stream takes."""
     counts = [side.instructions(name) for name in (stream, "nothing.stream")]
     times = [side.seconds(name) for name in (stream, "nothing.stream")]
-    return None if None in counts else counts[0] - counts[1], times[0] - times[1]
+    return difference(*counts), times[0] - times[1]
 
 
-def tell_mints(folder, program, measuring):
+def tell_mints(folder: Path, program: Path, measuring: Path) -> None:
     """Prints a line for each way of answering them."""
     count = beside.MINTS * 2
     (folder / "mints.stream").write_bytes(b"".join(mints(count)))
@@ -55,22 +57,22 @@ def tell_mints(folder, program, measuring):
         assert told == [b"%d" % (count + 1), b"%d" % len(report)], f"{way}: {told}, not {count + 1} records and {len(report)} bytes"
         of_library = spent(side, "mints.stream")
         line = f"{of_library[1]:.3f} s by the clock, the program {of_program[1]:.3f} s"
-        if None not in (of_library[0], of_program[0]):
-            line += (f"; {of_library[0]:,} machine instructions, the program {of_program[0]:,}, "
-                     f"{of_library[0] / of_program[0]:.2f} times as many")
+        ours, wanted = of_library[0], of_program[0]
+        if ours is not None and wanted is not None:
+            line += f"; {ours:,} machine instructions, the program {wanted:,}, {ours / wanted:.2f} times as many"
         print(f"embedding: {count:,} mints, {words}: {line} (aim: {AIM})", flush=True)
 
 
-def tell_kept(folder, measuring):
+def tell_kept(folder: Path, measuring: Path) -> None:
     """Prints how long a ledger takes to be saved and loaded."""
     (folder / "kept.stream").write_bytes(b"".join(mints(KEPT)))
-    tries = [list(map(float, Side(folder, measuring, "kept").report("kept.stream").split())) for _ in range(beside.TRIES)]
-    saving, loading, size = map(min, zip(*tries))
+    tries = [[float(word) for word in Side(folder, measuring, "kept").report("kept.stream").split()] for _ in range(beside.TRIES)]
+    saving, loading, size = (min(column) for column in zip(*tries))
     print(f"embedding: {KEPT:,} coins: saved as {size / 1e6:.1f} MB in {saving:.3f} s of the processor, "
           f"loaded in {loading:.3f} s", flush=True)
 
 
-def main():
+def main() -> None:
     words = argparse.ArgumentParser(description=__doc__, formatter_class=argparse.RawDescriptionHelpFormatter)
     words.add_argument("folder", type=Path)
     words.add_argument("library", type=Path, nargs="?", default=BUILT)
@@ -83,4 +85,5 @@ def main():
     tell_kept(folder, measuring)
 
 
-main()
+if __name__ == "__main__":
+    main()

@@ -1,9 +1,15 @@
 """Writes what is measured into a folder: modules, their certificates by `moveledger prove`, payloads and streams."""
 
 import subprocess
+from pathlib import Path
+from typing import Callable, Dict, Iterator, List, Tuple
 
 import inputs
-from inputs import model, publish, record, run, u64
+from inputs import Module, Offered, model, publish, record, run, u64
+
+# Modules and their certificates by name; and a record's kind and payload.
+Bundles = Dict[str, Offered]
+Record = Tuple[int, bytes]
 
 # Where a build leaves the program.
 PROGRAM = "crates/moveledger_program/out/moveledger_program"
@@ -31,7 +37,7 @@ AT_ADDRESS = ("reads", "stores", "holds")
 OWNER = 7
 
 
-def measured_modules():
+def measured_modules() -> Dict[str, Module]:
     """Each module that is measured by itself, by its name."""
     modules = {"helping": inputs.helping(), "working": inputs.working(), "working60": inputs.large_working()}
     for version in 5, 6:
@@ -49,14 +55,14 @@ def measured_modules():
     return modules
 
 
-def certificate(folder, file):
+def certificate(folder: Path, file: str) -> bytes:
     """The certificate that the program makes for a module."""
     program = folder / PROGRAM
     out = subprocess.run([program, "prove", file], check=True, capture_output=True, text=True, cwd=folder).stdout
     return bytes.fromhex(out.strip())
 
 
-def write_modules(folder):
+def write_modules(folder: Path) -> Bundles:
     """The bytes of each module and its certificate, by its name."""
     bundles = {}
     for name, module in measured_modules().items():
@@ -67,7 +73,7 @@ def write_modules(folder):
     return bundles
 
 
-def chained(folder):
+def chained(folder: Path) -> List[bytes]:
     """The payloads that publish modules which name each other in chains."""
     texts = [inputs.link_of_a_chain(n, CHAIN).bytes() for n in range(CHAINED)]
     certificates = []
@@ -77,9 +83,9 @@ def chained(folder):
     return [publish((text, certificates[n % CHAIN != 0])) for n, text in enumerate(texts)]
 
 
-def streams(folder, bundles):
+def streams(folder: Path, bundles: Bundles) -> Dict[str, List[Record]]:
     """Each stream as its records: a kind and a payload."""
-    def published(name):
+    def published(name: str) -> List[Record]:
         return [(1, publish(bundles[name]))]
 
     chain = [(1, payload) for payload in chained(folder)]
@@ -89,7 +95,7 @@ def streams(folder, bundles):
     texts = (renamed.renamed(f"L{n}") for n in range(LARGE_MANY))
     large = [(1, publish((text, certificate_of_large))) for text in texts]
     mints = published("working") + [(2, run("mint", 100, u64(7), sender=1000 + n)) for n in range(10_000)]
-    out = {"nothing": [], "helping": published("helping")}
+    out: Dict[str, List[Record]] = {"nothing": [], "helping": published("helping")}
     for name in ("small5", "large5", "small6", "large6", *(f"structs{count}" for count in STRUCTS)):
         out[name] = published("helping") + published(name)
     for count in 400, CHAINED - 400, CHAINED:
@@ -108,14 +114,18 @@ def streams(folder, bundles):
     return out
 
 
-def runs():
+def runs() -> Dict[str, Callable[[int], bytes]]:
     """The payloads of the runs that are measured in one process, without their budgets."""
     at = model.Value(model.ADDRESS, inputs.address(OWNER))
     arguments = {name: at if name in AT_ADDRESS else u64(0) for name in WORK}
-    return {name: lambda budget, name=name: run(name, budget, arguments[name]) for name in WORK}
+
+    def of(name: str) -> Callable[[int], bytes]:
+        return lambda budget: run(name, budget, arguments[name])
+
+    return {name: of(name) for name in WORK}
 
 
-def many_mints(folder, count):
+def many_mints(folder: Path, count: int) -> Iterator[bytes]:
     """A stream in pieces that mints for so many addresses in no order."""
     yield (folder / "working.stream").read_bytes()
     for n in range(count):
@@ -123,7 +133,7 @@ def many_mints(folder, count):
         yield record(2, run("mint", 100, u64(7), sender=sender))
 
 
-def write(folder):
+def write(folder: Path) -> None:
     bundles = write_modules(folder)
     files = {f"{name}.bundle": publish(bundles[name]) for name in ("helping", "working")}
     files["working60.bundle"] = publish(bundles["helping"], bundles["working60"])

@@ -5,9 +5,11 @@ usage: python3 bench/growth.py PROGRAM FOLDER    FOLDER is kept"""
 
 import os
 import sys
+from pathlib import Path
+from typing import Callable, List, Optional, Sequence, Tuple
 
 import inputs
-from costs import Program, many_own
+from costs import Program
 from inputs import ASSET, Module, publish, record, run, u64
 
 MOST_EDGES = 1_024
@@ -15,7 +17,7 @@ MOST_OPERANDS = 128
 AIM = 2.3
 
 
-def assets(count, own):
+def assets(count: int, own: str) -> bytes:
     """A module with so many structs that an audit counts."""
     m = Module(own)
     m.add_names(["v"])
@@ -24,7 +26,7 @@ def assets(count, own):
     return m.bytes()
 
 
-def last_asset(count, own):
+def last_asset(count: int, own: str) -> bytes:
     """A module whose last struct is the one that is counted."""
     m = Module(own)
     m.add_names(["v"])
@@ -34,7 +36,7 @@ def last_asset(count, own):
     return m.bytes()
 
 
-def naming_each_other(count, own, others):
+def naming_each_other(count: int, own: str, others: Sequence[str]) -> bytes:
     """A module that names so many functions of each of others."""
     m = Module(own)
     for other in others:
@@ -43,20 +45,20 @@ def naming_each_other(count, own, others):
     return m.bytes()
 
 
-def with_functions(count, own):
+def with_functions(count: int, own: str) -> bytes:
     m = Module(own)
     for n in range(count):
         m.function(f"f{n:x}", "u64", "u64", "", "MoveLoc 0; Ret", entry=False)
     return m.bytes()
 
 
-def edges(count, targets):
+def edges(count: int, targets: int) -> bytes:
     """So many edges as a certificate states them, with labels of two positions, into the first parameter."""
     wide = (count + 31) // 32
     return b"".join(bytes([1, 1, 0, 0, 2, a, b, 0]) for a in range(wide) for b in range(32))[: 8 * count]
 
 
-def stating(blocks, count):
+def stating(blocks: int, count: int) -> Tuple[bytes, bytes]:
     """A module with a function of so many blocks, and a certificate that states so many edges for each."""
     m = Module()
     code = "".join(f"CopyLoc 1; BrTrue next{n}; next{n}: " for n in range(blocks - 1))
@@ -65,7 +67,7 @@ def stating(blocks, count):
     return m.bytes(), (b"\x01\x01\x01" + size + edges(count, 1)) * blocks
 
 
-def high(count):
+def high(count: int) -> bytes:
     """A module with a function of so many instructions, most of which stand above 127 operands that are references."""
     m = Module()
     m.function("f", "&u64", "", "", inputs.filled("CopyLoc 0;" * (MOST_OPERANDS - 1) + "CopyLoc 0; Pop;" * ((count - 2 * MOST_OPERANDS - 4) // 2)
@@ -73,7 +75,7 @@ def high(count):
     return m.bytes()
 
 
-def link(n, more=None):
+def link(n: int, more: Optional[str] = None) -> bytes:
     """A module that names the one before it, and one more."""
     m = Module(f"L{n}")
     if n:
@@ -84,7 +86,7 @@ def link(n, more=None):
     return m.bytes()
 
 
-def ending(k, length, more=None):
+def ending(k: int, length: int, more: Optional[str] = None) -> bytes:
     """A module that names the last one of a chain, and one more."""
     m = Module(f"E{k}")
     for other in [f"L{length - 1}", *([more] if more else [])]:
@@ -93,7 +95,7 @@ def ending(k, length, more=None):
     return m.bytes()
 
 
-def naming_all(n, more=()):
+def naming_all(n: int, more: Sequence[str] = ()) -> bytes:
     """A module that names a function of each of the n ones before it, and more."""
     m = Module(f"D{n}")
     for other in [*(f"D{k}" for k in range(n)), *more]:
@@ -102,20 +104,24 @@ def naming_all(n, more=()):
     return m.bytes()
 
 
-def naming_first(n):
+def naming_first(n: int) -> bytes:
     """A module that names the first one."""
     m = Module(f"N{n}")
     m.foreign_function("L0", "f", "u64", "u64")
     return m.bytes()
 
 
+# For a number the records before, those that are measured, and how often they are repeated.
+Made = Callable[[int], Tuple[List[bytes], List[bytes], int]]
+
+
 class Growth:
     """Measures records behind others, for n and for 2n."""
 
-    def __init__(self, program):
+    def __init__(self, program: Program):
         self.program = program
 
-    def tell(self, what, made):
+    def tell(self, what: str, made: Made) -> None:
         """`made` gives for a number the records before, those that are measured, and how often they are repeated."""
         seconds = []
         for n in 1, 2:
@@ -129,28 +135,28 @@ class Growth:
               f"{size} bytes in, {wrote} out, {seconds[1] / (size + wrote) * 1e9:.0f} s for 1 GB; the last answer {answers[-1][:40]}", flush=True)
 
 
-def tell(program, folder):
+def tell(program: Path, folder: Path) -> None:
     os.makedirs(folder, exist_ok=True)
-    program = Program(program, folder)
-    growth = Growth(program)
+    measured = Program(program, folder)
+    growth = Growth(measured)
     none = b""
 
-    def published(*texts):
+    def published(*texts: bytes) -> bytes:
         return record(1, publish(*((text, none) for text in texts)))
 
     growth.tell("an audit of 16 modules of 900 structs each", lambda n: ([published(*(assets(900, f"A{k}") for k in range(8 * n)))], [record(4, b"")], 20))
     growth.tell("16 modules whose last of 1,900 structs is counted", lambda n: ([], [published(*(last_asset(950 * n, f"B{k}") for k in range(16)))], 1))
-    coin = program.published(inputs.working().bytes())
+    coin = measured.published(inputs.working().bytes())
     growth.tell("a show of 50,000 values", lambda n: ([coin, *(record(2, run("mint", 100, u64(7), sender=(k * 7919) % 1_000_003 + 5)) for k in range(25_000 * n))], [record(3, b"")], 4))
     eight = [f"E{k}" for k in range(8)]
     homes = [with_functions(200, own) for own in eight]
-    found = [program.certificate(homes[0])] * 8
+    found = [measured.certificate(homes[0])] * 8
     home = record(1, publish(*zip(homes, found)))
     growth.tell("8 modules that name 200 functions of 8 others each", lambda n: ([home], [published(*(naming_each_other(100 * n, f"F{k}", eight) for k in range(8)))], 1))
     growth.tell("126 states of 1,024 edges", lambda n: ([], [record(1, publish(stating(63 * n, MOST_EDGES)))], 1))
     growth.tell("4,000 states of 32 edges", lambda n: ([], [record(1, publish(stating(1_000 * n, 32)))], 1))
-    growth.tell("a function of 4,096 instructions above 127 references", lambda n: ([], [record(1, publish((high(2_048 * n), program.certificate(high(2_048 * n)))))], 4))
-    one = program.certificate(link(1))
+    growth.tell("a function of 4,096 instructions above 127 references", lambda n: ([], [record(1, publish((high(2_048 * n), measured.certificate(high(2_048 * n)))))], 4))
+    one = measured.certificate(link(1))
     chain = [record(1, publish((link(n), one))) for n in range(4_096)]
     other = Module("Alone")
     other.function("f", "u64", "u64", "", "MoveLoc 0; Ret", entry=False)
@@ -160,7 +166,7 @@ def tell(program, folder):
     growth.tell("the last one of a chain of 4,096 replaced", lambda n: (chain[: 2_048 * n], [chain[2_048 * n - 1]], 100))
     users = [record(1, publish((naming_first(n), none))) for n in range(4_095)]
     growth.tell("one module that 4,000 name replaced", lambda n: ([chain[0], *users[: 2_000 * n]], [chain[0]], 20))
-    bare = program.certificate(naming_all(0))
+    bare = measured.certificate(naming_all(0))
     dense = [record(1, publish((naming_all(n), bare))) for n in range(2_000)]
     growth.tell("2,000 modules that each name all before (aim: 1 s in all)", lambda n: ([], dense[: 1_000 * n], 1))
     growth.tell("the last one of 2,000 such replaced by one that names a further one", lambda n: (
@@ -174,4 +180,4 @@ def tell(program, folder):
 
 
 if __name__ == "__main__":
-    tell(*sys.argv[1:])
+    tell(*map(Path, sys.argv[1:]))

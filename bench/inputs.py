@@ -2,12 +2,17 @@
 
 import sys
 from pathlib import Path
+from typing import Dict, Iterable, List, Optional, Sequence, Tuple
 
 sys.path.insert(0, str(Path(__file__).resolve().parent.parent / "tools"))
 
-from movetext import model, writer
-from movetext.assembler import Assembler
-from movetext.stream_parser import parse
+from movetext import model, syntax, writer  # noqa: E402
+from movetext.assembler import Assembler  # noqa: E402
+from movetext.stream_parser import parse  # noqa: E402
+
+# Bytes, and a module with its certificate.
+Data = bytes
+Offered = Tuple[Data, Data]
 
 ASSET = "has store, key"
 DROP = "has drop"
@@ -15,11 +20,11 @@ PLAIN = "has copy, drop, store"
 NONE = ""
 
 
-def listed(text):
+def listed(text: str) -> List[str]:
     return [part.strip() for part in text.split(";") if part.strip()]
 
 
-def numbered(types, first=0):
+def numbered(types: str, first: int = 0) -> List[str]:
     """Locals of these types, with their numbers as names."""
     return [f"l{first + n}: {kind}" for n, kind in enumerate(listed(types))]
 
@@ -29,58 +34,61 @@ class Module:
     semicolon between two, and so have instructions; locals go by their numbers. It may have more of something than there
     may be."""
 
-    def __init__(self, own="M", version=5):
+    def __init__(self, own: str = "M", version: int = 5):
         self.head = f"module 0x1::{own} version {version}"
-        self.imports, self.items = {}, []
-        self.assembled = None
+        self.imports: Dict[str, List[str]] = {}
+        self.items: List[str] = []
+        self.assembled: Optional[model.Module] = None
 
-    def add_names(self, names):
+    def add_names(self, names: Iterable[str]) -> None:
         """Names that stand first among the identifiers, whether anything has them or not."""
         self.items.append(f"tables {{ identifiers {{ {'; '.join(names)} }} }}")
 
-    def add_import(self, module, item):
+    def add_import(self, module: str, item: str) -> None:
         self.imports.setdefault(module, []).append(item)
 
-    def foreign_struct(self, module, own, abilities):
+    def foreign_struct(self, module: str, own: str, abilities: str) -> None:
         self.add_import(module, f"struct {own} {abilities}")
 
-    def foreign_function(self, module, own, parameters, results):
+    def foreign_function(self, module: str, own: str, parameters: str, results: str) -> None:
         self.add_import(module, f"{own}({', '.join(listed(parameters))}): ({', '.join(listed(results))})")
 
-    def struct(self, own, abilities, fields):
+    def struct(self, own: str, abilities: str, fields: str) -> None:
         """A struct with fields such as `a: u64`."""
         self.items.append(f"struct {own} {abilities} {{ {', '.join(listed(fields))} }}")
 
-    def function(self, own, parameters, results, locals_, code, acquires="", entry=True):
+    def function(self, own: str, parameters: str, results: str, locals_: str, code: str, acquires: str = "", entry: bool = True) -> None:
         """A public function."""
         taken = numbered(parameters)
         front = f"public {'entry ' if entry else ''}{own}({', '.join(taken)}): ({', '.join(listed(results))})"
         front += f" acquires {acquires}" if acquires else ""
         self.items.append("\n".join([front + " {", *(f"let {one}" for one in numbered(locals_, len(taken))), code, "}"]))
 
-    def text(self):
+    def text(self) -> str:
         imports = ["\n".join([f"import 0x1::{name} {{", *items, "}"]) for name, items in self.imports.items()]
         return "\n".join([self.head + " {", *imports, *self.items, "}"])
 
-    def tables(self):
+    def tables(self) -> model.Module:
         """The module that the text says."""
         if self.assembled is None:
-            assembler = Assembler(parse(self.text(), keeps_limits=False))
+            tree = parse(self.text(), keeps_limits=False)
+            assert isinstance(tree, syntax.Module)
+            assembler = Assembler(tree)
             self.assembled = assembler.module()
             assert self.assembled, [error.message for error in assembler.errors]
         return self.assembled
 
-    def bytes(self):
+    def bytes(self) -> Data:
         return writer.write_module(self.tables())
 
-    def renamed(self, own):
+    def renamed(self, own: str) -> Data:
         """The bytes of the module under another name."""
         tables = self.tables()
         tables.identifiers[tables.module_handles[tables.own].name] = own
         return writer.write_module(tables)
 
     @property
-    def instructions(self):
+    def instructions(self) -> int:
         """How many instructions the module has."""
         return sum(len(function.code) for function in self.tables().functions)
 
@@ -119,13 +127,13 @@ GLOBALS = "", """CopyLoc 1; Exists R{n}; BrTrue there{k}; ImmBorrowLoc 0; LdU64 
     ImmBorrowGlobal R{n}; ImmBorrowField R{n}.n; ReadRef; Pop; CopyLoc 1; MoveFrom R{n}; Unpack R{n}; Pop; Pop; Pop;""", "Ret"
 
 
-def family(parts, n, version):
+def family(parts: Tuple[str, str, str], n: int, version: int) -> str:
     """The code of a function of a family, which repeats its middle part."""
     first, middle, last = parts
     return first + "".join(middle.format(n=n, k=k, six=SIX if version == 6 else "") + " " for k in (1, 2, 3)) + last
 
 
-def helping():
+def helping() -> Module:
     """The module B that others call."""
     m = Module("B")
     m.struct("Shared", ASSET, "v: u64")
@@ -133,7 +141,7 @@ def helping():
     return m
 
 
-def all_families(units, version, own="M"):
+def all_families(units: int, version: int, own: str = "M") -> Module:
     """A module with every table and instruction: so many times three structs and five functions, some 1,400 bytes each time."""
     m = Module(own, version)
     m.foreign_struct("B", "Shared", ASSET)
@@ -150,7 +158,7 @@ def all_families(units, version, own="M"):
     return m
 
 
-def one_function(structs, parameters, locals_, code):
+def one_function(structs: Sequence[Tuple[str, str, str]], parameters: str, locals_: str, code: str) -> Module:
     m = Module()
     for own, abilities, fields in structs:
         m.struct(own, abilities, fields)
@@ -158,13 +166,13 @@ def one_function(structs, parameters, locals_, code):
     return m
 
 
-def filled(code, count):
+def filled(code: str, count: int) -> str:
     """Code with so many instructions before a Nop at its end, and Ret."""
     lines = [line for line in code.replace("\n", " ").split(";") if line.strip()]
     return ";".join(lines + [" Nop"] * (count - len(lines) - 1) + [" Ret"])
 
 
-def mixed(count):
+def mixed(count: int) -> Module:
     """A module with one function of so many instructions: two blocks every 22, with a struct and references to it."""
     unit = """LdU64 1; LdU64 2; Pack P; StLoc 2; MutBorrowLoc 2; StLoc 3; CopyLoc 3; ImmBorrowField P.a; ReadRef; StLoc 1;
         CopyLoc 1; CopyLoc 3; MutBorrowField P.b; WriteRef; MoveLoc 3; Pop; CopyLoc 0; LdU64 {n}; Lt; BrTrue next{n};
@@ -173,7 +181,7 @@ def mixed(count):
     return one_function([("P", PLAIN, "a: u64; b: u64")], "u64", "u64; P; &mut P", filled(code, count))
 
 
-def many_edges(count):
+def many_edges(count: int) -> Module:
     """A module with a function of so many instructions, in which each of 31 references may lead to each of 32 locals: 992
     edges, stated for each block of 32 instructions."""
     m = Module()
@@ -191,7 +199,7 @@ def many_edges(count):
     return m
 
 
-def many_structs(count):
+def many_structs(count: int) -> Module:
     """A module with so many structs and nothing else, some 14 bytes each. The fields' name stands first: its index is one byte."""
     m = Module()
     m.add_names(["v"])
@@ -200,7 +208,7 @@ def many_structs(count):
     return m
 
 
-def looping(blocks):
+def looping(blocks: int) -> Module:
     """A module with one function of so many blocks in a loop, every other of which may leave one of 30 references elsewhere.
     What its end does is seen at its start, so that each block is visited twice."""
     code = "".join(f"LdU64 {l}; StLoc {l};" for l in range(1, 31))
@@ -211,7 +219,7 @@ def looping(blocks):
     return one_function([], "bool", "; ".join(["u64"] * 30 + ["&u64"] * 30), code)
 
 
-def rippling(rounds, blocks):
+def rippling(rounds: int, blocks: int) -> Module:
     """A module with one function of so many blocks in a loop, for which what is known of references goes round so often: of 50
     references so many are handed on from one local to the next, the last one first."""
     code = "".join(f"LdU64 {l}; StLoc {l};" for l in (1, 2)) + "".join(f"ImmBorrowLoc 1; StLoc {l};" for l in range(3, 53))
@@ -221,7 +229,7 @@ def rippling(rounds, blocks):
     return one_function([], "bool", "; ".join(["u64"] * 2 + ["&u64"] * 50), code)
 
 
-def link_of_a_chain(n, length):
+def link_of_a_chain(n: int, length: int) -> Module:
     """A module of some 600 bytes, with a struct, which names the module before it in its chain of this length."""
     m = Module(f"M{n}")
     before = n % length != 0
@@ -255,7 +263,7 @@ STORED_READS = "CopyLoc 0; ImmBorrowGlobal Coin; ImmBorrowField Coin.v; ReadRef;
 STORED_WRITES = "LdU64 5; CopyLoc 0; MutBorrowGlobal Coin; MutBorrowField Coin.v; WriteRef;" * 16
 
 
-def working():
+def working() -> Module:
     """The module whose functions are run."""
     m = Module()
     eight = "; ".join(f"f{n}: u64" for n in range(8))
@@ -283,32 +291,32 @@ def working():
     return m
 
 
-def large_working():
+def large_working() -> Module:
     """The module of 60 KB, with a function that does nothing."""
     m = all_families(LARGE, 5)
     m.function("idle", "u64", "", "", "Ret")
     return m
 
 
-def address(n):
+def address(n: int) -> Data:
     return n.to_bytes(model.ADDRESS_BYTES, "big")
 
 
-def publish(*bundle):
+def publish(*bundle: Offered) -> Data:
     """The payload of a publish record, of modules with their certificates."""
     offers = [model.Offer(module, certificate) for module, certificate in bundle]
     return writer.write_payload(model.Publish(address(1), offers))[1]
 
 
-def u64(value):
+def u64(value: int) -> model.Value:
     return model.Value(model.U64, value)
 
 
-def run(function, budget, *arguments, sender=0, module="M"):
+def run(function: str, budget: int, *arguments: model.Value, sender: int = 0, module: str = "M") -> Data:
     """The payload of a run record."""
     record = model.Run(address(sender), address(1), module, function, budget, list(arguments))
     return writer.write_payload(record)[1]
 
 
-def record(kind, payload):
+def record(kind: int, payload: bytes) -> Data:
     return writer.write_record(model.RawRecord(kind, payload))

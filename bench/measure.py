@@ -2,16 +2,18 @@
 
 import sys
 from pathlib import Path
+from typing import List, Optional, Sequence
 
 import beside
 import costs
 import growth
 import files
 import saved
-from clock import ASCENDING, SCATTERED, STEPS, Clock
+from clock import ASCENDING, SCATTERED, STEPS, Best, Clock
 from files import (BLOCKS, CHAIN, CHAINED, FUNCTIONS, LARGE_FEW, LARGE_MANY, ROUNDS_OF_A_LOOP, STRUCTS, UPGRADED_AMONG,
                    UPGRADES, WORK)
 from inputs import BEGINNING
+from process import difference
 
 ROUNDS = 3
 VALUES = 250_000
@@ -20,31 +22,31 @@ MODULES = 4_096
 AIMS = {"sums": "220"}
 
 
-def tell(text, aim=None):
+def tell(text: str, aim: Optional[str] = None) -> None:
     print(text + (f" (aim: {aim})" if aim else ""), flush=True)
 
 
-def micro(seconds):
+def micro(seconds: float) -> str:
     return f"{seconds * 1e6:.1f} us" if seconds < 0.01 else f"{seconds * 1e3:.1f} ms"
 
 
-def instructions(name):
+def instructions(name: str) -> int:
     """How many instructions a module has."""
     return files.measured_modules()[name].instructions
 
 
-def sizes(folder, *names):
+def sizes(folder: Path, *names: str) -> List[int]:
     return [(folder / f"{name}.module").stat().st_size for name in names]
 
 
-def tell_linear(folder, what, small, large, spent):
+def tell_linear(folder: Path, what: str, small: str, large: str, spent: Sequence[float]) -> None:
     """What two modules take, where it is to grow as their bytes do."""
     few, many = sizes(folder, small, large)
     tell(f"{what}: {few} bytes in {micro(spent[0])}, {many} bytes in {micro(spent[1])}: {many / few:.1f} times the bytes take "
          f"{spent[1] / spent[0]:.1f} times the time", f"{many / few:.1f}, linear")
 
 
-def tell_modules(folder, best):
+def tell_modules(folder: Path, best: Best) -> None:
     for version in 5, 6:
         names = f"small{version}", f"large{version}"
         both = [best["phases", name] for name in names]
@@ -57,30 +59,30 @@ def tell_modules(folder, best):
     tell(f"phases of {sizes(folder, 'large5')[0]} bytes of version 5: {phases}")
 
 
-def tell_publishing(folder, best, clock):
-    def spent(name):
-        return best["apply", name] - best["apply", "helping"]
+def tell_publishing(folder: Path, best: Best, clock: Clock) -> None:
+    def spent(name: str) -> float:
+        return float(best["apply", name] - best["apply", "helping"])
 
     few, many = (f"structs{count}" for count in STRUCTS)
     tell_linear(folder, "publish, all families", "small5", "large5", [spent("small5"), spent("large5")])
     tell_linear(folder, f"publish, {STRUCTS[0]} and {STRUCTS[1]} structs alone", few, many, [spent(few), spent(many)])
     tell(f"publish: {sizes(folder, 'large5')[0] / spent('large5') / 1e6:.1f} MB/s")
-    counts = [clock.instructions("apply", f"{name}.stream") for name in ("small5", "large5")]
-    if None in counts:
+    counted = difference(*(clock.instructions("apply", f"{name}.stream") for name in ("large5", "small5")))
+    if counted is None:
         tell("publish: machine instructions aren't counted, since there is no valgrind")
         return
     bytecode = instructions("large5") - instructions("small5")
-    tell(f"publish: {(counts[1] - counts[0]) / bytecode:.0f} machine instructions for each of {bytecode} bytecode instructions, "
+    tell(f"publish: {counted / bytecode:.0f} machine instructions for each of {bytecode} bytecode instructions, "
          f"the large module's beyond the small one's", "900 or fewer")
 
 
-def tell_growth(what, of, counts, spent):
+def tell_growth(what: str, of: str, counts: Sequence[int], spent: Sequence[float]) -> None:
     times = ", ".join(f"{count} {of} in {micro(one)}" for count, one in zip(counts, spent))
     factor = counts[-1] / counts[0]
     tell(f"{what}: {times}; {factor:.1f} times as many take {spent[-1] / spent[0]:.1f} times the time", f"{factor:.1f}, linear")
 
 
-def tell_functions(best):
+def tell_functions(best: Best) -> None:
     for kind, what in ("mixed", "two blocks every 22"), ("edges", "992 edges in each state"):
         phases = [best["phases", f"{kind}{count}"] for count in FUNCTIONS]
         spent = [one["9"] + one["10 to 12"] - one["12"] for one in phases]
@@ -93,9 +95,9 @@ def tell_functions(best):
                 [best["prove", f"rounds{count}"] for count in ROUNDS_OF_A_LOOP])
 
 
-def tell_store(folder, best, clock):
-    def spent(stream):
-        return best["apply", stream] - best["apply", "nothing"]
+def tell_store(folder: Path, best: Best, clock: Clock) -> None:
+    def spent(stream: str) -> float:
+        return float(best["apply", stream] - best["apply", "nothing"])
 
     size, whole = (folder / f"chain{CHAINED}.stream").stat().st_size, spent(f"chain{CHAINED}")
     tell(f"store: {CHAINED} modules of {size / CHAINED:.0f} bytes in chains of {CHAIN}: {size / whole / 1e6:.2f} MB/s, "
@@ -118,7 +120,7 @@ def tell_store(folder, best, clock):
     tell(f"store: {MODULES} such modules come to {each * MODULES / 1e9:.2f} GB", "2 or less")
 
 
-def tell_runs(folder, best, clock):
+def tell_runs(folder: Path, best: Best, clock: Clock) -> None:
     for name, what in WORK.items():
         beside = f"; a plain Rust interpreter {STEPS / best['plain', name] / 1e6:.0f}" if ("plain", name) in best else ""
         aim = AIMS.get(name)
@@ -137,7 +139,7 @@ def tell_runs(folder, best, clock):
     tell(f"storage: {(many - few) / (VALUES - VALUES // 10):.0f} bytes of memory for each value of one leaf", "100 or less")
 
 
-def tell_records(best):
+def tell_records(best: Best) -> None:
     for kind, few, many, before in ("mints", 1_000, 10_000, "working"), ("empty", 400, 4_000, "nothing"):
         each = {count: (best["apply", f"{kind}{count}"] - best["apply", before]) / count for count in (few, many)}
         what = {"mints": "mints", "empty": "empty modules"}[kind]
@@ -149,7 +151,7 @@ def tell_records(best):
         tell(f"apply: 10000 mints behind {what}, {1 / one:.0f} a second, {one * 1e6:.2f} us each")
 
 
-def main():
+def main() -> None:
     task, folder = sys.argv[1], Path(sys.argv[2]).resolve()
     if task == "write":
         files.write(folder)
@@ -169,4 +171,5 @@ def main():
         beside.tell(folder, clock.program)
 
 
-main()
+if __name__ == "__main__":
+    main()

@@ -3,12 +3,14 @@ many. A time is the processor's, the least of several tries, beside what the pro
 
 usage: python3 bench/saved.py PROGRAM FOLDER    FOLDER has what `bench/run` writes"""
 
-import os
 import subprocess
 import sys
 from pathlib import Path
+from typing import Callable, Dict, Iterable, Sequence, Tuple
 
 import files
+import process
+from process import Word
 
 TRIES = 3
 MODULES = 2_000, 4_000
@@ -19,33 +21,29 @@ AIMS = {"save": "0.1 s or less", "load": "0.3 s or less"}
 class Saved:
     """Runs the program over ledgers in a folder."""
 
-    def __init__(self, program, folder):
+    def __init__(self, program: Path, folder: Path):
         self.program, self.folder = Path(program).resolve(), Path(folder)
         self.nothing = self.spent()
 
-    def spent(self, *options, stream="nothing.stream"):
+    def spent(self, *options: str, stream: str = "nothing.stream") -> Tuple[float, int]:
         """The least seconds of the processor that the program takes, and the most memory that it had, in bytes."""
         tries = []
         for _ in range(TRIES):
-            words = [self.program, "apply", *options, stream]
-            process = subprocess.Popen(words, cwd=self.folder, stdout=subprocess.DEVNULL)
-            _, status, used = os.wait4(process.pid, 0)
-            process.returncode = os.waitstatus_to_exitcode(status)
-            assert process.returncode == 0, words
-            tries.append((used.ru_utime + used.ru_stime, used.ru_maxrss * 1024))
+            used = process.used([self.program, "apply", *options, stream], self.folder)
+            tries.append((process.seconds_of(used), used.ru_maxrss * 1024))
         return min(seconds for seconds, _ in tries), max(memory for _, memory in tries)
 
-    def ledger(self, name, pieces):
+    def ledger(self, name: str, pieces: Iterable[bytes]) -> int:
         """Saves the ledger that records leave, and gives its file's size."""
         stream = self.folder / f"{name}.records"
         with open(stream, "wb") as out:
             out.writelines(pieces)
-        words = [self.program, "apply", "--save", f"{name}.ledger", stream.name]
+        words: Sequence[Word] = [self.program, "apply", "--save", f"{name}.ledger", stream.name]
         subprocess.run(words, check=True, cwd=self.folder, stdout=subprocess.DEVNULL)
         stream.unlink()
         return (self.folder / f"{name}.ledger").stat().st_size
 
-    def times(self, name):
+    def times(self, name: str) -> Tuple[Dict[str, float], int, int]:
         """The seconds of loading a ledger and of saving it, and the memory of each."""
         load, loading = self.spent("--load", f"{name}.ledger")
         both, saving = self.spent("--load", f"{name}.ledger", "--save", f"{name}.again")
@@ -55,7 +53,7 @@ class Saved:
         return {"load": load - self.nothing[0], "save": both - load}, loading, saving
 
 
-def tell_ledgers(saved, what, counts, pieces):
+def tell_ledgers(saved: Saved, what: str, counts: Sequence[int], pieces: Callable[[int], Iterable[bytes]]) -> None:
     """Prints what ledgers of so many take."""
     found = []
     for count in counts:
@@ -72,7 +70,7 @@ def tell_ledgers(saved, what, counts, pieces):
               flush=True)
 
 
-def tell(program, folder):
+def tell(program: Path, folder: Path) -> None:
     """Prints a line for each measurement."""
     saved, folder = Saved(program, folder), Path(folder)
     chain = [files.record(1, payload) for payload in files.chained(folder)]
@@ -81,4 +79,4 @@ def tell(program, folder):
 
 
 if __name__ == "__main__":
-    tell(*sys.argv[1:])
+    tell(*map(Path, sys.argv[1:]))

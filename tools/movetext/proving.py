@@ -3,7 +3,7 @@
 import os
 import subprocess
 import tempfile
-from typing import Dict, Optional
+from typing import Dict, Optional, Protocol
 
 from .explain.failures import Failure
 from .explain.verdict import explain_module
@@ -26,6 +26,13 @@ class NotProved(Exception):
 
 class NoProgram(Exception):
     """Why the program that is given makes no certificates."""
+
+
+class MakesCertificates(Protocol):
+    """What makes the certificates that a text leaves to be made."""
+
+    def certificate(self, module: bytes, names: Optional[ModuleNames] = None) -> bytes:
+        """A module's certificate. NotProved where there is none, NoProgram where the program that makes it can't be run."""
 
 
 class Prover:

@@ -8,7 +8,7 @@ from .assembler import assembled
 from .errors import Source, TextError, TextErrors
 from .explain.failures import Failure
 from .numbers import CERTIFICATE_BYTES, RECORD_BYTES, TABLE_BYTES
-from .proving import NotProved, Prover
+from .proving import MakesCertificates, NotProved, Prover
 from .source_names import NameTable, StreamNames, module_names
 from .stream_parser import parse
 from .writer import write_payload, write_record
@@ -32,7 +32,7 @@ def read_source(name: str, data: bytes) -> Source:
 class TextAssembler:
     """Makes bytes of a text. Files have their names from the folder of the text."""
 
-    def __init__(self, source: Source, folder: str, prover: Prover):
+    def __init__(self, source: Source, folder: str, prover: MakesCertificates):
         self.source = source
         self.folder = folder
         self.prover = prover
