@@ -11,6 +11,8 @@
 --   Bundled        `bundle-at`, `old-at`: where the modules of a bundle stand once it joins
 --   Replaced       `replaced-low`, `replaced-none`: the place that a module of a bundle takes tells what it replaces
 --   Compatible     `follow-compatible`, `compatible-follow`: what a bundle replaces, module by module
+--   KeptTypes      `struct-is`, `function-is`: what is kept of an old module tells whether a new one may take its place, by names
+--   Upgrades       `kept-sound`, `replaced-module`: the module that one of the bundle replaces, with what is kept of it
 --   Upgraded       `struct-stays`, `declared-stays`: what old modules name stays there
 --   StillThere     `structs-still-there`, `function-still-there`: handles of a module that stays lead where they led
 --   Assembling     `joining`, `links-all`: the rules of linking over all modules of a result, from those over the bundle
@@ -28,6 +30,8 @@ pub mod KeptFits
 pub mod Bundled
 pub mod Replaced
 pub mod Compatible
+pub mod KeptTypes
+pub mod Upgrades
 pub mod Upgraded
 pub mod StillThere
 pub mod Assembling

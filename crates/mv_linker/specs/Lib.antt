@@ -7,6 +7,7 @@ pub mod Identifiers
 pub mod Indexed
 pub mod Interface
 pub mod Kept
+pub mod KeptTypes
 pub mod Link
 pub mod Linked
 pub mod LinkedBy

@@ -1,9 +1,11 @@
 // What the structs, fields and functions of a module are called and how they may be used, without types.
 ghost use Rattle.std.specs.Prelude.{◌≡◌, ◌≤◌, ◌<◌, ℕ, length, map, option_map, slice_get, false, [], Some, IsTrue, IfOk, OnOk, IfSome, MatchOption};
 ghost use Rattle.std.specs.Option.{option_map_or};
+ghost use Rattle.std.specs.Str.{bytes_eq};
 ghost use Rattle.mv_move_types.specs.Limits.{most_name_bytes};
 ghost use Rattle.mv_bounds.specs.Bounds.{InBounds};
 ghost use Rattle.mv_linker.specs.ByName.{IsByName, names_at};
+ghost use Rattle.mv_linker.specs.KeptTypes.{are_names};
 ghost use Rattle.mv_linker.specs.Outline.{IsOutline, IsStructNamed, IsFunctionNamed, identifier_at, struct_by, function_by, names_by};
 
 use crate::by_name::{ByName, by_name, find};
@@ -228,6 +230,38 @@ fn defines_nothing(m: &Module<'_>) -> bool
     m.structs().is_empty() && m.functions().is_empty()
 }
 
+// Whether an identifier is that at an index of another module.
+fn has_identifier(identifiers: &Lists<u8>, index: u16, n: &Module<'_>, other: u16) -> bool
+    ensures { result ≡ option_map_or (bytes_eq (identifier_at identifiers.now index)) (slice_get n.now.identifiers other) false }
+{
+    match n.identifier(usize::from(other)) {
+        Some(name) => identifier_at(identifiers, index) == name,
+        None => false,
+    }
+}
+
+// Whether names are those of another module's fields, in order.
+fn have_names(
+    identifiers: &Lists<u8>,
+    names: &[u16],
+    n: &Module<'_>,
+    fields: &[Field],
+) -> bool
+    ensures { result ≡ are_names (map (identifier_at identifiers.now) names.now) n.now fields.now }
+{
+    match names {
+        [] => fields.is_empty(),
+        [x, xs @ ..] => {
+            match fields {
+                [] => false,
+                [f, fs @ ..] => {
+                    has_identifier(identifiers, *x, n, f.name) && have_names(identifiers, xs, n, fs)
+                }
+            }
+        }
+    }
+}
+
 impl Outline {
     /// That of a module that defines nothing.
     fn new(alloc: Global) -> Result<Self, AllocError>
@@ -309,6 +343,16 @@ impl Outline {
     {
         match self.structs.get(index) {
             Some(entry) => entry.abilities.key,
+            None => false,
+        }
+    }
+
+    /// Whether the struct at an index is there, and its fields have the names of another module's, in order.
+    pub(crate) fn has_fields(&self, index: usize, n: &Module<'_>, fields: &[Field]) -> bool
+        ensures { result ≡ option_map_or (λ names. are_names names n.now fields.now) (slice_get self.now.fields index) false }
+    {
+        match self.fields.get(index) {
+            Some(names) => have_names(&self.identifiers, names, n, fields),
             None => false,
         }
     }

@@ -42,7 +42,7 @@ pub fn may_join(
         return Err(Refusal::Phase(13));
     }
     let scope = Scope::of(alloc, s, new)?;
-    if !scope.all_follow()? {
+    if !scope.all_follow() {
         return Err(Refusal::Phase(13));
     }
     scope.links(alloc)

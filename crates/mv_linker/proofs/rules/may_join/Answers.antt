@@ -24,14 +24,14 @@ returns-then-not-differ-clause-refused c = (
       cc,
 )
 
-pub returns-then-not-branch-clause-refused : goal.returns-then-not-branch-clause-refused
-returns-then-not-branch-clause-refused c = (
+pub returns-then-not-all_follow-clause-refused : goal.returns-then-not-all_follow-clause-refused
+returns-then-not-all_follow-clause-refused c = (
   refl,
   λ j.
       let yes : all_follow (tables_in c.args.s.now) (offered c.args.new.now) ≡ true =
       subst (λ (l : List Module). all_follow (tables_in c.args.s.now) l ≡ true) (offered-tables c.args.new.now) (compatible-follow (tables_in c.args.s.now) (tables_in (published_of c.args.new.now)) j.compatible) in
-      let is : c.in_ok-all_follow.field-0 ≡ all_follow (tables_in c.args.s.now) (offered c.args.new.now) = rw (c.in_ok-scope.ensures.store, c.in_ok-scope.ensures.new) at c.in_ok-all_follow.ensures in
-      let no : c.in_ok-all_follow.field-0 ≡ false = c.if-not-branch.true in
+      let is : c.all_follow.result ≡ all_follow (tables_in c.args.s.now) (offered c.args.new.now) = rw (c.in_ok-scope.ensures.store, c.in_ok-scope.ensures.new) at c.all_follow.ensures in
+      let no : c.all_follow.result ≡ false = c.if-not-all_follow.true in
       cc,
 )
 
@@ -59,7 +59,7 @@ of-requires-clause-once c =
 pub links-requires-clause-fits : goal.links-requires-clause-fits
 links-requires-clause-fits c =
     let follow : all_follow (tables_in c.args.s.now) (offered c.args.new.now) ≡ true =
-    sym (rw (c.in_ok-scope.ensures.store, c.in_ok-scope.ensures.new) at c.in_ok-all_follow.ensures) ∙ c.if-not-branch.false in
+    sym (rw (c.in_ok-scope.ensures.store, c.in_ok-scope.ensures.new) at c.all_follow.ensures) ∙ c.if-not-all_follow.false in
     let fits = follow-compatible (tables_in c.args.s.now) (offered c.args.new.now) c.in_ok-scope.ensures.sound.once follow in
     record {
       store = rw c.in_ok-scope.ensures.store c.in_ok-scope.ensures.sound;
@@ -73,7 +73,7 @@ pub returns-clause-ok : goal.returns-clause-ok
 returns-clause-ok c =
     on_ok_weaker _ (λ (links : Links (with_tables (tables_in c.in_ok-scope.scope.store.now) (offered c.in_ok-scope.scope.new.now))).
     let follow : all_follow (tables_in c.args.s.now) (offered c.args.new.now) ≡ true =
-    sym (rw (c.in_ok-scope.ensures.store, c.in_ok-scope.ensures.new) at c.in_ok-all_follow.ensures) ∙ c.if-not-branch.false in
+    sym (rw (c.in_ok-scope.ensures.store, c.in_ok-scope.ensures.new) at c.all_follow.ensures) ∙ c.if-not-all_follow.false in
     record {
       sent = subst (λ (l : List PublishedModule). AreSentBy c.args.sender (tables_in l)) c.requires.same (c.are_sent_by.ensures.0 c.if-not-are_sent_by.false);
       once = sym (ap (λ (l : List PublishedModule). all_differ have_one_name (tables_in l)) c.requires.same) ∙ sym c.in_ok-differ.ensures ∙ c.if-not-differ.false;
@@ -93,3 +93,6 @@ pub returns-clause-refused : goal.returns-clause-refused
 returns-clause-refused c =
     if_err _ _ _ (λ (j : MayJoin c.args.sender (tables_in c.args.s.now) (tables_in (published_of c.args.new.now)) (tables_in (with_modules c.args.s.now (published_of c.args.new.now)))).
     rw (c.in_ok-scope.ensures.store, c.in_ok-scope.ensures.new) (subst Links (scope-tables c.args.s.now c.args.new.now) j.links)) c.links.ensures.refused
+
+pub all_follow-requires : goal.all_follow-requires
+all_follow-requires c = omega (arith, ap length c.in_ok-scope.ensures.store, c.requires.few)

@@ -11,14 +11,14 @@ module-here c =
     offered-at new c.each.k c.index-self-k.result (slice_get_read new (length new) c.each.k c.index-self-k.result refl c.each-test.true c.index-self-k.is)
     ∙ ap (λ (n : New). Some n.module) c.index-self-k.is ∙ ap (λ (m : Module). Some m) (sym c.module-n.ensures.value)
 
-pub may_follow-requires : goal.may_follow-requires
-may_follow-requires c = c.replaced.ensures c.module-n.result.now (module-here (goal.at.may_follow-requires c).After-module-n)
+pub may_follow-requires-clause-replaced : goal.may_follow-requires-clause-replaced
+may_follow-requires-clause-replaced c = c.replaced.ensures c.module-n.result.now (module-here (goal.at.may_follow-requires-clause-replaced c).After-module-n)
 
-pub returns-then-not-branch : goal.returns-then-not-branch
-returns-then-not-branch c =
+pub returns-then-not-may_follow : goal.returns-then-not-may_follow
+returns-then-not-may_follow c =
     let old = tables_in c.args.self.now.store.now in
-    sym (all_pass_not (follows old) (offered c.args.self.now.new.now) c.each.k c.module-n.result.now (sym (module-here (goal.at.returns-then-not-branch c).After-module-n))
-    (sym c.in_ok-may_follow.ensures ∙ c.if-not-branch.true))
+    sym (all_pass_not (follows old) (offered c.args.self.now.new.now) c.each.k c.module-n.result.now (sym (module-here (goal.at.returns-then-not-may_follow c).After-module-n))
+    (sym c.may_follow.ensures ∙ c.if-not-may_follow.true))
 
 pub each-preserved : goal.each-preserved
 each-preserved c =
@@ -27,7 +27,7 @@ each-preserved c =
     let n = c.index-self-k.result in
     let taken : take (c.each.k + 1) new ≡ take c.each.k new ++ n ∷ [] = take_more new c.each.k n c.each-test.true ∙ ap (λ x. take c.each.k new ++ x ∷ []) (sym c.index-self-k.is) in
     named-more (follows old) new c.each.k n c.each.invariant taken
-    (ap (λ (x : New). follows old x.module) c.index-self-k.is ∙ sym (ap (follows old) c.module-n.ensures.value) ∙ sym c.in_ok-may_follow.ensures ∙ c.if-not-branch.false)
+    (ap (λ (x : New). follows old x.module) c.index-self-k.is ∙ sym (ap (follows old) c.module-n.ensures.value) ∙ sym c.may_follow.ensures ∙ c.if-not-may_follow.false)
 
 pub returns : goal.returns
 returns c =
