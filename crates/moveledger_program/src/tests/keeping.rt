@@ -31,24 +31,25 @@ struct Disk {
 /// The way from the name that is given to the file.
 #[derive(Clone, Copy)]
 struct Way {
-    is_link: bool,
+    /// What the link has, if the name that is given is one.
+    link: Option<&'static str>,
     folder: &'static str,
     file: &'static str,
     previous: &'static str,
 }
 
 const HERE: Way = Way {
-    is_link: false,
+    link: None,
     folder: ".",
     file: "ledger",
     previous: "ledger.previous",
 };
 
 const FAR: Way = Way {
-    is_link: true,
-    folder: "far",
-    file: "far/ledger",
-    previous: "far/ledger.previous",
+    link: Some("far/ledger"),
+    folder: "./far",
+    file: "./far/ledger",
+    previous: "./far/ledger.previous",
 };
 
 /// The name that is given.
@@ -181,7 +182,8 @@ impl<'a> Files for Runtime<'a> {
     fn open_file(&self, how: &OpenOptions, path: &str) -> io::Result<Open<'a>> {
         let disk = self.0;
         disk.called()?;
-        if path == disk.way.folder {
+        let way = disk.way;
+        if path == way.folder {
             return Ok(Open {
                 disk,
                 holds: None,
@@ -223,12 +225,14 @@ impl<'a> Files for Runtime<'a> {
     }
 
     fn rename(&self, from: &str, to: &str) -> io::Result<()> {
-        self.0.called()?;
-        if self.0.is_dirty.get() || to != self.0.way.file {
-            self.0.is_early.set(true);
+        let disk = self.0;
+        disk.called()?;
+        let way = disk.way;
+        if disk.is_dirty.get() || to != way.file {
+            disk.is_early.set(true);
         }
-        self.0.named(to)?.set(self.0.named(from)?.get());
-        self.0.named(from)?.set(None);
+        disk.named(to)?.set(disk.named(from)?.get());
+        disk.named(from)?.set(None);
         Ok(())
     }
 
@@ -250,11 +254,13 @@ impl<'a> Files for Runtime<'a> {
     }
 
     fn read_link<B: Allocator>(&self, alloc: B, path: &str) -> io::Result<PathBuf<B>> {
-        self.0.called()?;
-        if self.0.way.is_link && path == LEDGER {
-            return Ok(PathBuf::from_str(alloc, self.0.way.file)?);
+        let disk = self.0;
+        disk.called()?;
+        let way = disk.way;
+        match way.link {
+            Some(link) if path == LEDGER => Ok(PathBuf::from_str(alloc, link)?),
+            _ => Err(io::Error::from(ErrorKind::InvalidInput)),
         }
-        Err(io::Error::from(ErrorKind::InvalidInput))
     }
 
     fn hard_link(&self, original: &str, link: &str) -> io::Result<()> {
