@@ -336,7 +336,7 @@ fn files_stay_whole_whichever_call_fails(rt: HostRuntime) {
         (HERE, None, 11),
         (FAR, Some(OLD), 15),
     ] {
-        for failing in 1..=calls + 1 {
+        for failing in 1..=calls.saturating_add(1) {
             stays_whole(&rt, rt.alloc(), way, old, calls, failing);
         }
     }
