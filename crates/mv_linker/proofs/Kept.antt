@@ -2,7 +2,7 @@
 -- are made of, interfaces of functions.
 --
 -- Read first specs/Kept.antt and Stored.antt, then Keyed (the map of names) and WithAt (lists in which entries were put).
---   Keyed              `place-keyed`, `module-at`: a map from names to texts finds and takes what the list of its modules says
+--   Keyed              `place-keyed`: a map from names to texts finds what the list of its modules says
 --   WithAt             `put-at`, `from-put_all`: lists in which entries were put at places, each at one that was there or at the next one
 --   Adding             `adding-done`, `putting-done`: a bundle's modules go into a store's map, a module at a time
 --   IndexLemmas        `places-put`, `indices-put`: the modules of a bundle are found in maps as the lists say

@@ -4,11 +4,9 @@ ghost use Rattle.std.specs.Option.{option_map_or};
 ghost use Rattle.mv_move_types.specs.Names.{same_struct};
 ghost use Rattle.std.specs.Str.{bytes_eq};
 ghost use Rattle.mv_move_types.specs.Module.{module_name as name_of_module, own_name, struct_name as name_at_handle, name_of_function};
-ghost use Rattle.mv_move_types.specs.Options.{find_index};
-ghost use Rattle.mv_linker.specs.Identifiers.{struct_identifier as identifier_at};
-ghost use Rattle.mv_move_types.specs.Named.{is_struct, function_place as place_of_function};
+ghost use Rattle.mv_move_types.specs.Named.{function_place as place_of_function};
 
-use mv_binary_format::{FunctionDefinition, Module, StructDefinition};
+use mv_binary_format::{FunctionDefinition, Module};
 use std::marker::Model;
 
 /// A struct, by the address and the identifier of the module that defines it, and its identifier there.
@@ -106,38 +104,6 @@ pub fn struct_name<'a>(m: &Module<'a>, h: usize) -> Option<StructName<'a>>
         home,
         identifier,
     })
-}
-
-/// The identifier of a struct definition, if it is there.
-pub fn struct_identifier<'a>(m: &Module<'a>, d: &StructDefinition) -> Option<&'a [u8]>
-    ensures { option_map (λ p. p.now) result ≡ identifier_at m.now d.now }
-{
-    let handle = m.struct_handles().get(d.handle() as usize)?;
-    m.identifier(handle.name as usize)
-}
-
-/// Whether a struct definition of the module has this name.
-fn is_named(m: &Module<'_>, name: &StructName<'_>, d: &StructDefinition) -> bool
-    ensures { result ≡ is_struct m.now name.now d.now }
-{
-    match struct_name(m, d.handle() as usize) {
-        Some(own) => own.is_same(name),
-        None => false,
-    }
-}
-
-/// The index of the first of the module's struct definitions with this name.
-fn first_struct(m: &Module<'_>, name: &StructName<'_>) -> Option<usize>
-    ensures { result ≡ position (is_struct m.now name.now) m.now.structs }
-{
-    m.structs().iter().position(|d| is_named(m, name, d))
-}
-
-/// The index of the module's struct definition with this name.
-pub fn struct_place(m: &Module<'_>, name: &StructName<'_>) -> Option<usize>
-    ensures { result ≡ find_index (is_struct m.now name.now) m.now.structs }
-{
-    first_struct(m, name)
 }
 
 /// Whether a function definition of the module has this identifier.

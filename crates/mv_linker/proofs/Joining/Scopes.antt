@@ -135,12 +135,6 @@ place-for ms n own e = ap (λ o. unwrap_or (find_index (λ m. option_map_or (λ 
 
 -- ---- what there is below a place
 
--- a module of the store is at its place there
-pub tables-there : (ps : List PublishedModule) (k : ℕ) (m : Module) → k < length ps → IfSome (slice_get ps k) (λ p. m ≡ p.tables) → slice_get (tables_in ps) k ≡ Some m
-tables-there [] k m h e = absurd (omega (arith, h))
-tables-there (p ∷ ps) zero m h e = ap Some (sym e)
-tables-there (p ∷ ps) (suc k) m h e = tables-there ps k m (omega (arith, h)) e
-
 pub within_tables : (ps : List PublishedModule) (k : ℕ) (m : Module) → slice_get (tables_in ps) k ≡ Some m → k < length ps
 within_tables [] k m e = absurd cc
 within_tables (p ∷ ps) zero m e = omega arith

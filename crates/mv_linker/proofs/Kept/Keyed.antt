@@ -27,20 +27,3 @@ found-keyed test name is (e ∷ es) keyed =
 pub place-keyed : (test : Name → Bool) (name : ModuleName) → ((k : Name) → test k ≡ same_module name (name_in k)) → (es : List (Name × Texts)) → AreKeyed es
     → position test (keys_of es) ≡ module_place (tables_in (published_under es)) name
 place-keyed test name is es keyed = position-find_index test (keys_of es) ∙ found-keyed test name is es keyed
-
--- the tables of the module at an index are those that its text spells
-pub module-at : (es : List (Name × Texts)) (i : ℕ) (texts : Texts) (m : Module) → slice_get (values_of es) i ≡ Some texts → module_of texts.module.items ≡ Some m
-    → IfSome (slice_get (published_under es) i) (λ p. m ≡ p.tables)
-module-at es i texts m at decoded =
-    let P : Option PublishedModule → Type 0 = λ o. IfSome o (λ p. m ≡ p.tables) in
-    let there : slice_get (published_under es) i ≡ Some (published_as texts) = rw (← (map-map published_as (λ (e : Name × Texts). e.1) es), slice_get-map, at) refl in
-    subst P (sym there) (sym (ap (λ o. unwrap_or o no_tables) decoded))
-
--- and it spells some
-pub spelled-at : (es : List (Name × Texts)) (i : ℕ) (texts : Texts) → slice_get (values_of es) i ≡ Some texts → All IsPublishable (published_under es) → module_of texts.module.items ≡ None → ⊥
-spelled-at [] i texts at passed none = absurd cc
-spelled-at (e ∷ es) zero texts at passed none =
-    let same : e.1 ≡ texts = cc in
-    let read : module_of e.1.module.items ≡ Some (published_as e.1).tables = (All-head IsPublishable (published_as e.1) (published_under es) passed).text in
-    none-some (published_as e.1).tables (sym (ap (λ (t : Texts). module_of t.module.items) same ∙ none) ∙ read)
-spelled-at (e ∷ es) (suc i) texts at passed none = spelled-at es i texts at (All-tail IsPublishable (published_as e.1) (published_under es) passed) none
