@@ -70,7 +70,7 @@ struct_same modules i d n e =
     both_there (λ a b. bytes_eq a.name b.name) (name_at modules d.place d.index) (name_of_struct n e)
     && both_there same_abilities (option_map (λ (s : StructOutline). s.abilities) (slice_get i.outline.structs d.index)) (struct_abilities n e)
     && (option_map_or (λ names. are_names names n e.fields) (slice_get i.outline.fields d.index) false
-        && option_map_or (λ ps. are_parts modules ps n e.fields) (slice_get i.parts d.index) false)
+    && option_map_or (λ ps. are_parts modules ps n e.fields) (slice_get i.parts d.index) false)
 
 -- the function has the types of the new one
 abbrev pub types_same : List Module → Interface → ℕ → Module → FunctionDefinition → Bool
@@ -83,4 +83,4 @@ abbrev pub function_same : List Module → Interface → ℕ → Module → Bool
 function_same modules i k n =
     not (option_map_or (λ (f : FunctionOutline). f.is_public) (slice_get i.outline.functions k) false)
     || option_map_or (λ (e : FunctionDefinition). is_public e && types_same modules i k n e)
-      (option_map (λ (f : FunctionOutline). f.identifier) (slice_get i.outline.functions k) >>= function_named n) false
+    (option_map (λ (f : FunctionOutline). f.identifier) (slice_get i.outline.functions k) >>= function_named n) false

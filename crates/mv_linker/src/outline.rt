@@ -1,10 +1,11 @@
 // What the structs, fields and functions of a module are called and how they may be used, without types.
 ghost use Rattle.std.specs.Prelude.{◌≡◌, ◌≤◌, ◌<◌, ℕ, length, map, option_map, slice_get, false, [], Some, IsTrue, IfOk, OnOk, IfSome, MatchOption};
 ghost use Rattle.std.specs.Option.{option_map_or};
+ghost use Rattle.std.specs.Str.{bytes_eq};
 ghost use Rattle.mv_move_types.specs.Limits.{most_name_bytes};
 ghost use Rattle.mv_bounds.specs.Bounds.{InBounds};
-ghost use Rattle.mv_linker.specs.KeptTypes.{are_names};
 ghost use Rattle.mv_linker.specs.ByName.{IsByName, names_at};
+ghost use Rattle.mv_linker.specs.KeptTypes.{are_names};
 ghost use Rattle.mv_linker.specs.Outline.{IsOutline, IsStructNamed, IsFunctionNamed, identifier_at, struct_by, function_by, names_by};
 
 use crate::by_name::{ByName, by_name, find};
@@ -240,12 +241,7 @@ fn has_identifier(identifiers: &Lists<u8>, index: u16, n: &Module<'_>, other: u1
 }
 
 // Whether names are those of another module's fields, in order.
-fn have_names(
-    identifiers: &Lists<u8>,
-    names: &[u16],
-    n: &Module<'_>,
-    fields: &[Field],
-) -> bool
+fn have_names(identifiers: &Lists<u8>, names: &[u16], n: &Module<'_>, fields: &[Field]) -> bool
     ensures { result ≡ are_names (map (identifier_at identifiers.now) names.now) n.now fields.now }
 {
     match names {

@@ -3,18 +3,17 @@
 --   kept-same                  lists of them
 --   fields-same                fields, by their names and by what they are made of
 use Rattle.mv_linker.proofs.Common.{[], ℕ, ◌&&◌, ◌||◌, ◌<◌, ◌≤◌, ◌>>=◌, ◌∙◌, ◌∷◌, ◌≡◌, AreParts, AreTypes, Bool, Field, FunctionDefinition, FunctionHandle, FunctionOutline, Interface, IsInterface, IsPart}
-use Rattle.mv_linker.proofs.Common.{IsSound, IsStructAt, IsType, Leaf, LeafTag, LinkedType, List, Module, MutableReference, None, Nothing, OfLeaf, OfStruct, Option, Part, Plain, Reference, ReferenceTag, Some}
+use Rattle.mv_linker.proofs.Common.{IsSound, IsStructAt, IsType, Leaf, LinkedType, List, Module, MutableReference, None, Nothing, OfLeaf, OfStruct, Option, Part, Plain, Reference, ReferenceTag, Some}
 use Rattle.mv_linker.proofs.Common.{Struct, StructDefinition, StructName, StructOutline, StructTag, Tag, Token, ValueType, and_parts, ap, ap₂, arith, both_there, both_ways, bytes_eq, cases_Bool, false}
 use Rattle.mv_linker.proofs.Common.{function_stays, have_one_type, inl, inr, is_public, is_some, length, list_all, name_at, name_of_function, name_of_struct, none-some, not, on_bind, option_map, option_map_or}
 use Rattle.mv_linker.proofs.Common.{refl, same_Some, same_abilities, same_fields, same_signature, same_struct_definition, same_tag, same_tags, same_types, slice_get, slice_get_within, struct_abilities, struct_name}
-use Rattle.mv_linker.proofs.Common.{structs_stay, subst, suc, sym, token_named, tokens_named, true, value_type_named, zero}
+use Rattle.mv_linker.proofs.Common.{structs_stay, suc, sym, token_named, tokens_named, true, value_type_named, zero}
 use Rattle.std.specs.List.{AllZip}
 use Rattle.mv_linker.specs.StoreRules.{function_named}
 use Rattle.mv_linker.specs.KeptTypes.{function_same, kept_at, struct_same, types_same}
 use Rattle.mv_linker.proofs.Lemmas.{all_at, element_at}
 use Rattle.mv_linker.proofs.TypeTests.{same_types_is}
 use Rattle.mv_signatures.specs.Signatures.{may_be_field}
-use Rattle.mv_linker.specs.Shapes.{is_of_value}
 use Rattle.mv_linker.specs.KeptTypes.{are_kept, are_names, are_parts, kept_named, part_named}
 use Rattle.mv_linker.specs.declared.interface.LinkedType.TheVariants.{Plain as Value, Reference as ReferenceTo, MutableReference as MutableReferenceTo}
 use Rattle.mv_linker.proofs.Kept.HandleDefinitions.{name-found}
@@ -84,8 +83,8 @@ module _ (old : List Module) (m : Module) where
         let first = and_parts (may_be_field f.token) (list_all (λ f. may_be_field f.token) fs) may in
         turned (option_map_or (bytes_eq x) (slice_get n.identifiers g.name) false) (are_names xs n gs) (both_there same_tag (part_named old p) (token_named n g.token)) (are_parts old ps n gs)
         ∙ ap₂ (λ a b. a && b)
-          (ap₂ (λ (o : Option (List ℕ)) (q : Option Tag). both_there bytes_eq o (slice_get n.identifiers g.name) && both_there same_tag q (token_named n g.token)) (sym named.0) (field-named f p first.0 are.0))
-          (fields-same fs xs ps gs first.1 named.1 are.1)
+        (ap₂ (λ (o : Option (List ℕ)) (q : Option Tag). both_there bytes_eq o (slice_get n.identifiers g.name) && both_there same_tag q (token_named n g.token)) (sym named.0) (field-named f p first.0 are.0))
+        (fields-same fs xs ps gs first.1 named.1 are.1)
     fields-same [] [] (p ∷ ps) gs may named are = absurd are
     fields-same [] (x ∷ xs) ps gs may named are = absurd named
     fields-same (f ∷ fs) [] ps gs may named are = absurd named
@@ -155,7 +154,7 @@ module _ (old : List Module) (m : Module) where
           ap (option_map (λ (f : FunctionOutline). f.identifier)) f.1 ∙ sym of.identifier in
           ap₂ (λ a b. not a || b) visible
           (ap (λ o. option_map_or (λ (e : FunctionDefinition). is_public e && types_same old i k n e) (o >>= function_named n) false) named
-            ∙ by_found (name_of_function m d >>= function_named n))
+          ∙ by_found (name_of_function m d >>= function_named n))
         where
           by_found : (o : Option FunctionDefinition) → option_map_or (λ (e : FunctionDefinition). is_public e && types_same old i k n e) o false
               ≡ option_map_or (λ (e : FunctionDefinition). is_public e && have_one_type m d n e) o false

@@ -15,6 +15,7 @@ use Rattle.mv_linker.proofs.Lemmas.{element_at, found_at, struct_named_so, struc
 use Rattle.mv_linker.proofs.NameLemmas.{named_in}
 use Rattle.mv_linker.proofs.OwnDefinitions.{function-at, function_named_so, own_handle, struct-at}
 use Rattle.mv_linker.proofs.Joining.Upgraded.{so-struct}
+use Rattle.mv_linker.proofs.Kept.OutlineLemmas.{named-place, no-function-named}
 
 -- a definition with an identifier has the name of its module and the identifier
 identified : (n : Module) (e : StructDefinition) (i : ℕ) (home : ModuleName) (name : List ℕ) → WellDefined n → slice_get n.structs i ≡ Some e → own_name n ≡ Some home
@@ -80,38 +81,11 @@ module _ (n : Module) (defined : WellDefined n) (o : OutlineView) (is : IsOutlin
 
   -- the function of an identifier is where the outline has it
   pub function-named : (k : ℕ) (name : List ℕ) → IsFunctionNamed o k name → function_place n name ≡ Some k
-  function-named k name s =
-      let t = function-there k name s in
-      function-at n defined name k t.definition t.at (ap (λ x. option_map_or (bytes_eq name) x false) t.identifier ∙ (bytes_eq-Decides name name).1 refl)
+  function-named k name s = named-place n o.functions k name defined is.functions s.entry s.there s.named
 
   -- or nowhere
   pub function-unnamed : (name : List ℕ) → ((k : ℕ) → IsFunctionNamed o k name → ⊥) → function_place n name ≡ None
-  function-unnamed name never = by_place (function_place n name) refl
-    where
-      by_place : (found : Option ℕ) → function_place n name ≡ found → function_place n name ≡ None
-      by_place None e = e
-      by_place (Some k) e =
-          let f = found_at (λ d. option_map_or (bytes_eq name) (name_of_function n d) false) n.functions k e in
-          let named = function_named_so (name_of_function n f.entry) name f.passes in
-          let s = element_at o.functions k (let low = slice_get_within n.functions k f.entry f.at in omega (arith, low, is.functions.len)) in
-          let each = is.functions.each k f.entry s.0 f.at s.1 in
-          absurd (never k (record { entry = s.0; there = s.1; named = same_Some s.0.identifier name (sym each.identifier ∙ named) }))
-
--- ---- what was read at an index
-
-pub struct-read : (o : OutlineView) (k : ℕ) (own name : List ℕ) → Some own ≡ option_map (λ (s : StructOutline). s.identifier) (slice_get o.structs k) → own ≡ name → IsStructNamed o k name
-struct-read o k own name e same = by_entry (slice_get o.structs k) refl
-  where
-    by_entry : (x : Option StructOutline) → slice_get o.structs k ≡ x → IsStructNamed o k name
-    by_entry None at = absurd (none-some own (sym (e ∙ ap (option_map (λ (s : StructOutline). s.identifier)) at)))
-    by_entry (Some x) at = record { entry = x; there = at; named = sym (same_Some own x.identifier (e ∙ ap (option_map (λ (s : StructOutline). s.identifier)) at)) ∙ same }
-
-pub function-read : (o : OutlineView) (k : ℕ) (own name : List ℕ) → Some own ≡ option_map (λ (f : FunctionOutline). f.identifier) (slice_get o.functions k) → own ≡ name → IsFunctionNamed o k name
-function-read o k own name e same = by_entry (slice_get o.functions k) refl
-  where
-    by_entry : (x : Option FunctionOutline) → slice_get o.functions k ≡ x → IsFunctionNamed o k name
-    by_entry None at = absurd (none-some own (sym (e ∙ ap (option_map (λ (f : FunctionOutline). f.identifier)) at)))
-    by_entry (Some x) at = record { entry = x; there = at; named = sym (same_Some own x.identifier (e ∙ ap (option_map (λ (f : FunctionOutline). f.identifier)) at)) ∙ same }
+  function-unnamed name never = no-function-named n o.functions name is.functions (λ k f at named. never k (record { entry = f; there = at; named = named }))
 
 -- ---- the struct of a handle
 

@@ -2,7 +2,6 @@
 --   outline-is, outline-none   what is made of a module whose indices are in bounds, and of one that defines nothing
 --   named-place          the function that has an identifier is the one of this name
 --   no-function-named    there is none of this name where none has the identifier
---   struct-found, function-found, struct-missing, function-missing    what searches find
 use Rattle.mv_linker.proofs.Common.{[], ℕ, ◌∙◌, ◌∷◌, ◌≡◌, AreEach, AreFieldNames, Bool, Field, FunctionDefinition, FunctionEntry, FunctionOutline, InBounds, IsFunctionNamed, IsFunctionOutline}
 use Rattle.mv_linker.proofs.Common.{IsOutline, IsStructNamed, IsStructOutline, List, Module, None, Option, OutlineView, Some, StructDefinition, StructEntry, StructOutline, WellDefined, and_parts, ap, arith}
 use Rattle.mv_linker.proofs.Common.{below, bytes_eq, bytes_eq-Decides, false, field_in, function_by, function_handle_in, function_kept, function_place, identifier_at, length, list_all, ltb-true, map, map-map}
@@ -95,57 +94,3 @@ no-function-named n functions name are none = by_place (function_place n name) r
         let f = element_at functions k (omega (arith, slice_get_within n.functions k d.entry d.at, are.len)) in
         let named : name_of_function n d.entry ≡ Some name = function_named_so (name_of_function n d.entry) name d.passes in
         absurd (none k f.0 f.1 (same_Some f.0.identifier name (sym (are.each k d.entry f.0 d.at f.1).identifier ∙ named)))
-
--- ---- searches
-
--- the struct that was found first has the identifier
-pub struct-found : (identifiers : List (List ℕ)) (structs : List StructEntry) (o : OutlineView) (name : List ℕ) (k : ℕ) → o.structs ≡ map (struct_kept identifiers) structs
-    → position (λ (s : StructEntry). bytes_eq name (identifier_at identifiers s.identifier)) structs ≡ Some k → IsStructNamed o k name
-struct-found identifiers structs o name k is found =
-    let p : StructEntry → Bool = λ s. bytes_eq name (identifier_at identifiers s.identifier) in
-    let f = found_at p structs k (sym (position-find_index p structs) ∙ found) in
-    record {
-      entry = struct_kept identifiers f.entry;
-      there = ap (λ l. slice_get l k) is ∙ slice_get-map (struct_kept identifiers) structs k ∙ ap (option_map (struct_kept identifiers)) f.at;
-      named = sym ((bytes_eq-Decides name (identifier_at identifiers f.entry.identifier)).0 f.passes);
-    }
-
--- where none was found none has it
-pub struct-missing : (identifiers : List (List ℕ)) (structs : List StructEntry) (o : OutlineView) (name : List ℕ) → o.structs ≡ map (struct_kept identifiers) structs
-    → position (λ (s : StructEntry). bytes_eq name (identifier_at identifiers s.identifier)) structs ≡ None → (k : ℕ) → IsStructNamed o k name → ⊥
-struct-missing identifiers structs o name is none k named =
-    let p : StructEntry → Bool = λ s. bytes_eq name (identifier_at identifiers s.identifier) in
-    let s = mapped-at (struct_kept identifiers) structs k named.entry (sym (ap (λ l. slice_get l k) is) ∙ named.there) in
-    let same : identifier_at identifiers s.0.identifier ≡ name = ap (λ (x : StructOutline). x.identifier) s.2 ∙ named.named in
-    none_passes p structs k s.0 (sym (position-find_index p structs) ∙ none) s.1 ((bytes_eq-Decides name (identifier_at identifiers s.0.identifier)).1 (sym same))
-
--- the function that was found first
-pub function-found : (identifiers : List (List ℕ)) (functions : List FunctionEntry) (o : OutlineView) (name : List ℕ) (k : ℕ) → o.functions ≡ map (function_kept identifiers) functions
-    → position (λ (s : FunctionEntry). bytes_eq name (identifier_at identifiers s.identifier)) functions ≡ Some k → IsFunctionNamed o k name
-function-found identifiers functions o name k is found =
-    let p : FunctionEntry → Bool = λ s. bytes_eq name (identifier_at identifiers s.identifier) in
-    let f = found_at p functions k (sym (position-find_index p functions) ∙ found) in
-    record {
-      entry = function_kept identifiers f.entry;
-      there = ap (λ l. slice_get l k) is ∙ slice_get-map (function_kept identifiers) functions k ∙ ap (option_map (function_kept identifiers)) f.at;
-      named = sym ((bytes_eq-Decides name (identifier_at identifiers f.entry.identifier)).0 f.passes);
-    }
-
-pub function-missing : (identifiers : List (List ℕ)) (functions : List FunctionEntry) (o : OutlineView) (name : List ℕ) → o.functions ≡ map (function_kept identifiers) functions
-    → position (λ (s : FunctionEntry). bytes_eq name (identifier_at identifiers s.identifier)) functions ≡ None → (k : ℕ) → IsFunctionNamed o k name → ⊥
-function-missing identifiers functions o name is none k named =
-    let p : FunctionEntry → Bool = λ s. bytes_eq name (identifier_at identifiers s.identifier) in
-    let s = mapped-at (function_kept identifiers) functions k named.entry (sym (ap (λ l. slice_get l k) is) ∙ named.there) in
-    let same : identifier_at identifiers s.0.identifier ≡ name = ap (λ (x : FunctionOutline). x.identifier) s.2 ∙ named.named in
-    none_passes p functions k s.0 (sym (position-find_index p functions) ∙ none) s.1 ((bytes_eq-Decides name (identifier_at identifiers s.0.identifier)).1 (sym same))
-
--- so a search answers what it is to
-pub struct-searched : (identifiers : List (List ℕ)) (structs : List StructEntry) (o : OutlineView) (name : List ℕ) (r : Option ℕ) → o.structs ≡ map (struct_kept identifiers) structs
-    → r ≡ position (λ (s : StructEntry). bytes_eq name (identifier_at identifiers s.identifier)) structs → MatchOption r ((k : ℕ) → IsStructNamed o k name → ⊥) (λ k. IsStructNamed o k name)
-struct-searched identifiers structs o name None is found = struct-missing identifiers structs o name is (sym found)
-struct-searched identifiers structs o name (Some k) is found = struct-found identifiers structs o name k is (sym found)
-
-pub function-searched : (identifiers : List (List ℕ)) (functions : List FunctionEntry) (o : OutlineView) (name : List ℕ) (r : Option ℕ) → o.functions ≡ map (function_kept identifiers) functions
-    → r ≡ position (λ (f : FunctionEntry). bytes_eq name (identifier_at identifiers f.identifier)) functions → MatchOption r ((k : ℕ) → IsFunctionNamed o k name → ⊥) (λ k. IsFunctionNamed o k name)
-function-searched identifiers functions o name None is found = function-missing identifiers functions o name is (sym found)
-function-searched identifiers functions o name (Some k) is found = function-found identifiers functions o name k is (sym found)

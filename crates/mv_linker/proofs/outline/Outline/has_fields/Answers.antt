@@ -17,4 +17,4 @@ pub returns-in-Some : goal.returns-in-Some
 returns-in-Some c =
     c.have_names.ensures
     ∙ sym (ap (λ o. option_map_or (λ names. are_names names c.args.n.now c.args.fields.now) o false)
-      (names-at c.self.inside.identifiers c.self.inside.fields c.args.self.now c.args.index (Some c.in-Some.names.now) (ap (λ (o : OutlineView). o.fields) (sym c.self.view_is)) c.in-Some.ensures))
+    (names-at c.self.inside.identifiers c.self.inside.fields c.args.self.now c.args.index (Some c.in-Some.names.now) (ap (λ (o : OutlineView). o.fields) (sym c.self.view_is)) c.in-Some.ensures))

@@ -1,4 +1,4 @@
-use Rattle.mv_linker.proofs.Common.{ℕ, ◌<◌, ◌∙◌, ◌≡◌, FunctionDefinition, IsInterface, IsSound, Module, Some, ap, arith, cases_eq, function_stays, inl, inr, list_all, same_Some, slice_get, slice_get_within, sym, tables_in, true}
+use Rattle.mv_linker.proofs.Common.{◌∙◌, ◌≡◌, FunctionDefinition, IsInterface, Module, Some, ap, arith, cases_eq, function_stays, inl, inr, same_Some, slice_get, slice_get_within, sym, tables_in}
 use Rattle.mv_linker.proofs.Joining.KeptTypes.{function-is, one-fails}
 use Rattle.mv_linker.proofs.Lemmas.{all_from, element_at}
 use Rattle.mv_linker.proofs.upgrades.Replaced.functions_stay.Goals.{After-function_stays}

@@ -1,5 +1,5 @@
-use Rattle.mv_linker.proofs.Common.{ℕ, ◌<◌, ◌∙◌, ◌≡◌, Interface, IsInterface, IsSound, Module, Some, StructDefinition, ap, arith, cases_eq, inl, inr, length, refl, same_Some, same_struct_definition}
-use Rattle.mv_linker.proofs.Common.{slice_get, slice_get_read, slice_get_within, subst, sym, tables_in, true}
+use Rattle.mv_linker.proofs.Common.{◌∙◌, ◌≡◌, IsInterface, IsSound, Module, Some, StructDefinition, ap, arith, cases_eq, inl, inr, length, refl, same_Some, same_struct_definition}
+use Rattle.mv_linker.proofs.Common.{slice_get, slice_get_read, slice_get_within, sym, tables_in}
 use Rattle.mv_linker.proofs.Joining.KeptTypes.{stays-each, stays-fails, stays-short, struct-is}
 use Rattle.mv_linker.proofs.Lemmas.{element_at}
 use Rattle.mv_linker.proofs.upgrades.Replaced.structs_stay.Goals.{After-struct_stays}
