@@ -36,8 +36,8 @@ const VALUES: [(Key, u128); 4] = [(FIRST, 0), (SECOND, 1), (THIRD, 2), (FOURTH, 
 
 // What a ledger does: it lends its storage to a run, and keeps what the run has made, or has it back as it was.
 fn run(storage: &mut Storage, key: Key, value: Value) -> Result<bool, AllocError>
-    ensures ok { IfOk result (λ done. storage.new ≡ cond done (with_words storage.old key value) storage.old) }
-    ensures err { OnErr result (storage.new ≡ storage.old) }
+    ensures ok { IfOk result (λ done. storage.new.committed ≡ cond done (with_words storage.old.committed key value) storage.old.committed) }
+    ensures err { OnErr result (storage.new.committed ≡ storage.old.committed) }
 {
     let mut overlay = storage.overlay();
     if overlay.exists(&key) {
@@ -50,7 +50,7 @@ fn run(storage: &mut Storage, key: Key, value: Value) -> Result<bool, AllocError
 
 // A run that edits a value and is given up leaves the storage as it was.
 fn try_out(storage: &mut Storage, key: &Key, new: &[u128])
-    ensures { storage.new ≡ storage.old }
+    ensures { storage.new.committed ≡ storage.old.committed }
 {
     let mut overlay = storage.overlay();
     let _ = overlay.edit(key, 0, new);
