@@ -1,17 +1,13 @@
 -- What is given to C, by what was made for it.
-use Rattle.std.proofs.Common.{◌≡◌, ◌≢◌, ℕ, zero, suc, ℤ, List, [], ◌∷◌, ◌++◌, Some, None, Ok, refl, sym, ap, ◌∙◌, subst, arith, inl, inr, append-nil, append_assoc, w32, to_z, of_z}
+use Rattle.std.proofs.Common.{◌≡◌, ◌≢◌, ℕ, zero, suc, ℤ, List, [], Some, None, Ok, refl, sym, ap, ◌∙◌, subst, arith, inl, inr, w32, to_z, of_z}
 use Rattle.std.proofs.KnownBytes.{Consumes-nil, Appends-nil}
 use Rattle.std.specs.Io.KnownBytes.{Appends}
-use Rattle.std.specs.Global.{Global, Vec}
-use Rattle.std.specs.Prelude.{Result, Err, IfOk, String, string_bytes}
-use Rattle.std.specs.declared.alloc.AllocError.{AllocError}
-use Rattle.mv_move_types.specs.declared.refusal.Refusal.{Refusal}
-use Rattle.mv_ledger.specs.Answering.{RepliesText}
+use Rattle.std.specs.Global.{Vec}
 use Rattle.mv_ledger.specs.View.{LedgerView}
 use Rattle.moveledger.specs.Continuing.{StopsAfter}
 use Rattle.moveledger.specs.Proving.{IsAcceptedBack, IsProvedBy}
 use Rattle.moveledger.specs.Reading.{at_kind}
-use Rattle.moveledger_c.specs.Calls.{payload_of, IsOfHeld, IsProved, IsReport}
+use Rattle.moveledger_c.specs.Calls.{payload_of, IsProved}
 use Rattle.moveledger_c.specs.Giving.{IsGiven}
 
 -- a form that is neither of the two
@@ -46,16 +42,3 @@ pub IsProved-given : (m digits text : List ℕ) (status : ℤ) (v : Vec ℕ) →
 IsProved-given m digits text status v (inl h) e p a =
     inl (ap (λ s. to_z w32 (of_z w32 s)) h.0, refl, subst (IsProvedBy m) (sym (h.1 ∙ e)) p, subst (IsAcceptedBack m) (sym (h.1 ∙ e)) a)
 IsProved-given m digits text status v (inr h) e p a = inr (inr (inr (ap (λ s. to_z w32 (of_z w32 s)) h.0, refl, h.1)))
-
--- a report
-
-replied_text : (kind : ℕ) (payload : List ℕ) (l : LedgerView) (report : Result (String Global) Refusal) (text : String Global) → RepliesText kind payload report l → report ≡ Ok text
-    → IsReport kind payload l (string_bytes text)
-replied_text kind payload l report text replies is = subst (λ (r : Result (String Global) Refusal). RepliesText kind payload r l) is replies
-
-pub IsReport-given : (kind : ℕ) (payload : List ℕ) (l : LedgerView) (report : Result (String Global) Refusal) (bytes : Result (Vec ℕ) AllocError) (status : ℤ) (text : List ℕ) → RepliesText kind payload report l
-    → IfOk bytes (λ v. (t : String Global) × ((report ≡ Ok t) × (v.items ≡ string_bytes t))) → IsGiven bytes status text → IsOfHeld (IsReport kind payload) (Some l) status text
-IsReport-given kind payload l report (Ok v) status text replies made (inl given) =
-    inl (given.0, subst (IsReport kind payload l) (sym (given.1 ∙ made.1.1)) (replied_text kind payload l report made.0 replies made.1.0))
-IsReport-given kind payload l report (Ok v) status text replies made (inr given) = inr given
-IsReport-given kind payload l report (Err e) status text replies made given = inr given

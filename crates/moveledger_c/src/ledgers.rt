@@ -163,7 +163,7 @@ fn payload_of(form: u32) -> Option<&'static [u8]>
 
 /// The bytes of a report.
 fn bytes_of(report: Result<String, Refusal>) -> Result<Vec<u8>, AllocError>
-    ensures { IfOk result (λ v. (text : String Global) × ((report.entry ≡ Ok text) × (v.items ≡ string_bytes text))) }
+    ensures { IfOk result (λ v. (text : String Global) × ((report ≡ Ok text) × (v.items ≡ string_bytes text))) }
 {
     match report {
         Ok(text) => Ok(text.into_bytes()),
