@@ -89,9 +89,9 @@ module _ (published : List PublishedModule) (store : IsStore published) where
   object_of : (e : Entry) → IsUtf8 (entry_object (tables_in published) e)
   object_of e =
       let address : IsUtf8 (member (codes "address") (lines.address_text e.key.address)) =
-          member_utf8 (codes "address") (lines.address_text e.key.address) (ascii (codes "address") refl) (plain_utf8 (lines.address_text e.key.address) (plain-address e.key.address)) in
+      member_utf8 (codes "address") (lines.address_text e.key.address) (ascii (codes "address") refl) (plain_utf8 (lines.address_text e.key.address) (plain-address e.key.address)) in
       let name : IsUtf8 (member (codes "struct") (key_text (tables_in published) e.key)) =
-          member_utf8 (codes "struct") (key_text (tables_in published) e.key) (ascii (codes "struct") refl) (plain_utf8 (key_text (tables_in published) e.key) (plain-key published store e.key)) in
+      member_utf8 (codes "struct") (key_text (tables_in published) e.key) (ascii (codes "struct") refl) (plain_utf8 (key_text (tables_in published) e.key) (plain-key published store e.key)) in
       let value : IsUtf8 (member (codes "value") (value_text e.value)) = member_utf8 (codes "value") (value_text e.value) (ascii (codes "value") refl) (plain_utf8 (value_text e.value) (plain-value e.value)) in
       object_utf8 (member (codes "address") (lines.address_text e.key.address) ∷ member (codes "struct") (key_text (tables_in published) e.key) ∷ member (codes "value") (value_text e.value) ∷ [])
       (address, (name, (value, tt)))

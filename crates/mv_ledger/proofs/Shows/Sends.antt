@@ -24,32 +24,53 @@ mutual
   value-added (string s) es log h = (event.text s ∷ [], (h, λ fs. refl))
   value-added (array ds) es log h =
       let b : Event = event.seq_begins (Some (items_len ds)) in
-      let more = items-added ds (es ++ b ∷ []) log (subst (λ (l : Log). SendsItems ds l log) h.1 h.2) in
-      (b ∷ more.0, (more.1.0 ∙ ap Some (append_assoc es (b ∷ []) more.0),
-      λ fs. (Some (fs ++ b ∷ []), refl, subst (λ (xs : List Event). SendsItems ds (Some (fs ++ b ∷ [])) (Some xs)) (append_assoc fs (b ∷ []) more.0) (more.1.1 (fs ++ b ∷ [])))))
+      let more = items-added ds (es ++ b ∷ []) log (subst (λ (l : Log). SendsItems ds l log) h.1 h.2) in (
+        b ∷ more.0,
+        (
+          more.1.0 ∙ ap Some (append_assoc es (b ∷ []) more.0),
+          λ fs. (Some (fs ++ b ∷ []), refl, subst (λ (xs : List Event). SendsItems ds (Some (fs ++ b ∷ [])) (Some xs)) (append_assoc fs (b ∷ []) more.0) (more.1.1 (fs ++ b ∷ []))),
+        ),
+      )
   value-added (object ms) es log h =
       let b : Event = event.map_begins (Some (members_len ms)) in
-      let more = members-added ms (es ++ b ∷ []) log (subst (λ (l : Log). SendsMembers ms l log) h.1 h.2) in
-      (b ∷ more.0, (more.1.0 ∙ ap Some (append_assoc es (b ∷ []) more.0),
-      λ fs. (Some (fs ++ b ∷ []), refl, subst (λ (xs : List Event). SendsMembers ms (Some (fs ++ b ∷ [])) (Some xs)) (append_assoc fs (b ∷ []) more.0) (more.1.1 (fs ++ b ∷ [])))))
+      let more = members-added ms (es ++ b ∷ []) log (subst (λ (l : Log). SendsMembers ms l log) h.1 h.2) in (
+        b ∷ more.0,
+        (
+          more.1.0 ∙ ap Some (append_assoc es (b ∷ []) more.0),
+          λ fs. (Some (fs ++ b ∷ []), refl, subst (λ (xs : List Event). SendsMembers ms (Some (fs ++ b ∷ [])) (Some xs)) (append_assoc fs (b ∷ []) more.0) (more.1.1 (fs ++ b ∷ []))),
+        ),
+      )
 
   items-added : (ds : Items) (es : List Event) (log : Log) → SendsItems ds (Some es) log → Adds (SendsItems ds) es log
   items-added no_items es log h = (event.seq_ends ∷ [], (h, λ fs. refl))
   items-added (item d ds) es log h =
       let first = value-added d es h.0 h.1 in
-      let more = items-added ds (es ++ first.0) log (subst (λ (l : Log). SendsItems ds l log) first.1.0 h.2) in
-      (first.0 ++ more.0, (more.1.0 ∙ ap Some (append_assoc es first.0 more.0),
-      λ fs. (Some (fs ++ first.0), first.1.1 fs, subst (λ (xs : List Event). SendsItems ds (Some (fs ++ first.0)) (Some xs)) (append_assoc fs first.0 more.0) (more.1.1 (fs ++ first.0)))))
+      let more = items-added ds (es ++ first.0) log (subst (λ (l : Log). SendsItems ds l log) first.1.0 h.2) in (
+        first.0 ++ more.0,
+        (
+          more.1.0 ∙ ap Some (append_assoc es first.0 more.0),
+          λ fs. (Some (fs ++ first.0), first.1.1 fs, subst (λ (xs : List Event). SendsItems ds (Some (fs ++ first.0)) (Some xs)) (append_assoc fs first.0 more.0) (more.1.1 (fs ++ first.0))),
+        ),
+      )
 
   members-added : (ms : Members) (es : List Event) (log : Log) → SendsMembers ms (Some es) log → Adds (SendsMembers ms) es log
   members-added no_members es log h = (event.map_ends ∷ [], (h, λ fs. refl))
   members-added (member k d ms) es log h =
       let b : Event = event.field_key k AsIs in
       let first = value-added d (es ++ b ∷ []) h.1 (subst (λ (l : Log). SendsValue d l h.1) h.2 h.3) in
-      let more = members-added ms ((es ++ b ∷ []) ++ first.0) log (subst (λ (l : Log). SendsMembers ms l log) first.1.0 h.4) in
-      (b ∷ (first.0 ++ more.0), (more.1.0 ∙ ap Some (append_assoc (es ++ b ∷ []) first.0 more.0 ∙ append_assoc es (b ∷ []) (first.0 ++ more.0)),
-      λ fs. (Some (fs ++ b ∷ []), Some ((fs ++ b ∷ []) ++ first.0), refl, first.1.1 (fs ++ b ∷ []),
-      subst (λ (xs : List Event). SendsMembers ms (Some ((fs ++ b ∷ []) ++ first.0)) (Some xs)) (append_assoc (fs ++ b ∷ []) first.0 more.0 ∙ append_assoc fs (b ∷ []) (first.0 ++ more.0)) (more.1.1 ((fs ++ b ∷ []) ++ first.0)))))
+      let more = members-added ms ((es ++ b ∷ []) ++ first.0) log (subst (λ (l : Log). SendsMembers ms l log) first.1.0 h.4) in (
+        b ∷ (first.0 ++ more.0),
+        (
+          more.1.0 ∙ ap Some (append_assoc (es ++ b ∷ []) first.0 more.0 ∙ append_assoc es (b ∷ []) (first.0 ++ more.0)),
+          λ fs. (
+            Some (fs ++ b ∷ []),
+            Some ((fs ++ b ∷ []) ++ first.0),
+            refl,
+            first.1.1 (fs ++ b ∷ []),
+            subst (λ (xs : List Event). SendsMembers ms (Some ((fs ++ b ∷ []) ++ first.0)) (Some xs)) (append_assoc (fs ++ b ∷ []) first.0 more.0 ∙ append_assoc fs (b ∷ []) (first.0 ++ more.0)) (more.1.1 ((fs ++ b ∷ []) ++ first.0)),
+          ),
+        ),
+      )
 
 -- ---- a report
 
@@ -69,5 +90,5 @@ report_text key ds log text sent is whole =
     let known : IsTextOf (Some (opens ∷ named ∷ lists ∷ (items.0 ++ event.map_ends ∷ []))) text = subst (λ (l : Log). IsTextOf l text) last is in
     let so : IsTextOf (Some (opens ∷ named ∷ counts ∷ (items.0 ++ event.map_ends ∷ []))) text = known in
     let value : SendsValue (object (member key (array (items_of ds)) no_members)) (Some []) (Some (opens ∷ named ∷ counts ∷ (items.0 ++ event.map_ends ∷ []))) =
-        (Some (opens ∷ []), refl, (Some (opens ∷ named ∷ []), Some (opens ∷ named ∷ counts ∷ items.0), refl, (Some (opens ∷ named ∷ counts ∷ []), refl, items.1.1 (opens ∷ named ∷ counts ∷ [])), refl)) in
+    (Some (opens ∷ []), refl, (Some (opens ∷ named ∷ []), Some (opens ∷ named ∷ counts ∷ items.0), refl, (Some (opens ∷ named ∷ counts ∷ []), refl, items.1.1 (opens ∷ named ∷ counts ∷ [])), refl)) in
     text_of_value (object (member key (array (items_of ds)) no_members)) (Some (opens ∷ named ∷ counts ∷ (items.0 ++ event.map_ends ∷ []))) text value so (grind (arith, whole))

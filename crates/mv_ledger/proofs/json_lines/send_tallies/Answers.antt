@@ -9,17 +9,19 @@ ArePlain ts = AllByRecursion (λ (t : Tallied). IsPlainStruct t.struct) ts
 
 pub each-init : goal.each-init
 each-init g c =
-    let w = g.S.Serializer.written in
-    (subst ArePlain (sym c.new-counts.ensures) (plain-tallied c.args.store.now c.len-len.ensures.store (all_of c.args.tallies.now)),
-    λ end h. subst (λ (ts : List Tallied). SendsItems (items_of (map count_data ts)) (w c.args.out.now) end) c.new-counts.ensures h)
+    let w = g.S.Serializer.written in (
+      subst ArePlain (sym c.new-counts.ensures) (plain-tallied c.args.store.now c.len-len.ensures.store (all_of c.args.tallies.now)),
+      λ end h. subst (λ (ts : List Tallied). SendsItems (items_of (map count_data ts)) (w c.args.out.now) end) c.new-counts.ensures h,
+    )
 
 pub each-preserved : goal.each-preserved
 each-preserved g c =
     let w = g.S.Serializer.written in
-    let plain = subst ArePlain c.in-Some.ensures c.each.invariant.0 in
-    (plain.1,
-    λ end h. c.each.invariant.1 end
-    (subst (λ (ts : List Tallied). SendsItems (items_of (map count_data ts)) (w c.each.out) end) (sym c.in-Some.ensures) (w c.send_counts.new.out, c.in_ok-send_counts.ensures, h)))
+    let plain = subst ArePlain c.in-Some.ensures c.each.invariant.0 in (
+      plain.1,
+      λ end h. c.each.invariant.1 end
+          (subst (λ (ts : List Tallied). SendsItems (items_of (map count_data ts)) (w c.each.out) end) (sym c.in-Some.ensures) (w c.send_counts.new.out, c.in_ok-send_counts.ensures, h)),
+    )
 
 pub returns : goal.returns
 returns g c =
