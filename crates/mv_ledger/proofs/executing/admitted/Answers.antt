@@ -19,7 +19,6 @@ module _ (published : List PublishedModule) (runs : ℕ) (r : RunRequest) where
       let f = found_at (is_module r.home) (tables_in published) place (sym is ∙ some) in
       record { home = f.entry; found = record { fits = fits; place_is = sym is ∙ some; home_is = f.at } }
 
-  
   -- no function there has the identifier
   none-named : (place : ℕ) (h : FindsHome place) (p : Option (ℕ × Signature)) → IfSome (slice_get (tables_in published) place) (λ m. option_map (λ q. q.0) p ≡ function_place m r.function)
       → p ≡ None → function_place h.home r.function ≡ None
