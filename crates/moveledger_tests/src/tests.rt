@@ -196,11 +196,7 @@ struct Told<'a> {
 }
 
 // What comes of an input on a new ledger, and the text of the ledger that it leaves; none where an allocation fails.
-fn left_by(
-    alloc: Global,
-    reader: &mut Pieces<'_>,
-    writer: &mut Room,
-) -> (Answer, Option<Vec<u8>>) {
+fn left_by(alloc: Global, reader: &mut Pieces<'_>, writer: &mut Room) -> (Answer, Option<Vec<u8>>) {
     let mut ledger = Ledger::new(alloc);
     let answer = answered(reader, writer, &mut ledger);
     (answer, ledger.save().ok())

@@ -17,8 +17,8 @@ ghost use Rattle.mv_linker.specs.Targets.{modules_in};
 ghost use Rattle.mv_linker.specs.TypesByDefinition.{are_types, is_part, is_type, same_definition};
 ghost use Rattle.mv_linker.specs.TypesByName.{both_there};
 
-use crate::named_modules::{Found, Target};
 use crate::interface::{Interface, LinkedType};
+use crate::named_modules::{Found, Target};
 use crate::named_structs::{definition, target_at};
 use crate::names::{module_name, name_of};
 use crate::outline::Outline;

@@ -59,7 +59,7 @@ module _ (modules : List Module) (m n : Module) (structs : List Definition) (are
       }))
 
   module _ (home : ModuleName) (handle : FunctionHandle) (kept : Interface) (of : IsOf m handle.module n home) (is : IsInterface modules n kept) (index : ℕ) (d : FunctionDefinition)
-    (d_at : slice_get n.functions index ≡ Some d) where
+      (d_at : slice_get n.functions index ≡ Some d) where
     -- whether it may be called
     may-call : (option_map_or (λ (f : FunctionOutline). f.is_public) (slice_get kept.outline.functions index) false || both_there same_module (module_name m handle.module) (own_name m))
         ≡ (is_public d || have_one_name m n)

@@ -17,6 +17,6 @@ returns c modules n home d of is are at =
     let handle = c.args.handle in
     c.fits_types.ensures
     ∙ ap (λ p. (p || both_there same_module (module_name m handle.module) (own_name m))
-        && (option_map_or (λ ts. are_types c.args.structs.now ts c.in-Some.parameters.now) (slice_get m.signatures handle.parameters) false
-        && option_map_or (λ ts. are_types c.args.structs.now ts c.in-Some-get.results.now) (slice_get m.signatures handle.results) false)) c.is_public-is_public.ensures
+    && (option_map_or (λ ts. are_types c.args.structs.now ts c.in-Some.parameters.now) (slice_get m.signatures handle.parameters) false
+    && option_map_or (λ ts. are_types c.args.structs.now ts c.in-Some-get.results.now) (slice_get m.signatures handle.results) false)) c.is_public-is_public.ensures
     ∙ kept-fits modules m n c.args.structs.now are home handle c.args.kept.now of is c.args.index d at c.in-Some.parameters.now c.in-Some-get.results.now (sym c.in-Some.ensures) (sym c.in-Some-get.ensures)

@@ -12,9 +12,9 @@ returns-in_default-function_named-clause-found c modules n home of is are =
 pub returns-then-fits_found-clause-found : goal.returns-then-fits_found-clause-found
 returns-then-fits_found-clause-found c modules n home of is are = (
   function-matched c.args.m.now c.args.handle n of.defined c.outline.result.now (c.outline.ensures modules n is) c.in-Some.name.now c.in-Some-function_named.index c.fits_found.result (sym c.in-Some.ensures)
-  c.in-Some-function_named.ensures.found (λ d at. c.fits_found.ensures modules n home d of is are at) ∙ c.if-fits_found.true,
+      c.in-Some-function_named.ensures.found (λ d at. c.fits_found.ensures modules n home d of is are at) ∙ c.if-fits_found.true,
   is-function c.args.m.now c.args.handle n of.defined c.outline.result.now (c.outline.ensures modules n is) c.in-Some.name.now c.in-Some-function_named.index (sym c.in-Some.ensures)
-  c.in-Some-function_named.ensures.found,
+      c.in-Some-function_named.ensures.found,
 )
 
 pub returns-else-fits_found-clause-found : goal.returns-else-fits_found-clause-found

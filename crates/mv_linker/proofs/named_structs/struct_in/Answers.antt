@@ -16,7 +16,7 @@ returns-in_default-abilities-clause-found c n home of is =
 pub returns-then-are_same-clause-found : goal.returns-then-are_same-clause-found
 returns-then-are_same-clause-found c n home of is = (
   matched c.args.m.now c.args.handle n home of c.args.outline.now is c.in-Some.name.now c.in-Some-struct_named.index c.in-Some-abilities.abilities (sym c.in-Some.ensures) c.in-Some-struct_named.ensures.found
-  c.in-Some-abilities.ensures ∙ sym c.are_same.ensures ∙ c.if-are_same.true,
+      c.in-Some-abilities.ensures ∙ sym c.are_same.ensures ∙ c.if-are_same.true,
   is-struct c.args.m.now c.args.handle n home of c.args.outline.now is c.in-Some.name.now c.in-Some-struct_named.index (sym c.in-Some.ensures) c.in-Some-struct_named.ensures.found,
 )
 

@@ -16,5 +16,5 @@ pub each-preserved : goal.each-preserved
 each-preserved c = (
   c.in_ok-put.ensures.loan ∙ c.each.invariant.0,
   RisingOn-next _ _ _ _ _ _ _ _ _ _ c.in_ok-put.field-0 _ (omega arith) c.in_ok-next.ensures.ok (sym c.follows.ensures ∙ c.if-not-follows.false) c.in_ok-put.ensures.done c.in_ok-put.ensures.current
-    c.each.invariant.1,
+      c.each.invariant.1,
 )

@@ -14,7 +14,7 @@ found c =
     let names = names_at o.identifiers (map (λ (f : FunctionEntry). f.identifier) o.functions.items) in
     subst (λ (v : OutlineView). MatchOption c.find.result ((k : ℕ) → IsFunctionNamed v k c.args.name.now → ⊥) (λ k. IsFunctionNamed v k c.args.name.now)) c.self.view_is
     (function-found o.identifiers o.structs.items o.fields o.functions.items c.args.name.now c.find.result
-        (c.find.ensures.found names (subst (λ (l : List ByName). IsByName o.identifiers names l) (sym c.deref.ensures.value) c.self.invariant.3)))
+    (c.find.ensures.found names (subst (λ (l : List ByName). IsByName o.identifiers names l) (sym c.deref.ensures.value) c.self.invariant.3)))
 
 pub returns-clause-found : goal.returns-clause-found
 returns-clause-found c = found (goal.at.returns-clause-found c).After-find

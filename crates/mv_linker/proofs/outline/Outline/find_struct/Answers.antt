@@ -13,4 +13,4 @@ returns-clause-found c =
     let names = names_at o.identifiers (map (λ (s : StructEntry). s.identifier) o.structs.items) in
     subst (λ (v : OutlineView). MatchOption c.find.result ((k : ℕ) → IsStructNamed v k c.args.name.now → ⊥) (λ k. IsStructNamed v k c.args.name.now)) c.self.view_is
     (struct-found o.identifiers o.structs.items o.fields o.functions.items c.args.name.now c.find.result
-        (c.find.ensures.found names (subst (λ (l : List ByName). IsByName o.identifiers names l) (sym c.deref.ensures.value) c.self.invariant.2)))
+    (c.find.ensures.found names (subst (λ (l : List ByName). IsByName o.identifiers names l) (sym c.deref.ensures.value) c.self.invariant.2)))
