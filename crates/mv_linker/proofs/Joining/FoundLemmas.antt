@@ -2,7 +2,7 @@
 --   new-found    a module of the bundle, with its outline
 --   kept-found   what the store keeps of a module is right among those of the scope
 --   no-outlines, more-outlines    the outlines of the first modules
-use Rattle.mv_linker.proofs.Common.{[], ℕ, ◌++◌, ◌+◌, ◌==◌, ◌∙◌, ◌∷◌, ◌≡◌, AreEach, AreOutlines, IfSome, Interface, IsInterface, IsOutline, List, Module, New, None, Option, Scope, Some, ap, length, modules_in}
+use Rattle.mv_linker.proofs.Common.{[], ℕ, ◌++◌, ◌+◌, ◌==◌, ◌∙◌, ◌∷◌, ◌≡◌, AreOutlines, IfSome, Interface, IsInterface, IsOutline, List, Module, New, None, Option, Scope, Some, ap, modules_in}
 use Rattle.mv_linker.proofs.Common.{offered, position, refl, same_Some, slice_get, subst, sym, tables_in, take, none-some}
 use Rattle.mv_linker.specs.Outline.{OutlineView}
 use Rattle.mv_linker.specs.Relinked.{IsFitting}

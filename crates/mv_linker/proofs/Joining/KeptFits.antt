@@ -1,8 +1,8 @@
 -- Whether a function fits a handle, by the interface that is kept of its module.
 --   one-named   a handle of a module names its own
 --   kept-fits   the function is public or its own module's, and has the handle's types
-use Rattle.mv_linker.proofs.Common.{[], ℕ, ◌&&◌, ◌>>=◌, ◌||◌, ◌∙◌, ◌≡◌, AreStructsAt, AreTypes, AreTypesOf, Bool, Definition, FunctionDefinition, FunctionHandle, Interface, IsInterface, IsOf, LinkedType}
-use Rattle.mv_linker.proofs.Common.{List, Module, ModuleName, None, Option, Some, Token, ap, ap₂, arith, both_there, false, function_fits, have_one_name, is_module, is_public, length, module_name}
+use Rattle.mv_linker.proofs.Common.{ℕ, ◌&&◌, ◌>>=◌, ◌||◌, ◌∙◌, ◌≡◌, AreStructsAt, AreTypes, AreTypesOf, Definition, FunctionDefinition, FunctionHandle, Interface, IsInterface, IsOf, LinkedType}
+use Rattle.mv_linker.proofs.Common.{List, Module, ModuleName, None, Option, Some, Token, ap, ap₂, arith, both_there, false, function_fits, have_one_name, is_module, is_public, module_name}
 use Rattle.mv_linker.proofs.Common.{none-some, on_bind, option_map_or, own_name, parameter_tokens, refl, same_Some, same_module, same_signature, same_tags, signature_named, slice_get, slice_get_within, subst}
 use Rattle.mv_linker.proofs.Common.{sym, tokens_named}
 use Rattle.mv_move_types.specs.Module.{result_tokens}

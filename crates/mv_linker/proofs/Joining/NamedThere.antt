@@ -4,16 +4,16 @@
 --   function-named, function-unnamed   the same of functions
 --   matched, is-struct, ..             so it tells whether a module has the struct that a handle of another one names
 --   function-matched, is-function, ..  and the function
-use Rattle.mv_linker.proofs.Common.{ℕ, ◌>>=◌, ◌∙◌, ◌≡◌, FunctionDefinition, List, Module, ModuleName, None, Option, Some, StructDefinition, WellDefined, ap, arith, bytes_eq}
-use Rattle.mv_linker.proofs.Common.{bytes_eq-Decides, declared_in, false, find_index, function_place, is_struct, length, module_name, name_of_function, name_of_struct, on_bind, option_map_or, own_name}
+use Rattle.mv_linker.proofs.Common.{ℕ, ◌>>=◌, ◌∙◌, ◌≡◌, FunctionDefinition, List, Module, ModuleName, None, Option, Some, StructDefinition, WellDefined, ap, arith}
+use Rattle.mv_linker.proofs.Common.{declared_in, false, find_index, function_place, is_struct, module_name, name_of_function, name_of_struct, on_bind, option_map_or, own_name}
 use Rattle.mv_linker.proofs.Common.{Abilities, Bool, FunctionHandle, IsFunctionIn, IsOf, IsStructOf, StructHandle, StructName, function_fits, function_matches, function_named, none-some, option_map, same_abilities, struct_matches}
-use Rattle.mv_linker.proofs.Common.{refl, same_Some, same_struct, slice_get, slice_get_within, struct_abilities, subst, sym, true}
+use Rattle.mv_linker.proofs.Common.{refl, same_Some, slice_get, slice_get_within, struct_abilities, sym}
 use Rattle.mv_linker.specs.Identifiers.{struct_identifier}
-use Rattle.mv_linker.specs.Outline.{FunctionOutline, IsFunctionNamed, IsOutline, IsStructNamed, OutlineView, StructOutline}
+use Rattle.mv_linker.specs.Outline.{IsFunctionNamed, IsOutline, IsStructNamed, OutlineView, StructOutline}
 use Rattle.mv_linker.proofs.Found.{map_as_bind}
 use Rattle.mv_linker.proofs.Lemmas.{element_at, found_at, struct_named_so, struct_parts}
 use Rattle.mv_linker.proofs.NameLemmas.{named_in}
-use Rattle.mv_linker.proofs.OwnDefinitions.{function-at, function_named_so, own_handle, struct-at}
+use Rattle.mv_linker.proofs.OwnDefinitions.{own_handle, struct-at}
 use Rattle.mv_linker.proofs.Joining.Upgraded.{so-struct}
 use Rattle.mv_linker.proofs.Kept.OutlineLemmas.{named-place, no-function-named}
 

@@ -1,6 +1,6 @@
 -- What a handle names, in the module that its module handle leads to.
 use Rattle.mv_linker.proofs.Common.{[], ℕ, ◌++◌, ◌+◌, ◌<◌, ◌>>=◌, ◌∙◌, ◌∷◌, ◌≡◌, ◌≤◌, Abilities, AreTargets, Definition, EachAt, FunctionHandle, IsFunctionAt, IsFunctionIn, IsRefusedIn}
-use Rattle.mv_linker.proofs.Common.{IsOf, IsStructAt, IsStructOf, IsTarget, IsTrue, List, Memory, Module, ModuleName, None, Option, Phase, Refusal, Some, StructHandle, StructName, Target}
+use Rattle.mv_linker.proofs.Common.{IsOf, IsStructAt, IsStructOf, IsTarget, IsTrue, List, Memory, Module, ModuleName, None, Option, Phase, Refusal, Some, StructHandle, Target}
 use Rattle.mv_linker.proofs.Common.{and_from, and_parts, ap, arith, both_ways, cases_eq, declared, declared_in, false, first_so, function_is_there, function_matches, inl, inr, is_module}
 use Rattle.mv_linker.proofs.Common.{length, length_push, list_all, list_any, module_is_there, module_name, module_named, module_place, modules_are_there, option_and_then, option_map_or}
 use Rattle.mv_linker.proofs.Common.{refl, same_abilities, same_Some, second_so, slice_get, slice_get_past, slice_get_within, struct_is_there, struct_matches, structs_are_there, subst, suc}

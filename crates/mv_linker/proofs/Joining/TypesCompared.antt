@@ -2,12 +2,10 @@
 --   part-compared, type-compared   one type of each
 --   types-compared                 lists of them
 use Rattle.mv_linker.proofs.Common.{[], ℕ, ◌&&◌, ◌==◌, ◌>>=◌, ◌∙◌, ◌∷◌, ◌≡◌, AreStructsAt, Bool, Definition, IsPart, IsStructAt, Leaf, LeafTag, List, Module, None, Nothing, OfLeaf, OfStruct, Option}
-use Rattle.mv_linker.proofs.Common.{Part, ReferenceTag, Some, Struct, StructName, StructTag, Tag, Token, ValueType, and_from, and_parts, ap, ap₂, both_there, cases_Bool, eq-eqb, eqb-true, false, module_place}
-use Rattle.mv_linker.proofs.Common.{find_index, inl, inr, is_some, is_struct, none-some, option_map_or, refl, same_Some, same_struct, same_tag, same_types, slice_get, slice_get_past, struct_name, sym}
-use Rattle.mv_linker.proofs.Common.{token_named, true, value_type_named, both_ways, subst, AreTypes, IsType, LinkedType, MutableReference, Plain, Reference}
-use Rattle.std.specs.List.{AllZip}
+use Rattle.mv_linker.proofs.Common.{Part, ReferenceTag, Some, Struct, StructName, StructTag, Tag, Token, ValueType, and_from, and_parts, ap, ap₂, both_there, eq-eqb, eqb-true, false, module_place}
+use Rattle.mv_linker.proofs.Common.{find_index, is_some, is_struct, option_map_or, refl, same_Some, same_struct, same_tag, same_types, slice_get, slice_get_past, struct_name, sym}
+use Rattle.mv_linker.proofs.Common.{token_named, true, value_type_named, both_ways, AreTypes, IsType, LinkedType, MutableReference, Plain, Reference}
 use Rattle.mv_move_types.specs.declared.token.LeafKind.{LeafKind}
-use Rattle.mv_move_types.specs.Tokens.{same_kind}
 use Rattle.mv_linker.specs.Shapes.{is_of_value}
 use Rattle.mv_linker.specs.TypesByDefinition.{are_types, is_part, is_type, same_definition}
 use Rattle.mv_linker.specs.declared.interface.LinkedType.TheVariants.{Plain as Value, Reference as ReferenceTo, MutableReference as MutableReferenceTo}

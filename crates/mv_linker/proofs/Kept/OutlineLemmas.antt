@@ -2,17 +2,14 @@
 --   outline-is, outline-none   what is made of a module whose indices are in bounds, and of one that defines nothing
 --   named-place          the function that has an identifier is the one of this name
 --   no-function-named    there is none of this name where none has the identifier
-use Rattle.mv_linker.proofs.Common.{[], ℕ, ◌∙◌, ◌∷◌, ◌≡◌, AreEach, AreFieldNames, Bool, Field, FunctionDefinition, FunctionEntry, FunctionOutline, InBounds, IsFunctionNamed, IsFunctionOutline}
-use Rattle.mv_linker.proofs.Common.{IsOutline, IsStructNamed, IsStructOutline, List, Module, None, Option, OutlineView, Some, StructDefinition, StructEntry, StructOutline, WellDefined, and_parts, ap, arith}
+use Rattle.mv_linker.proofs.Common.{[], ℕ, ◌∙◌, ◌∷◌, ◌≡◌, AreEach, AreFieldNames, Field, FunctionDefinition, FunctionOutline, InBounds, IsFunctionOutline}
+use Rattle.mv_linker.proofs.Common.{IsOutline, IsStructOutline, List, Module, None, Option, OutlineView, Some, StructDefinition, WellDefined, and_parts, ap, arith}
 use Rattle.mv_linker.proofs.Common.{below, bytes_eq, bytes_eq-Decides, false, field_in, function_by, function_handle_in, function_kept, function_place, identifier_at, length, list_all, ltb-true, map, map-map}
-use Rattle.mv_linker.proofs.Common.{name_of_function, names_by, none-some, option_map, option_map_or, outline_kept, position, refl, same_Some, slice_get, slice_get-map, slice_get_within, struct_by, struct_handle_in}
+use Rattle.mv_linker.proofs.Common.{name_of_function, names_by, none-some, option_map_or, outline_kept, refl, same_Some, slice_get, slice_get_within, struct_by, struct_handle_in}
 use Rattle.mv_linker.proofs.Common.{struct_in, struct_kept, subst, sym, true, unwrap_or}
 use Rattle.std.specs.List.{AllZip}
-use Rattle.std.specs.Prelude.{MatchOption}
-use Rattle.mv_bounds.proofs.Entries.{mapped-at}
 use Rattle.mv_bounds.proofs.FunctionLemmas.{handle_below}
 use Rattle.mv_linker.proofs.Each.{each-mapped}
-use Rattle.mv_linker.proofs.Found.{none_passes, position-find_index}
 use Rattle.mv_linker.proofs.Lemmas.{all_at, element_at, found_at}
 use Rattle.mv_linker.proofs.OwnDefinitions.{function-at, function_named_so}
 

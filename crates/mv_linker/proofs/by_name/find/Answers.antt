@@ -1,6 +1,5 @@
-use Rattle.mv_linker.proofs.Common.{◌≡◌, ◌∙◌, ℕ, List, Some, ap, arith, length, length-map, option_map, slice_get, slice_get-map, sym}
-use Rattle.mv_linker.specs.ByName.{IsByName, indices_in}
-use Rattle.mv_linker.specs.Outline.{identifier_at}
+use Rattle.mv_linker.proofs.Common.{◌≡◌, ◌∙◌, ℕ, List, Some, ap, arith, length-map, option_map, slice_get, slice_get-map, sym}
+use Rattle.mv_linker.specs.ByName.{indices_in}
 use Rattle.std.specs.Ordering.{nat_cmp}
 use Rattle.std.specs.Cmp.Lexicographic.{slice_cmp}
 use Rattle.mv_linker.specs.declared.by_name.ByName.{ByName}

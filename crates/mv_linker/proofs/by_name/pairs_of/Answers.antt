@@ -1,7 +1,7 @@
-use Rattle.mv_linker.proofs.Common.{◌∙◌, ap, arith, length, length-map, refl, slice_get-map, slice_get_read, sym}
+use Rattle.mv_linker.proofs.Common.{arith, length-map}
 use Rattle.mv_linker.specs.ByName.{names_at}
 use Rattle.mv_linker.specs.Outline.{identifier_at}
-use Rattle.mv_linker.proofs.Kept.ByHalves.{all-pairs, more-pairs}
+use Rattle.mv_linker.proofs.Kept.ByHalves.{all-pairs}
 use Rattle.mv_linker.proofs.by_name.pairs_of.Goals as goal
 
 pub returns : goal.returns

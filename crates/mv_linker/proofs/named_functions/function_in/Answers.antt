@@ -1,4 +1,4 @@
-use Rattle.mv_linker.proofs.Common.{◌∙◌, ap, sym}
+use Rattle.mv_linker.proofs.Common.{◌∙◌, sym}
 use Rattle.mv_linker.proofs.Joining.NamedThere.{function-matched, function-missing, function-nameless, is-function}
 use Rattle.mv_linker.proofs.named_functions.function_in.Goals as goal
 

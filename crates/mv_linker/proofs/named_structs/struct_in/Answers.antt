@@ -1,4 +1,4 @@
-use Rattle.mv_linker.proofs.Common.{◌∙◌, ap, sym}
+use Rattle.mv_linker.proofs.Common.{◌∙◌, sym}
 use Rattle.mv_linker.proofs.Joining.NamedThere.{able, is-struct, matched, missing, nameless}
 use Rattle.mv_linker.proofs.named_structs.struct_in.Goals as goal
 

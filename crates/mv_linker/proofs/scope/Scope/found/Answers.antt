@@ -1,4 +1,4 @@
-use Rattle.mv_linker.proofs.Common.{◌<◌, ◌∙◌, ◌≡◌, None, New, Some, ap, arith, length, length-map, offered, refl, slice_get, slice_get_read, slice_get_within, sym, tables_in, ◌==◌, places_in, position}
+use Rattle.mv_linker.proofs.Common.{◌<◌, ◌∙◌, ◌≡◌, None, New, ap, arith, length, length-map, offered, refl, slice_get_read, slice_get_within, sym, tables_in, ◌==◌, places_in, position}
 use Rattle.mv_linker.proofs.Joining.Bundled.{no-newest, place-at}
 use Rattle.mv_linker.proofs.Joining.FoundLemmas.{kept-found, new-found}
 use Rattle.mv_linker.proofs.Joining.Joins.{placed-length}

@@ -1,4 +1,4 @@
-use Rattle.mv_linker.proofs.Common.{◌∙◌, ap, refl, sym, is_module, ModuleName, modules_in}
+use Rattle.mv_linker.proofs.Common.{refl, sym, is_module, ModuleName, modules_in}
 use Rattle.mv_linker.proofs.Joining.Joins.{well-defined}
 use Rattle.mv_linker.proofs.Joining.Resolving.{nowhere}
 use Rattle.mv_linker.proofs.NameLemmas.{module_place-is}
