@@ -134,6 +134,38 @@ fn long_payloads_are_read_in_pieces(rt: HostRuntime) {
     );
 }
 
+// A payload that asks for a report, and what is shown and counted then where one coin of 7 is stored.
+const REPORTS: [(&[u8], &str, &str); 2] = [
+    (
+        &[],
+        "at 00000000000000000000000000000001 00000000000000000000000000000001::M::Coin {7}\nend 1\n",
+        "count 00000000000000000000000000000001::M::Coin stored 1 packed 1 unpacked 0\nend 1\n",
+    ),
+    (
+        &[1],
+        "json {\"show\":[{\"address\":\"00000000000000000000000000000001\",\"struct\":\"00000000000000000000000000000001::M::Coin\",\"value\":\"{7}\"}]}\n",
+        "json {\"audit\":[{\"packed\":\"1\",\"stored\":\"1\",\"struct\":\"00000000000000000000000000000001::M::Coin\",\"unpacked\":\"0\"}]}\n",
+    ),
+];
+
+// What is shown and counted is given as one text, too.
+#[test]
+fn reports_are_given_as_texts(rt: HostRuntime) -> Result<(), Fail> {
+    let row = Row::that_shows("a coin is counted and shown")?;
+    let bytes = row.input(rt.alloc())?;
+    let mut ledger = Ledger::new(rt.alloc());
+    let mut writer = room(rt.alloc());
+    let answer = answered(&mut whole(&bytes), &mut writer, &mut ledger);
+    assert!(rt; answer.is_ok());
+    for (payload, shown, counted) in REPORTS {
+        let (Ok(show), Ok(audit)) = (ledger.show(payload), ledger.audit(payload)) else {
+            return Err(Fail::from("memory ran out"));
+        };
+        assert_eq!(rt; (show.as_str(), audit.as_str()), (shown, counted));
+    }
+    Ok(())
+}
+
 // After a fault a ledger answers the records after those that it was changed by. They count from 1 again.
 
 #[test]
