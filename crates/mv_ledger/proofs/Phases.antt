@@ -6,6 +6,11 @@ use Rattle.mv_ledger.proofs.Common.{no_certificate, no_edges, no_flow, no_locals
 use Rattle.mv_bounds.specs.Answers.{IsRefusedByBounds, FailsBounds, out_of_bounds, ill_defined}
 use Rattle.mv_certificate.specs.Answers.{IsRefusedByCertificate, FailsCertificate, bad_locals, bad_borrows, bad_acquires}
 
+-- a phase is no want of memory
+pub phase-no-memory : (e : Refusal) (n : ℕ) → e ≡ Phase n → e ≡ Memory → ⊥
+phase-no-memory (Phase k) n p q = cc
+phase-no-memory Memory n p q = cc
+
 module _ (o : Offer) where
   pub refused_text : (e : Refusal) → (e ≡ Phase 2) ⊎ (e ≡ Memory) → (e ≡ Phase 2 → (m : Module) → Spells o.text m → ⊥) → IsRefusedOffer o e
   refused_text Memory is none = tt

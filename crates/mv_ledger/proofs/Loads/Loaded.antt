@@ -17,7 +17,7 @@ use Rattle.mv_ledger.proofs.Loads.LoadedTallies.{counts-are, still-long, still-m
 use Rattle.mv_ledger.proofs.Spelling.{passed-spelled}
 use Rattle.mv_ledger.proofs.Bundles.Verifying.{as-many}
 use Rattle.mv_ledger.proofs.Lists.{all-weaker}
-use Rattle.mv_linker.proofs.Outcomes.{phase-no-memory}
+use Rattle.mv_ledger.proofs.Phases.{phase-no-memory}
 
 -- ---- lists
 

@@ -4,7 +4,7 @@ use Rattle.mv_ledger.proofs.Ledgers.{ledger-run, ledger-kept}
 use Rattle.mv_ledger.proofs.Replying.{bad_run_replies, rejected_replies, had_sound, had_replies, unchanged, untold_replies}
 use Rattle.mv_ledger.proofs.Ledger.execute.Goals as goal
 use Rattle.mv_ledger.proofs.Ledger.execute.Goals.{then-is_told, else-is_told}
-use Rattle.mv_linker.proofs.Outcomes.{phase-no-memory}
+use Rattle.mv_ledger.proofs.Phases.{phase-no-memory}
 
 pub invariant_of-self : goal.invariant_of-self
 invariant_of-self c =

@@ -1,6 +1,6 @@
 use Rattle.mv_ledger.proofs.Common.{Err, ap, inl, inr, no_bundle}
 use Rattle.mv_ledger.proofs.publishing.publish.Goals as goal
-use Rattle.mv_linker.proofs.Outcomes.{phase-no-memory}
+use Rattle.mv_ledger.proofs.Phases.{phase-no-memory}
 
 pub join_bundle-requires-clause-asked : goal.join_bundle-requires-clause-asked
 join_bundle-requires-clause-asked c = (c.args.payload.now, c.in-Ok.ensures.ok)
