@@ -1,0 +1,89 @@
+"""The must-fail edits of the crates, as they stand in `must-fail/`, and the functions of a file, which they change."""
+
+import re
+from dataclasses import dataclass, field
+from typing import List, NamedTuple, Optional
+
+from common import CRATES
+
+MORE = "more.md "  # how the name of an edit begins that stands there
+FUNCTION = re.compile(r"^( *)(?:pub(?:\([^)]*\))? )?(?:const )?(?:unsafe )?(?:extern \"C\" )?fn (\w+)")
+
+
+class Change(NamedTuple):
+    """The text that an edit takes from a file, and the one that it puts there; what a line is missing for is empty."""
+
+    file: str
+    old: str
+    new: str
+
+
+class Place(NamedTuple):
+    """Where a change stands: its file, and which function of that, or None."""
+
+    file: str
+    function: Optional[int]
+
+
+@dataclass
+class Edit:
+    """A must-fail edit: the texts that it takes from files and puts into them."""
+
+    crate: str
+    name: str
+    changes: List[Change] = field(default_factory=list)
+    places: List[Place] = field(default_factory=list)
+
+    def __str__(self) -> str:
+        return f"{self.crate}/must-fail/{self.name}"
+
+
+@dataclass
+class Function:
+    name: str
+    first: int
+    last: int
+
+
+def functions_of(text: str) -> List[Function]:
+    """The functions of a file in their order; a function's lines begin behind the one before it."""
+    found: List[Function] = []
+    lines, at = text.split("\n"), 0
+    while at < len(lines):
+        match = FUNCTION.match(lines[at])
+        if match:
+            start = found[-1].last + 1 if found else 0
+            ends = (match[1] + "}", match[1] + "};")
+            first, at = at, at if lines[at].rstrip().endswith((";", "}")) else at + 1
+            while at > first and at < len(lines) - 1 and lines[at].rstrip() not in ends and not lines[at].endswith(";;"):
+                if lines[at].startswith(match[1] + ";") or (at == first + 1 and lines[at].strip() == ";"):
+                    break
+                at += 1
+            found.append(Function(match[2], start, at))
+        at += 1
+    return found
+
+
+def parsed(crate: str, name: str, lines: List[str]) -> Edit:
+    """An edit from its lines."""
+    edit, file, old = Edit(crate, name), "", ""
+    for line in lines:
+        if line.startswith("file: "):
+            file = line[6:].strip()
+        elif line.startswith("old: "):
+            old = line[5:]
+        elif line.startswith("new:"):
+            edit.changes.append(Change(file, old, line[5:]))
+    return edit
+
+
+def edits_of(crate: str) -> List[Edit]:
+    """All edits of a crate: the files of the gate, then the sections of more.md."""
+    folder, found = CRATES / crate / "must-fail", []
+    for file in sorted(folder.glob("*.edit")):
+        found.append(parsed(crate, file.stem, file.read_text().split("\n")))
+    if (folder / "more.md").exists():
+        for section in re.split(r"^## ", (folder / "more.md").read_text(), flags=re.M)[1:]:
+            name, *lines = section.split("\n")
+            found.append(parsed(crate, f"{MORE}{name.strip()}", [line[4:] for line in lines if line.startswith("    ")]))
+    return found
