@@ -1,0 +1,140 @@
+"""How try-exits runs the program, and what it runs it on."""
+
+import os
+import resource
+import select
+import subprocess
+from functools import lru_cache
+from pathlib import Path
+from typing import Any, Callable, Dict, Iterator, Optional, Sequence, Tuple, Union
+
+import common
+from common import EXAMPLES
+
+# A word of the command line, which may be no text.
+Given = Union[str, bytes, Path]
+# How a program ended: its status, its standard output where that was read, and what its standard error says of a fault.
+End = Tuple[int, Optional[bytes], bytes]
+# What each run shows, how it ended, and how it has to end.
+Cases = Iterator[Tuple[str, object, object]]
+
+STREAM = EXAMPLES / "first-coin.stream"
+REPORT = b"1 published 1\n2 returned 5\n"
+READ, WRITE, MEMORY = b"fault: read\n", b"fault: write\n", b"fault: memory\n"
+MEGABYTE = 1 << 20
+# The bytes of the example's first record.
+FIRST = 124
+# A module whose function never ends, and a run of it that uses up the largest budget.
+SPIN = bytes.fromhex("""0158000000000000000000000000000000010143a11ceb0b0500000006010002030205050701070807080f100c1f080000000100000000014d
+    047370696e00000000000000000000000000000001000104000001050000020100""")
+RUN = bytes.fromhex("022c0000000000000000000000000000000000000000000000000000000000000001014d047370696e80ade20400")
+# The module of no definition, and the ledger after the example: its head, its module of coins with the certificate, what was made
+# of coins and taken apart, and the one that is stored; in the form of today, and in the old one.
+EMPTY = bytes.fromhex("a11ceb0b050000000301000207020208041000000" "14d" + 15 * "00" + "0100")
+ONE = 15 * "00" + "01"
+HEAD = STREAM.read_bytes()[19:124]
+SAVED = b"MVL2\1\1" + HEAD + bytes.fromhex("0100" + "01" + ONE + "0700000000000000")
+OLD_FORM = b"MVL1\1\1" + HEAD + bytes.fromhex("01" + 31 * "00" + "01" + ONE + "0000" + "0700000000000000")
+# How it ends where the ledger after the example is kept, where it shows at the end that it can't be, and where that shows before
+# the first record is answered.
+KEPT, NOT_KEPT, REFUSED = (0, REPORT, b""), (1, REPORT, WRITE), (1, b"", WRITE)
+# The ledger of nothing, as one that stands where another is saved.
+OLD = b"MVL2\0\0"
+COUNTED = b"3 count 00000000000000000000000000000001::M::Coin stored 1 packed 1 unpacked 0\n3 end 1\n"
+
+
+@lru_cache(maxsize=None)
+def program() -> str:
+    """The program of these sources, which is built where there is none."""
+    return common.program() or ""
+
+
+def closes(number: int) -> Callable[[], None]:
+    return lambda: os.close(number)
+
+
+def limits(megabytes: int) -> Callable[[], None]:
+    return lambda: resource.setrlimit(resource.RLIMIT_AS, (megabytes * MEGABYTE, megabytes * MEGABYTE))
+
+
+def no_bytes() -> None:
+    resource.setrlimit(resource.RLIMIT_FSIZE, (0, 0))
+
+
+def broken_pipe() -> int:
+    """An end of a pipe that nobody reads."""
+    read, write = os.pipe()
+    os.close(read)
+    return write
+
+
+def fault_in(errors: bytes) -> bytes:
+    """What standard error says of a fault: its first lines, without the one behind them that has the file and the reason."""
+    lines = errors.splitlines(keepends=True)
+    return b"".join(lines[:-1] if lines and lines[-1].startswith(b"moveledger: ") else lines)
+
+
+def ended(words: Sequence[Given], stdout: Any = subprocess.PIPE, **settings: Any) -> End:
+    run = subprocess.run([program(), *words], stdout=stdout, stderr=subprocess.PIPE, **settings)
+    return run.returncode, run.stdout, fault_in(run.stderr)
+
+
+def explained(words: Sequence[Given], **settings: Any) -> Tuple[int, str]:
+    """The status, and all that standard error says."""
+    run = subprocess.run([program(), *words], stdout=subprocess.PIPE, stderr=subprocess.PIPE, **settings)
+    return run.returncode, run.stderr.decode()
+
+
+def saved(path: Given, **settings: Any) -> End:
+    """How it ends where the ledger after the example is to be saved in a file."""
+    return ended(["apply", "--save", path, STREAM], **settings)
+
+
+def line_from(number: int, seconds: float = 60) -> bytes:
+    """The next line, from a file that may give a part of it at a time; what came of it, where no more comes."""
+    line = b""
+    while not line.endswith(b"\n") and select.select([number], [], [], seconds)[0]:
+        byte = os.read(number, 1)
+        if not byte:
+            break
+        line += byte
+    return line
+
+
+class Running:
+    """A program that was started, by these words, over pipes."""
+
+    def __init__(self, words: Sequence[Given], **settings: Any):
+        pipes: Dict[str, Any] = {"stdin": subprocess.PIPE, "stdout": subprocess.PIPE, "stderr": subprocess.PIPE, **settings}
+        self.run: "subprocess.Popen[bytes]" = subprocess.Popen(words, **pipes)
+
+    def write(self, data: bytes) -> None:
+        assert self.run.stdin is not None
+        self.run.stdin.write(data)
+        self.run.stdin.flush()
+
+    def lines(self, count: int) -> bytes:
+        """The next lines of its report."""
+        assert self.run.stdout is not None
+        number = self.run.stdout.fileno()
+        return b"".join(line_from(number) for _ in range(count))
+
+    def sent(self, record: bytes, lines: int = 1) -> bytes:
+        """What is answered to a record."""
+        self.write(record)
+        return self.lines(lines)
+
+    def end_input(self) -> None:
+        assert self.run.stdin is not None
+        self.run.stdin.close()
+
+    def ended(self) -> Tuple[int, bytes, bytes]:
+        """How it ends by itself: its status, the rest of its report, and all that standard error says."""
+        status = self.run.wait(60)
+        rest, errors = (file.read() if file is not None else b"" for file in (self.run.stdout, self.run.stderr))
+        return status, rest, errors
+
+    def closed(self) -> Tuple[int, bytes, str]:
+        """How it ends once it is given no more."""
+        rest, errors = self.run.communicate(timeout=60)
+        return self.run.returncode, rest, errors.decode()
