@@ -97,6 +97,11 @@ def crates(with_static: bool = True) -> Dict[str, Tuple[str, ...]]:
     return {name.split()[0]: tuple(uses.split()) for name, colon, uses in lines if colon and (with_static or "staticlib" not in name)}
 
 
+def printed(*words: Word) -> str:
+    """What a command prints, without the blanks around it. Raises where that ends badly."""
+    return subprocess.run(words, cwd=TOP, stdout=subprocess.PIPE, check=True, text=True).stdout.strip()
+
+
 def has(command: str) -> bool:
     return shutil.which(command) is not None
 
