@@ -79,7 +79,7 @@ pub fn rows_of(alloc: Global, text: &'static str) -> Result<Vec<Row>, Fail> {
 }
 
 // A row begins with # and says what it shows. Then come its records in hexadecimal, with a blank between them, and the lines of
-// the report on them. What stands behind is no part of it. tools/movedis tells in words what the records are.
+// the report on them. What stands behind is no part of it. scripts/make-rows makes them of the texts in tests/rows.
 const ROWS: &str = r#"
 A coin that is minted, counted, shown and burnt.
 
