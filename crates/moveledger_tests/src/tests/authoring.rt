@@ -115,6 +115,7 @@ fn texts_are_checked(rt: HostRuntime) -> Result<(), Fail> {
 }
 
 // A row begins with # and says what it shows. Then come a module in hexadecimal, and what is printed of it.
+// scripts/make-rows makes them of the texts in tests/rows.
 const PROVED: &str = r"
 # a module without functions has an empty certificate
 a11ceb0b05000000030100020702020804100000014d0000000000000000000000000000000100
@@ -182,6 +183,7 @@ refused 12
 ";
 
 // What it shows, a module, and what is printed of it with a text, in which \r and \n stand for one byte each.
+// scripts/make-rows makes these too.
 const CHECKED: &str = r"
 # a text may have no line end
 a11ceb0b0500000008010002020204030605050b04070f0e081d100a2d050c320f000000010c00000301000000020c03014d04436f696e0176046d696e740000000000000000000000000000000100020102030001040000050e000b0112002d000200
