@@ -11,7 +11,7 @@ use super::Module;
 use super::entries::Entry;
 use super::headers::TableKind;
 use super::laws::{are_bytes, modules_are_read_by_text};
-use mv_module_text::write_index;
+use mv_module_text::{write_index, write_u32};
 use std::alloc::{AllocError, Global};
 
 // The magic bytes, with which each module begins.
@@ -125,7 +125,7 @@ fn write(alloc: Global, m: &Module<'_>) -> Result<Vec<u8>, AllocError>
 {
     let layout = lay_out(alloc, m)?;
     let mut out = Vec::from_slice(alloc, &MAGIC)?;
-    out.extend_from_slice(&u32::from(m.version().number()).to_le_bytes())?;
+    write_u32(u32::from(m.version().number()), &mut out)?;
     mv_uleb::write(layout.headers.len() as u64, &mut out)?;
     write_headers(&layout.headers, &mut out)?;
     out.extend_from_slice(&layout.contents)?;

@@ -29,5 +29,5 @@ pub use writing::{
     FunctionParts, write_address, write_constant, write_field, write_field_handle,
     write_function_definition, write_function_handle, write_identifier, write_index,
     write_instruction, write_module_handle, write_signature, write_struct_definition,
-    write_struct_handle, write_token,
+    write_struct_handle, write_token, write_u32,
 };

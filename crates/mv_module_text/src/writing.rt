@@ -3,6 +3,7 @@
 ghost use Rattle.std.specs.Prelude.{◌≡◌, ◌<◌, ◌^◌, ◌∷◌, [], take, OnOk, OnErr, IsTrue, ℕ, List};
 ghost use Rattle.mv_uleb.specs.Uleb.{uleb};
 ghost use Rattle.mv_move_types.specs.Tokens.{width_bits};
+ghost use Rattle.mv_move_types.specs.declared.token.Width.TheVariants.{U16, U32, U64, U128};
 ghost use Rattle.mv_module_text.specs.Fits.{immediate_fits};
 ghost use Rattle.mv_module_text.specs.Writes.{Writes};
 ghost use Rattle.mv_module_text.specs.Written.{definition};
@@ -11,6 +12,7 @@ ghost use Rattle.mv_module_text.specs.Entries.{function_handle_text, signature_t
 ghost use Rattle.mv_module_text.specs.Entries.{struct_definition_text, number_text, immediate_text, instruction_text, function_definition_text};
 ghost use Rattle.mv_module_text.specs.Entries.{field_handle_text};
 
+use byteorder::{ByteOrder, LittleEndian};
 use mv_move_types::{
     Field, FieldHandle, FunctionHandle, Immediate, Instruction, LeafKind, ModuleHandle,
     StructHandle, Token, ValueType, Visibility, Width,
@@ -201,6 +203,42 @@ pub fn write_struct_definition(
     or_undo(write_list(fields, out), count, out)
 }
 
+// Writes a number of 16 bits, little-endian.
+fn write_u16(number: u16, out: &mut Vec<u8>) -> Result<(), AllocError>
+    ensures { Writes (number_text U16 number) out.old.items result out.new.items }
+{
+    let mut bytes = [0; 2];
+    LittleEndian::write_u16(&mut bytes, number);
+    out.extend_from_slice(&bytes)
+}
+
+/// Writes a number of 32 bits, little-endian.
+pub fn write_u32(number: u32, out: &mut Vec<u8>) -> Result<(), AllocError>
+    ensures { Writes (number_text U32 number) out.old.items result out.new.items }
+{
+    let mut bytes = [0; 4];
+    LittleEndian::write_u32(&mut bytes, number);
+    out.extend_from_slice(&bytes)
+}
+
+// Writes a number of 64 bits, little-endian.
+fn write_u64(number: u64, out: &mut Vec<u8>) -> Result<(), AllocError>
+    ensures { Writes (number_text U64 number) out.old.items result out.new.items }
+{
+    let mut bytes = [0; 8];
+    LittleEndian::write_u64(&mut bytes, number);
+    out.extend_from_slice(&bytes)
+}
+
+// Writes a number of 128 bits, little-endian.
+fn write_u128(number: u128, out: &mut Vec<u8>) -> Result<(), AllocError>
+    ensures { Writes (number_text U128 number) out.old.items result out.new.items }
+{
+    let mut bytes = [0; 16];
+    LittleEndian::write_u128(&mut bytes, number);
+    out.extend_from_slice(&bytes)
+}
+
 // Writes a number in as many bytes as its width has, little-endian.
 fn write_number(width: Width, number: u128, out: &mut Vec<u8>) -> Result<(), AllocError>
     requires { number < 2 ^ width_bits width }
@@ -208,10 +246,10 @@ fn write_number(width: Width, number: u128, out: &mut Vec<u8>) -> Result<(), All
 {
     match width {
         Width::U8 => write_byte(number as u8, out),
-        Width::U16 => out.extend_from_slice(&(number as u16).to_le_bytes()),
-        Width::U32 => out.extend_from_slice(&(number as u32).to_le_bytes()),
-        Width::U64 => out.extend_from_slice(&(number as u64).to_le_bytes()),
-        Width::U128 => out.extend_from_slice(&number.to_le_bytes()),
+        Width::U16 => write_u16(number as u16, out),
+        Width::U32 => write_u32(number as u32, out),
+        Width::U64 => write_u64(number as u64, out),
+        Width::U128 => write_u128(number, out),
     }
 }
 
