@@ -29,15 +29,19 @@ use mv_lattice::SolveError;
 use mv_move_types::Refusal;
 use mv_type_states::Typed;
 use std::alloc::{AllocError, Global};
+use thiserror::Error;
 
 /// Why no certificate is made.
-#[derive(Drop, Clone, Copy, PartialEq, Eq, Debug)]
+#[derive(Drop, Clone, Copy, PartialEq, Eq, Debug, Error)]
 pub enum ProveError {
     /// No certificate passes this phase: 10, 11 or 12.
+    #[error("refused {0}")]
     Refused(u8),
     /// A block would be visited a 257th time, or a state would have more than 1,024 edges or a label of more than 8 positions.
+    #[error("too complex")]
     TooComplex,
     /// An allocation failed.
+    #[error("out of memory")]
     Memory,
 }
 

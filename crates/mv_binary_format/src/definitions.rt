@@ -121,7 +121,7 @@ impl FunctionDefinition {
     }
 
     /// Its instructions, in order.
-    pub fn code(&self) -> &[Instruction]
+    pub fn instructions(&self) -> &[Instruction]
         ensures { result.now ≡ self.now.code }
     {
         &self.code
@@ -158,7 +158,7 @@ impl<'a> Entry<'a> for FunctionDefinition {
             is_entry: self.is_entry(),
             acquires: self.acquires(),
             locals: self.locals(),
-            code: self.code(),
+            code: self.instructions(),
         };
         write_function_definition(parts, out)
     }

@@ -15,6 +15,7 @@
 #![tactic(auto)]
 
 mod contents;
+mod cursor;
 mod definitions;
 mod entries;
 mod headers;
@@ -29,6 +30,7 @@ ghost use Rattle.mv_binary_format.specs.ModuleText.{IsModuleText};
 ghost use Rattle.mv_binary_format.specs.Parsing.{module_of};
 ghost use Rattle.mv_binary_format.specs.Outcomes.{Decides};
 
+pub use cursor::{Cursor, code};
 pub use definitions::{FunctionDefinition, StructDefinition};
 pub use laws::{modules_are_read_by_text, texts_are_of_one_module};
 pub use layout::encode;

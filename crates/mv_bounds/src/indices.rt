@@ -224,7 +224,7 @@ fn function_in(m: &Module, d: &FunctionDefinition) -> bool
     usize::from(d.handle()) < m.function_handles().len()
         && usize::from(d.locals()) < m.signature_count()
         && acquires_in(m, d)
-        && code_in(m, locals, d.code())
+        && code_in(m, locals, d.instructions())
 }
 
 /// Whether what the functions name is there.

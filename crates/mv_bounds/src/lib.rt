@@ -74,7 +74,7 @@ impl<'a> Bounded<'a> {
         ensures { IfSome (slice_get self.now.functions f) (λ d. result.now ≡ d.code) }
     {
         let functions = self.module().functions();
-        functions[f].code()
+        functions[f].instructions()
     }
 }
 

@@ -44,3 +44,4 @@ pub use edges::Edges;
 pub use graph::{Graph, Heir};
 pub use label::{Change, Label};
 pub use nodes::{All, Globals, NodeSet, One};
+pub use search::leq_counted;

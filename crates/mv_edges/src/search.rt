@@ -97,27 +97,27 @@ impl Edges {
     pub fn leq(&self, other: &Edges) -> bool
         ensures { result ≡ edges_leq self.now other.now }
     {
-        Edges::leq_counted(self, other, &mut 0)
+        leq_counted(self, other, &mut 0)
     }
+}
 
-    /// Whether each edge of `a` is below one of `b`. Each comparison of two edges adds one to the count, which stops at
-    /// `u64::MAX`.
-    ///
-    /// Where `b` has at most 1,024 edges and lists of at most 8 positions, that is at most 110 for each edge of `a`: 10
-    /// searches of at most 11 comparisons. Where `b` has an edge, it is at least one for each edge of `a` that is looked up: for
-    /// all of them, where each is below one of `b`.
-    pub fn leq_counted(a: &Edges, b: &Edges, comparisons: &mut u64) -> bool
-        ensures value { result ≡ edges_leq a.now b.now }
-        ensures each { IsTrue result → 0 < length b.now → counted (length a.now) comparisons.old ≤ comparisons.new }
-        ensures some { 0 < length a.now → 0 < length b.now → counted 1 comparisons.old ≤ comparisons.new }
-        ensures count { length b.now ≤ most_edges → longest b.now ≤ most_positions → comparisons.new ≤ comparisons.old + 110 * length a.now }
-    {
-        let deepest = b.longest();
-        for e in a.as_slice() {
-            if !b.reach(&e.view(), deepest, comparisons) {
-                return false;
-            }
+/// Whether each edge of `a` is below one of `b`. Each comparison of two edges adds one to the count, which stops at
+/// `u64::MAX`.
+///
+/// Where `b` has at most 1,024 edges and lists of at most 8 positions, that is at most 110 for each edge of `a`: 10
+/// searches of at most 11 comparisons. Where `b` has an edge, it is at least one for each edge of `a` that is looked up: for
+/// all of them, where each is below one of `b`.
+pub fn leq_counted(a: &Edges, b: &Edges, comparisons: &mut u64) -> bool
+    ensures value { result ≡ edges_leq a.now b.now }
+    ensures each { IsTrue result → 0 < length b.now → counted (length a.now) comparisons.old ≤ comparisons.new }
+    ensures some { 0 < length a.now → 0 < length b.now → counted 1 comparisons.old ≤ comparisons.new }
+    ensures count { length b.now ≤ most_edges → longest b.now ≤ most_positions → comparisons.new ≤ comparisons.old + 110 * length a.now }
+{
+    let deepest = b.longest();
+    for e in a.as_slice() {
+        if !b.reach(&e.view(), deepest, comparisons) {
+            return false;
         }
-        true
     }
+    true
 }

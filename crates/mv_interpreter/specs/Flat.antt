@@ -7,3 +7,4 @@ pub mod Outcomes
 pub mod Laws
 pub mod Agreement
 pub mod Published
+pub mod Offsets

@@ -26,13 +26,16 @@ mod search;
 use mv_cfg::{Block, Cfg};
 pub use search::{SolveError, solve};
 use std::alloc::{AllocError, Global};
+use thiserror::Error;
 
 /// Why a state cannot be carried through an instruction, or a flow is not accepted.
-#[derive(Drop, Clone, Copy, PartialEq, Eq, Debug)]
+#[derive(Drop, Clone, Copy, PartialEq, Eq, Debug, Error)]
 pub enum StepError {
     /// A need of an instruction fails, or a stated state is not above what flows into it.
+    #[error("a need fails")]
     Need,
     /// An allocation failed.
+    #[error("out of memory")]
     Memory,
 }
 

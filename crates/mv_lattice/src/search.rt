@@ -8,15 +8,19 @@ ghost use Rattle.mv_lattice.specs.Work.{HasLarge, HasChain, AllStated, IsWork, I
 use crate::{Domain, StepError, pass_through};
 use mv_cfg::{Block, Cfg};
 use std::alloc::{AllocError, Global};
+use thiserror::Error;
 
 /// Why no closed flow is found.
-#[derive(Drop, Clone, Copy, PartialEq, Eq, Debug)]
+#[derive(Drop, Clone, Copy, PartialEq, Eq, Debug, Error)]
 pub enum SolveError {
     /// There is no closed flow: a need of an instruction fails.
+    #[error("a need fails")]
     Need,
     /// A state that would be stated is too large, or a block would be visited a 257th time.
+    #[error("too complex")]
     TooComplex,
     /// An allocation failed.
+    #[error("out of memory")]
     Memory,
 }
 

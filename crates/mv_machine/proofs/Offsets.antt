@@ -1,37 +1,6 @@
 -- Worked offsets of places, by computation.
 use Rattle.mv_machine.proofs.Common.{[], ℕ, ◌∷◌, ◌≡◌, List, None, Option, Some, false, refl, true, Module, Number, Token, Plain, OfLeaf, OfStruct, U64}
-use Rattle.std.specs.Prelude.{◌+◌, take, slice_get}
-use Rattle.mv_move_types.specs.Limits.{most_nesting}
-use Rattle.mv_move_types.specs.declared.tables.Field.{Field}
-use Rattle.mv_move_types.specs.Options.{◌>>=◌}
-use Rattle.mv_move_types.specs.Names.{StructName}
-use Rattle.mv_move_types.specs.Module.{struct_name}
-use Rattle.mv_move_types.specs.Named.{definition_of}
-use Rattle.mv_move_types.specs.Leaves.{sum_of_fields, leaves_of, leaves_within}
-
--- the leaves of a type
-abbrev width : List Module → Module → Token → Option ℕ
-width store m t = leaves_of (leaves_within most_nesting store) m t
-
--- the struct that a field's type is, with its module and fields
-abbrev inner : List Module → Module → Token → Option (Module × List Field)
-inner store m (Plain (OfStruct h)) = struct_name m h >>= definition_of store
-inner store m _ = None
-
--- the leaves before the place that a list leads to in these fields
-abbrev offset_in : List Module → List ℕ → Module × List Field → Option ℕ
-offset_in store [] at = Some 0
-offset_in store (i ∷ []) at = sum_of_fields (width store at.0) (take i at.1)
-offset_in store (i ∷ j ∷ path) at = do
-  before ← sum_of_fields (width store at.0) (take i at.1)
-  f ← slice_get at.1 i
-  deeper ← inner store at.0 f.token
-  rest ← offset_in store (j ∷ path) deeper
-  Some (before + rest)
-
--- the leaves of a struct before a place in it
-abbrev offset : List Module → StructName → List ℕ → Option ℕ
-offset store name path = definition_of store name >>= offset_in store path
+use Rattle.mv_machine.specs.Offsets.{width, offset}
 
 abbrev number : Token
 number = Plain (OfLeaf (Number U64))

@@ -15,6 +15,7 @@ pub mod Run
 pub mod Returns
 pub mod Count
 pub mod Flat
+pub mod Offsets
 pub mod Typed
 pub mod Lines
 pub mod Ledger

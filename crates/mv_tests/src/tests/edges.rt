@@ -1,6 +1,6 @@
 // Edges of the borrow graph, and their labels.
 
-use mv_edges::{Change, Edge, Edges, Label};
+use mv_edges::{Change, Edge, Edges, Label, leq_counted};
 use mv_move_types::Node;
 use std::alloc::{AllocError, Global};
 use std::test::Fail;
@@ -61,7 +61,7 @@ fn is_below_open(alloc: Global, path: &[u8], is_open: bool) -> Result<(bool, u64
     let label = Label::new(Vec::from_slice(alloc, path)?, is_open);
     low.insert(Edge::new(Node::Own(1), label, Node::Temp(0)))?;
     let mut comparisons = 0;
-    let is_below = Edges::leq_counted(&low, &high, &mut comparisons);
+    let is_below = leq_counted(&low, &high, &mut comparisons);
     Ok((is_below, comparisons))
 }
 

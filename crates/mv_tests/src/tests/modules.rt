@@ -75,7 +75,7 @@ fn modules_have_what_their_bytes_say(rt: HostRuntime) -> Result<(), Fail> {
         Instruction::Ret,
     ];
     let function = m.functions().first().ok_or("function")?;
-    assert_eq!(rt; function.code(), mint.as_slice());
+    assert_eq!(rt; function.instructions(), mint.as_slice());
     Ok(())
 }
 

@@ -8,4 +8,4 @@ returns c =
     let value = c.functions-functions.ensures.value ∙ ap (λ (x : Module). x.functions) c.module.ensures.value in
     let at : slice_get m.functions c.args.f ≡ Some d =
     slice_get_read m.functions (length m.functions) c.args.f d refl c.requires (c.index-functions-f.is ∙ ap (λ fs. get_or fs c.args.f d) value) in
-    rw at c.code.ensures
+    rw at c.instructions.ensures

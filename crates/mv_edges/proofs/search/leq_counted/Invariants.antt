@@ -1,6 +1,6 @@
 use Rattle.mv_edges.proofs.Common.{◌+◌, ◌<◌, ◌≡◌, ◌≤◌, length, take, true, list_all, list_any, counted, edge_leq, longest}
 use Rattle.std.proofs.Common.{◌*◌}
-use Rattle.mv_edges.proofs.edges.Edges.leq_counted.Given as goal
+use Rattle.mv_edges.proofs.search.leq_counted.Given as goal
 
 abbrev pub invariant-loop-e : goal.invariant-loop-e
 invariant-loop-e l = record {

@@ -1,7 +1,7 @@
 use Rattle.mv_edges.proofs.Common.{◌<◌, ◌∙◌, ◌≡◌, ap, arith, get_or, length, rules, subst, sym, take, true, and_from, list_all, list_any, edge_leq, longest}
 use Rattle.std.proofs.lemmas.List.Folds.{list_all_more}
 use Rattle.mv_edges.proofs.Counting.{within_110, counted_on}
-use Rattle.mv_edges.proofs.edges.Edges.leq_counted.Goals as goal
+use Rattle.mv_edges.proofs.search.leq_counted.Goals as goal
 
 pub returns-then-not-reach-clause-count : goal.returns-then-not-reach-clause-count
 returns-then-not-reach-clause-count c =
