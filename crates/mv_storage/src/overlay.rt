@@ -1,5 +1,5 @@
 // What a run sees of the storage, and what it does to it.
-ghost use Rattle.std.specs.Prelude.{◌≡◌, ◌≤◌, ◌+◌, length, take, drop, None, is_some, IfOk, IfSome, IsOk, OnOk, OnErr, MatchOption, option_copied, option_and_then, option_map};
+ghost use Rattle.std.specs.Prelude.{◌≡◌, ◌≤◌, ◌+◌, length, cond, not, take, drop, None, is_some, IfOk, IfSome, IsOk, OnOk, OnErr, MatchOption, option_copied, option_and_then, option_map};
 ghost use Rattle.mv_move_types.specs.declared.tables.Key.{Key};
 ghost use Rattle.mv_storage.specs.WordLists.{spliced};
 ghost use Rattle.mv_storage.specs.FlatStorage.{words_under, with_words, without_words};
@@ -109,6 +109,19 @@ impl Overlay<'_> {
         ensures err { OnErr result (self.new.storage.now ≡ self.old.storage.now) }
     {
         self.storage.put(key, value)
+    }
+
+    /// Puts a value under a key where the run sees none, and says whether it did; nothing changes where it did not. It is one
+    /// search, where a question whether anything is stored and a put are two. It fails only where memory runs out, and nothing
+    /// changes then.
+    pub fn put_new(&mut self, key: Key, value: Value) -> Result<bool, AllocError>
+        ensures done { IfOk result (λ done. done ≡ not (is_some (words_under self.old.storage.now.current key))) }
+        ensures current { IfOk result (λ done. self.new.storage.now.current ≡ cond done (with_words self.old.storage.now.current key value) self.old.storage.now.current) }
+        ensures committed { self.new.storage.now.committed ≡ self.old.storage.now.committed }
+        ensures loan { self.new.storage.ghost_name ≡ self.old.storage.ghost_name }
+        ensures err { OnErr result (self.new.storage.now ≡ self.old.storage.now) }
+    {
+        self.storage.put_new(key, value)
     }
 
     /// Keeps what the run has made so far, and goes on from there. It takes no memory, so it doesn't fail. Where it failed,

@@ -1,6 +1,6 @@
 // What stands under a key: a value that the run at work has left alone, one that it has put, or the committed one and what
 // the run has made of it.
-ghost use Rattle.std.specs.Prelude.{◌≡◌, None, Some, true, false, not, is_some, option_copied, option_and_then, IfOk, OnOk, OnErr};
+ghost use Rattle.std.specs.Prelude.{◌≡◌, None, Some, true, false, cond, not, is_some, option_copied, option_and_then, IfOk, OnOk, OnErr};
 ghost use Rattle.mv_storage.specs.Slots.{version, of_layer, is_change, is_vacant, edited};
 ghost use Rattle.mv_storage.specs.WordLists.{spliced};
 ghost use Rattle.mv_storage.specs.declared.slot.Layer.{Layer};
@@ -178,18 +178,25 @@ impl Slot {
         Ok(())
     }
 
-    // Puts a value where the run sees none.
-    pub(crate) fn put(&mut self, value: Value)
-        requires { (of_layer Current self.old ≡ None) × (is_vacant self.old ≡ false) }
-        ensures current { of_layer Current self.new ≡ Some value }
+    // Puts a value where the run sees none, and says whether it did.
+    pub(crate) fn put(&mut self, value: Value) -> bool
+        requires { is_vacant self.old ≡ false }
+        ensures done { result ≡ not (is_some (of_layer Current self.old)) }
+        ensures current { of_layer Current self.new ≡ cond result (Some value) (of_layer Current self.old) }
         ensures committed { of_layer Committed self.new ≡ of_layer Committed self.old }
         ensures change { is_change self.new ≡ is_change self.old }
         ensures used { is_vacant self.new ≡ false }
     {
         match self {
-            Slot::Empty => *self = Slot::added(value),
-            Slot::Changed(versions) => versions.current = Some(value),
-            _ => unreachable!(),
+            Slot::Empty => {
+                *self = Slot::added(value);
+                true
+            }
+            Slot::Changed(versions) if versions.current.is_none() => {
+                versions.current = Some(value);
+                true
+            }
+            _ => false,
         }
     }
 

@@ -1,6 +1,6 @@
 // What a run does to the slots of keys, and the keys of those that it has changed, each with its place. The key that was
 // looked up last is remembered with its place, so that no search is needed as long as it is the same key.
-ghost use Rattle.std.specs.Prelude.{◌≡◌, ℕ, None, Some, IfOk, OnOk, OnErr, false, true, is_some, option_and_then};
+ghost use Rattle.std.specs.Prelude.{◌≡◌, ℕ, None, Some, IfOk, OnOk, OnErr, false, true, cond, not, is_some, option_and_then};
 ghost use Rattle.std.specs.List.{list_any};
 ghost use Rattle.std.specs.BTreeMap.{BTreeMap, get};
 ghost use Rattle.mv_move_types.specs.declared.tables.Key.{Key};
@@ -103,7 +103,7 @@ pub(crate) fn edit_in(
     places.slots[place].edit(from, new, alloc)
 }
 
-// Puts a value under a key where the run sees none.
+// Puts a value under a key where the run sees none, and says whether it did.
 #[inline]
 pub(crate) fn put_into(
     places: &mut Places,
@@ -111,19 +111,18 @@ pub(crate) fn put_into(
     last: &mut Option<(Key, usize)>,
     key: Key,
     value: Value,
-) -> Result<(), AllocError>
+) -> Result<bool, AllocError>
     requires tracked { IsTracked places.old touched.old.items }
     requires remembered { IsRemembered places.old.tree last.old }
-    requires absent { value_at Current places.old key ≡ None }
     ensures tracked { IsTracked places.new touched.new.items }
     ensures remembered { IsRemembered places.new.tree last.new }
-    ensures current { OnOk result (ShowsAt Current key (Some value) places.old places.new) }
+    ensures done { IfOk result (λ done. done ≡ not (is_some (value_at Current places.old key))) }
+    ensures current { IfOk result (λ done. ShowsAt Current key (cond done (Some value) (value_at Current places.old key)) places.old places.new) }
     ensures committed { ShowsSame Committed places.old places.new }
     ensures err { OnErr result (ShowsSame Current places.old places.new) }
 {
     if let Some(place) = recalled(last, &key) {
-        places.slots[place].put(value);
-        return Ok(());
+        return Ok(places.slots[place].put(value));
     }
     put_new(places, touched, last, key, value)
 }
@@ -136,13 +135,13 @@ fn put_new(
     last: &mut Option<(Key, usize)>,
     key: Key,
     value: Value,
-) -> Result<(), AllocError>
+) -> Result<bool, AllocError>
     requires tracked { IsTracked places.old touched.old.items }
     requires remembered { IsRemembered places.old.tree last.old }
-    requires absent { value_at Current places.old key ≡ None }
     ensures tracked { IsTracked places.new touched.new.items }
     ensures remembered { IsRemembered places.new.tree last.new }
-    ensures current { OnOk result (ShowsAt Current key (Some value) places.old places.new) }
+    ensures done { IfOk result (λ done. done ≡ not (is_some (value_at Current places.old key))) }
+    ensures current { IfOk result (λ done. ShowsAt Current key (cond done (Some value) (value_at Current places.old key)) places.old places.new) }
     ensures committed { ShowsSame Committed places.old places.new }
     ensures err { OnErr result (ShowsSame Current places.old places.new) }
 {
@@ -153,12 +152,11 @@ fn put_new(
         None => {
             places.fill(fresh, Slot::added(value));
             *last = Some((key, fresh));
-            Ok(())
+            Ok(true)
         }
         Some(place) => {
             *last = Some((key, place));
-            places.slots[place].put(value);
-            Ok(())
+            Ok(places.slots[place].put(value))
         }
     }
 }

@@ -1,5 +1,5 @@
 // Storage: values under keys, and what a run at work has made of them.
-ghost use Rattle.std.specs.Prelude.{◌≡◌, ◌<◌, ◌≤◌, ◌+◌, ◌^◌, length, take, drop, [], None, is_some, IfOk, IfSome, OnOk, OnErr, MatchOption, option_copied, option_and_then, option_map};
+ghost use Rattle.std.specs.Prelude.{◌≡◌, ◌<◌, ◌≤◌, ◌+◌, ◌^◌, length, take, drop, [], cond, not, None, is_some, IfOk, IfSome, OnOk, OnErr, MatchOption, option_copied, option_and_then, option_map};
 ghost use Rattle.mv_storage.specs.WordLists.{spliced};
 ghost use Rattle.mv_storage.specs.FlatStorage.{words_under, with_words, without_words};
 ghost use Rattle.mv_storage.specs.Map.{overwritten, Ascends};
@@ -207,10 +207,11 @@ impl Storage {
         )
     }
 
-    // Puts a value under a key where the run sees none. It fails only where memory runs out, and nothing changes then.
-    pub(crate) fn put(&mut self, key: Key, value: Value) -> Result<(), AllocError>
-        requires { words_under self.old.current key ≡ None }
-        ensures current { OnOk result (self.new.current ≡ with_words self.old.current key value) }
+    // Puts a value under a key where the run sees none, and says whether it did; nothing changes where it did not. It fails
+    // only where memory runs out, and nothing changes then.
+    pub(crate) fn put_new(&mut self, key: Key, value: Value) -> Result<bool, AllocError>
+        ensures done { IfOk result (λ done. done ≡ not (is_some (words_under self.old.current key))) }
+        ensures current { IfOk result (λ done. self.new.current ≡ cond done (with_words self.old.current key value) self.old.current) }
         ensures committed { self.new.committed ≡ self.old.committed }
         ensures err { OnErr result (self.new ≡ self.old) }
     {
@@ -221,6 +222,17 @@ impl Storage {
             key,
             value,
         )
+    }
+
+    // Puts a value under a key where the run sees none. It fails only where memory runs out, and nothing changes then.
+    pub(crate) fn put(&mut self, key: Key, value: Value) -> Result<(), AllocError>
+        requires { words_under self.old.current key ≡ None }
+        ensures current { OnOk result (self.new.current ≡ with_words self.old.current key value) }
+        ensures committed { self.new.committed ≡ self.old.committed }
+        ensures err { OnErr result (self.new ≡ self.old) }
+    {
+        self.put_new(key, value)?;
+        Ok(())
     }
 
     // Makes one layer the committed one, and goes on from there with nothing noted. It takes no memory.

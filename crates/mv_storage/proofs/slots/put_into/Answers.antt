@@ -1,21 +1,7 @@
-use Rattle.mv_storage.proofs.Common.{◌∙◌, ◌≡◌, Some, ap, inl, refl, sym, get, with_item, is_vacant, key_cmp, layer_at, slot_at, Places, Committed, Current}
-use Rattle.mv_storage.proofs.PlaceLemmas.{place-read, wrote-at}
+use Rattle.mv_storage.proofs.Common.{◌≡◌, Some, refl, get, with_item, key_cmp, slot_at, Places, Committed, Current}
+use Rattle.mv_storage.proofs.PlaceLemmas.{wrote-at}
 use Rattle.mv_storage.proofs.Steps.{tracked-put, slot-read, has-shows, has-same}
 use Rattle.mv_storage.proofs.slots.put_into.Goals as goal
-
--- the slot under a key that is remembered shows nothing
-pub put-requires : goal.put-requires
-put-requires c =
-    let m = c.args.places.now in
-    let k = c.args.key in
-    let p = c.in-Some.place in
-    let s = c.index_mut.result.now in
-    let at : get key_cmp m.tree k ≡ Some p = rw c.in-Some.ensures at c.requires.remembered in
-    let is : slot_at m k ≡ Some s = slot-read m k p s c.requires.tracked.sound at c.index_mut.ensures.value in
-    let used = c.requires.tracked.sound.used k p at in
-    let same : Some s ≡ Some used.0 = sym (place-read m k p s c.requires.tracked.sound (inl at) c.index_mut.ensures.value) ∙ used.1 in
-    let one : s ≡ used.0 = cc in
-    (ap (layer_at Current) (sym is) ∙ c.requires.absent, ap is_vacant one ∙ used.2)
 
 -- the key is remembered
 pub returns-in-Some : goal.returns-in-Some
@@ -33,7 +19,8 @@ returns-in-Some c =
     record {
       tracked = tracked-put m n k s t touched touched c.requires.tracked is put (λ q h. h) (λ kept now. cc (c.put.ensures.change, kept, now)) c.requires.tracked.placed;
       remembered = c.requires.remembered;
-      current = has-shows Current m n k (Some t) (Some c.args.value) put.has c.put.ensures.current;
+      done = rw is c.put.ensures.done;
+      current = rw is (has-shows Current m n k (Some t) _ put.has c.put.ensures.current);
       committed = has-same Committed m n k (Some t) put.has (rw is c.put.ensures.committed);
       err = tt;
     }

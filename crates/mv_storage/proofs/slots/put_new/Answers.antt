@@ -1,5 +1,5 @@
 use Rattle.mv_storage.proofs.Common.{◌<◌, ◌∙◌, ◌≡◌, None, Some, ap, arith, cond, inl, inr, is_some, refl, slice_get, subst, sym, slice_get_within, get, option_and_then, with_item, IsTracked}
-use Rattle.mv_storage.proofs.Common.{is_vacant, key_cmp, layer_at, slot_at, Places, Committed, Current}
+use Rattle.mv_storage.proofs.Common.{is_vacant, key_cmp, slot_at, Places, Committed, Current}
 use Rattle.mv_storage.proofs.Keys.{same_key-refl}
 use Rattle.mv_storage.proofs.PlaceLemmas.{HasPlace, place-read, put-at, same-sound, same-slots}
 use Rattle.mv_storage.proofs.Steps.{tracked-same, tracked-added, tracked-put, placed-same, placed-entries, slot-read, has-shows, has-same, put-from}
@@ -26,9 +26,7 @@ put-requires c =
     let read : slice_get v.slots.items c.in-Some.place ≡ Some s = place-read v c.args.key c.in-Some.place s c.vacancy.ensures.sound (inl at) c.index_mut.ensures.value in
     let same : Some s ≡ Some used.0 = sym read ∙ used.1 in
     let one : s ≡ used.0 = cc in
-    let is : slot_at c.args.places.now c.args.key ≡ Some s =
-    sym (c.vacancy.ensures.same c.args.key) ∙ slot-read v c.args.key c.in-Some.place s c.vacancy.ensures.sound at c.index_mut.ensures.value in
-    (ap (layer_at Current) (sym is) ∙ c.requires.absent, ap is_vacant one ∙ used.2)
+    ap is_vacant one ∙ used.2
 
 -- the key was absent
 pub returns-in-None : goal.returns-in-None
@@ -49,6 +47,7 @@ returns-in-None c =
     record {
       tracked = rw (rw c.in-None.is at had.noted) (tracked-added m n k p t c.args.touched.now.items c.requires.tracked (rw (← c.vacancy.ensures.tree) none) put (rw (← c.vacancy.ensures.tree) gets));
       remembered = gets k ∙ ap (λ b. cond b (Some p) (get key_cmp v.tree k)) (same_key-refl k);
+      done = rw absent refl;
       current = has-shows Current m n k (Some t) (Some c.args.value) put.has c.added.ensures.current;
       committed = has-same Committed m n k (Some t) put.has (rw absent c.added.ensures.committed);
       err = tt;
@@ -76,7 +75,8 @@ returns-in-Some c =
           (tracked-put m n k s t touched touched c.requires.tracked is put (λ q h. h) (λ kept now. cc (c.put.ensures.change, kept, now))
           (placed-same m n k p touched (rw (← c.vacancy.ensures.tree) at) (rw (← c.vacancy.ensures.tree) gets) c.requires.tracked.placed));
       remembered = gets k ∙ ap (λ b. cond b (Some p) (get key_cmp v.tree k)) (same_key-refl k);
-      current = has-shows Current m n k (Some t) (Some c.args.value) put.has c.put.ensures.current;
+      done = rw is c.put.ensures.done;
+      current = rw is (has-shows Current m n k (Some t) _ put.has c.put.ensures.current);
       committed = has-same Committed m n k (Some t) put.has (rw is c.put.ensures.committed);
       err = tt;
     }
