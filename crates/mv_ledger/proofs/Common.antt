@@ -119,22 +119,22 @@ pub use Rattle.mv_machine.specs.declared.Ending.TheVariants.{Aborted as HasAbort
 pub use Rattle.mv_certificate.proofs.Marks.{all-bytes}
 pub use Rattle.mv_certificate.specs.Certificate.{Certificate, Known, all_edges_hold, all_locals_hold}
 pub use Rattle.mv_certificate.specs.CertificateText.{IsCertificateText, certificate_text}
-pub use Rattle.mv_linker.proofs.Found.{found_at, some-of, then_found}
+pub use Rattle.mv_interface.proofs.Found.{found_at, some-of, then_found}
 pub use Rattle.mv_linker.proofs.Joining.Upgraded.{same_abilities-is}
 pub use Rattle.mv_linker.proofs.Kept.HandleDefinitions.{name-found}
-pub use Rattle.mv_linker.proofs.NameLemmas.{is_module-is, same_module-is, same_module-same, same_struct-is, same_struct-same}
-pub use Rattle.mv_linker.proofs.OwnDefinitions.{module_there, own-definition}
+pub use Rattle.mv_interface.proofs.NameLemmas.{is_module-is, same_module-is, same_module-same, same_struct-is, same_struct-same}
+pub use Rattle.mv_interface.proofs.OwnDefinitions.{module_there, own-definition}
 pub use Rattle.mv_linker.proofs.TagTests.{same_tag-is}
 pub use Rattle.mv_linker.specs.Link.{IsPublishable, IsStore, MayJoin, are_compatible, tables_in}
 pub use Rattle.mv_linker.specs.News.{AreTexts, HasItsTexts, published_of, published_one}
-pub use Rattle.mv_linker.specs.Shapes.{AreFieldsAt, AreParts, IsMadeOf, IsPart, is_keyed as keyed_in, is_of_value, structs_in, has_key}
+pub use Rattle.mv_interface.specs.Shapes.{AreFieldsAt, AreParts, IsMadeOf, IsPart, is_keyed as keyed_in, is_of_value, structs_in, has_key}
 pub use Rattle.mv_linker.specs.StoreRules.{Links, Reaches, depends_on, directly as depends_at_once, further as depends_further, module_is_there, modules_are_there, struct_is_small, struct_is_there}
 pub use Rattle.mv_linker.specs.StoreRules.{structs_are_there}
 pub use Rattle.mv_linker.specs.Stored.{with_at}
 pub use Rattle.mv_linker.specs.Upgrades.{function_stays, may_replace, same_field, same_fields, same_struct_definition, structs_stay}
 pub use Rattle.mv_linker.specs.declared.New.{New}
-pub use Rattle.mv_linker.specs.declared.shapes.Part.{Part}
-pub use Rattle.mv_linker.specs.declared.shapes.Part.TheVariants.{Leaf as LeafPart, Nothing, Struct as StructPart}
+pub use Rattle.mv_interface.specs.declared.shapes.Part.{Part}
+pub use Rattle.mv_interface.specs.declared.shapes.Part.TheVariants.{Leaf as LeafPart, Nothing, Struct as StructPart}
 pub use Rattle.mv_interpreter.proofs.Flat.FineWords.{fine_words-typed}
 pub use Rattle.mv_interpreter.proofs.Guided.Published.{certificates_from, published_certified, runs_faultless}
 pub use Rattle.mv_interpreter.proofs.Homes.{index_of, own_of_store}

@@ -12,8 +12,8 @@ use Rattle.mv_move_types.specs.declared.token.Token.TheVariants.{Plain}
 use Rattle.mv_move_types.specs.Names.{StructName, same_struct}
 use Rattle.mv_move_types.specs.Module.{Module, struct_name, name_at}
 use Rattle.mv_move_types.specs.Named.{definition_of}
-use Rattle.mv_linker.specs.declared.shapes.Part.{Part}
-use Rattle.mv_linker.specs.declared.shapes.Part.TheVariants.{Leaf, Struct, Nothing}
+use Rattle.mv_interface.specs.declared.shapes.Part.{Part}
+use Rattle.mv_interface.specs.declared.shapes.Part.TheVariants.{Leaf, Struct, Nothing}
 
 -- how many a value of a type has, where those of a struct's are given
 abbrev pub structs_in_token : (StructName → ℕ) → Module → Token → ℕ

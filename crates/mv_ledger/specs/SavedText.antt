@@ -15,7 +15,7 @@ use Rattle.mv_machine.specs.Ledger.{Offer, LedgerState, modules_of, scarce_struc
 use Rattle.mv_ledger.specs.RecordText.{leaf_bytes, offer_text, offer_fits}
 use Rattle.mv_ledger.specs.Publishing.{Spells, offered}
 use Rattle.mv_ledger.specs.Counting.Kept.{IsAscending}
-use Rattle.mv_linker.specs.Shapes.{has_key}
+use Rattle.mv_interface.specs.Shapes.{has_key}
 
 -- the forms of a saved ledger
 pub data Form : Type 0 where

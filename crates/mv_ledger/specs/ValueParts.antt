@@ -10,8 +10,8 @@ use Rattle.mv_move_types.specs.Module.{Module, name_at}
 use Rattle.mv_machine.specs.Value.{Value, Values, NoMore, More}
 use Rattle.mv_machine.specs.Value.{Leaf as LeafValue}
 use Rattle.mv_machine.specs.Flat.{struct_from}
-use Rattle.mv_linker.specs.declared.shapes.Part.{Part}
-use Rattle.mv_linker.specs.declared.shapes.Part.TheVariants.{Leaf, Struct, Nothing}
+use Rattle.mv_interface.specs.declared.shapes.Part.{Part}
+use Rattle.mv_interface.specs.declared.shapes.Part.TheVariants.{Leaf, Struct, Nothing}
 
 -- the value of the struct at a place and an index that begins with these leaves, if its nesting is at most so much, and the
 -- leaves after it

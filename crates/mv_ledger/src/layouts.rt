@@ -2,7 +2,7 @@
 ghost use Rattle.std.specs.Prelude.{◌≡◌, ◌≤◌, ◌++◌, is_some, length, List, option_map, slice_get, Some, IfOk, OnOk};
 ghost use Rattle.mv_move_types.specs.Module.{Module as Tables};
 ghost use Rattle.mv_linker.specs.Link.{tables_in};
-ghost use Rattle.mv_linker.specs.Shapes.{AreFieldsAt, structs_in};
+ghost use Rattle.mv_interface.specs.Shapes.{AreFieldsAt, structs_in};
 ghost use Rattle.mv_ledger.specs.Layouts.{is_keyed, kinds_under};
 ghost use Rattle.mv_ledger.specs.Parts.LayoutParts.{kinds_at, kinds_of_part, kinds_of_parts, keyed_at, IsOfStore, PutsKinds};
 ghost use Rattle.mv_ledger.specs.SavedText.{keyed_from};

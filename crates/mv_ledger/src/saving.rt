@@ -9,7 +9,7 @@ ghost use Rattle.mv_machine.specs.Typed.{leaf_fits};
 ghost use Rattle.mv_linker.specs.Link.{tables_in};
 ghost use Rattle.mv_interpreter.specs.Runs.{IsFineWords};
 ghost use Rattle.mv_ledger.specs.Layouts.{coded, is_keyed, kinds_under, AreLeaves};
-ghost use Rattle.mv_linker.specs.Shapes.{structs_in};
+ghost use Rattle.mv_interface.specs.Shapes.{structs_in};
 ghost use Rattle.mv_ledger.specs.Publishing.{offered};
 ghost use Rattle.mv_ledger.specs.RecordText.{leaf_bytes, offer_text, sized};
 ghost use Rattle.mv_ledger.specs.SavedText.{head_text, keyed_from, struct_text, Second};

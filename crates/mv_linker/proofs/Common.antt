@@ -69,17 +69,17 @@ pub use Rattle.mv_linker.specs.Codes.{IsCallee, IsCode, IsSlotOf}
 pub use Rattle.mv_linker.specs.DependencyGraph.{AreHandlePlaces, IsOrdered, others}
 pub use Rattle.mv_linker.specs.Found.{AreOutlines, AreTargets, IsFound, IsTarget}
 pub use Rattle.mv_linker.specs.FoundStructs.{AreFoundFor, IsFoundAt}
-pub use Rattle.mv_linker.specs.Identifiers.{struct_identifier}
+pub use Rattle.mv_interface.specs.Identifiers.{struct_identifier}
 pub use Rattle.mv_linker.specs.Indexed.{ArePlacesOf, PutsName, PutsPlace, has_name_of}
-pub use Rattle.mv_linker.specs.Interface.{AreTypes, AreTypesOf, IsInterface, IsSignatureAt, IsSignatureOf, IsType, type_by, types_by}
+pub use Rattle.mv_interface.specs.Interface.{AreTypes, AreTypesOf, IsInterface, IsSignatureAt, IsSignatureOf, IsType, type_by, types_by}
 pub use Rattle.mv_linker.specs.Kept.{AreKeyed, Kept, name_in, published_as, published_in, published_under}
 pub use Rattle.mv_linker.specs.Link.{AreSentBy, IsPublishable, IsStore, MayJoin, all_follow, are_compatible, follows, have_one_name, is_sent_by, replaced_in, tables_in}
 pub use Rattle.mv_linker.specs.Linked.{Entered, Site, constant_number, linked_module, operations_along, operations_of, others_in, program_of, programs_from, to_call, to_field, to_return}
 pub use Rattle.mv_linker.specs.Linked.{width_of_others, with_slot, with_target, with_top}
 pub use Rattle.mv_linker.specs.LinkedBy.{AreAlong, AreOperations, Gives, GoesOn, IsLinker, Pushes, Stands, constant_numbers, literal_of, site_of}
 pub use Rattle.mv_linker.specs.Lowered.{AreOthers, AreOwnSizes, AreSized, IsCalled, IsLowered, IsLoweredIn, IsToLink, called_by, widths_in, words_of_size}
-pub use Rattle.mv_linker.specs.Outline.{AreEach, AreFieldNames, FunctionOutline, IsFunctionNamed, IsFunctionOutline, IsOutline, IsStructNamed, IsStructOutline, OutlineView, StructOutline}
-pub use Rattle.mv_linker.specs.Outline.{function_by, function_kept, identifier_at, names_by, outline_kept, struct_by, struct_kept}
+pub use Rattle.mv_interface.specs.Outline.{AreEach, AreFieldNames, FunctionOutline, IsFunctionNamed, IsFunctionOutline, IsOutline, IsStructNamed, IsStructOutline, OutlineView, StructOutline}
+pub use Rattle.mv_interface.specs.Outline.{function_by, function_kept, identifier_at, names_by, outline_kept, struct_by, struct_kept}
 pub use Rattle.mv_linker.specs.Matches.{IsOf, IsStructOf, function_matches, struct_matches}
 pub use Rattle.mv_linker.specs.News.{published_of, published_one}
 pub use Rattle.mv_linker.specs.Operations.{BorrowInside, BorrowLocal as BorrowOperation, Differ as DifferOperation, Discard as DiscardOperation, Enter, GiveUp, Leave}
@@ -89,7 +89,7 @@ pub use Rattle.mv_linker.specs.Relinked.{AreSizesAt, IsSmallAt, IsStruct, Joins}
 pub use Rattle.mv_linker.specs.Resolved.{AreCallees, AreResolved, AreWidths, callee_of, width_of_handle}
 pub use Rattle.mv_linker.specs.Scope.{all_named, found_among, offered, place_for, places_in, with_table, with_tables}
 pub use Rattle.mv_linker.specs.ScopeDependencies.{AreDependenciesIn, ArePlaces}
-pub use Rattle.mv_linker.specs.Shapes.{AreFieldsAt, AreParts, IsPart, has_key, is_keyed, part_by, parts_by, structs_in}
+pub use Rattle.mv_interface.specs.Shapes.{AreFieldsAt, AreParts, IsPart, has_key, is_keyed, part_by, parts_by, structs_in}
 pub use Rattle.mv_linker.specs.Sizes.{AreDefined, AreSizes, AreSmall, IsDefined, IsSized, Total, greater, next_rows, row_of, rows_after, size_at, size_of_struct}
 pub use Rattle.mv_linker.specs.Sizes.{size_of_token, small_size, total_of}
 pub use Rattle.mv_linker.specs.StoreRules.{Links, Reaches, depends_on, directly, function_fits, function_is_there, function_named, further, module_is_there}
@@ -99,7 +99,7 @@ pub use Rattle.mv_linker.specs.Slotted.{AreSlotted, IsSlotted}
 pub use Rattle.mv_linker.specs.Stored.{AreCodesOf, AreDependenciesOf, AreLowered, AreNames, AreNamesOf, IsLinkedTo, IsSizeAt, KeepsDependencies, LinkedBundle, with_at, with_codes}
 pub use Rattle.mv_linker.specs.Stored.{with_dependencies}
 pub use Rattle.mv_linker.specs.Targets.{AreFunctionsAt, AreStructsAt, EachAt, IsFunctionAt, IsFunctionIn, IsStructAt, modules_in}
-pub use Rattle.mv_linker.specs.TypesByName.{both_there, same_signature, same_types, signature_named, token_named, tokens_named, value_type_named}
+pub use Rattle.mv_interface.specs.TypesByName.{both_there, same_signature, same_types, signature_named, token_named, tokens_named, value_type_named}
 pub use Rattle.mv_linker.specs.Upgrades.{function_stays, have_one_type, may_replace, same_fields, same_struct_definition, structs_stay}
 pub use Rattle.mv_linker.specs.Widths.{width_of_tag, width_of_token, width_of_tokens}
 pub use Rattle.mv_linker.specs.Words.{slots_from, top_target, value_width, width_by, words_by}
@@ -111,18 +111,18 @@ pub use Rattle.mv_linker.specs.declared.dependencies.Dependencies.{Dependencies}
 pub use Rattle.mv_linker.specs.declared.dependencies.DependenciesAt.{DependenciesAt}
 pub use Rattle.mv_linker.specs.declared.entry.Name.{Name}
 pub use Rattle.mv_linker.specs.declared.entry.Texts.{Texts}
-pub use Rattle.mv_linker.specs.declared.interface.Interface.{Interface}
-pub use Rattle.mv_linker.specs.declared.interface.LinkedType.{LinkedType}
-pub use Rattle.mv_linker.specs.declared.interface.Signature.{Signature}
-pub use Rattle.mv_linker.specs.declared.lists.Span.{Span}
-pub use Rattle.mv_linker.specs.declared.outline.FunctionEntry.{FunctionEntry}
-pub use Rattle.mv_linker.specs.declared.outline.StructEntry.{StructEntry}
+pub use Rattle.mv_interface.specs.declared.interface.Interface.{Interface}
+pub use Rattle.mv_interface.specs.declared.interface.LinkedType.{LinkedType}
+pub use Rattle.mv_interface.specs.declared.interface.Signature.{Signature}
+pub use Rattle.mv_interface.specs.declared.lists.Span.{Span}
+pub use Rattle.mv_interface.specs.declared.outline.FunctionEntry.{FunctionEntry}
+pub use Rattle.mv_interface.specs.declared.outline.StructEntry.{StructEntry}
 pub use Rattle.mv_linker.specs.declared.lowering.linker.Linker.{Linker}
 pub use Rattle.mv_linker.specs.declared.lowering.slots.Slot.{Slot}
 pub use Rattle.mv_linker.specs.declared.resolved.Resolved.{Resolved}
 pub use Rattle.mv_linker.specs.declared.scope.Scope.{Scope}
-pub use Rattle.mv_linker.specs.declared.shapes.Part.{Part}
-pub use Rattle.mv_linker.specs.declared.shapes.Part.TheVariants.{Leaf, Nothing, Struct}
+pub use Rattle.mv_interface.specs.declared.shapes.Part.{Part}
+pub use Rattle.mv_interface.specs.declared.shapes.Part.TheVariants.{Leaf, Nothing, Struct}
 pub use Rattle.mv_linker.specs.declared.sizes.Defined.{Defined}
 pub use Rattle.mv_linker.specs.declared.sizes.Defined.TheVariants.{Bundled, Published}
 pub use Rattle.mv_linker.specs.declared.sizes.Size.{Size}

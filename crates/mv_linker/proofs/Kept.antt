@@ -6,27 +6,13 @@
 --   WithAt             `put-at`, `from-put_all`: lists in which entries were put at places, each at one that was there or at the next one
 --   Adding             `adding-done`, `putting-done`: a bundle's modules go into a store's map, a module at a time
 --   IndexLemmas        `places-put`, `indices-put`: the modules of a bundle are found in maps as the lists say
---   SpanLemmas         `spanned-more`: lists that stand in one list, one after the other
---   FewIdentifiers     `few_identifiers`, `short-identifier`: the identifiers of a module that has a text
---   OutlineLemmas      `outline-is`, `named-place`: the outlines of modules, and that they find a function by its identifier
---   ByHalves           `by-name`, `nowhere`: definitions in ascending order of their names, and the search for one by halves
---   OutlineOrders      `struct-found`, `function-found`: the search for a name finds what an outline has
 --   StructNames        `named-there`: the names of a store's structs, by the name of their module and their identifiers there
 --   HandleDefinitions  `struct-there`, `all-defined`: where the structs of a bundle's handles are defined, once it joins
---   ShapeLemmas        `parts-are`: of what the structs of a module are made, by where those that its handles name are defined
 --   StoredShapes       `fields-known`: of what the structs of a store's modules are made, as its codes say
---   InterfaceLemmas    `interface-is`, `signature-at`: the interfaces of modules
 pub mod Keyed
 pub mod WithAt
 pub mod Adding
 pub mod IndexLemmas
-pub mod SpanLemmas
-pub mod FewIdentifiers
-pub mod OutlineLemmas
-pub mod ByHalves
-pub mod OutlineOrders
 pub mod StructNames
 pub mod HandleDefinitions
-pub mod ShapeLemmas
 pub mod StoredShapes
-pub mod InterfaceLemmas

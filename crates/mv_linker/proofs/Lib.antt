@@ -1,5 +1,5 @@
--- The proofs of the store and of phase 13. Of general use are Each (lists that go together), Found (entries of lists by their places), ListTests, Orders, Outcomes,
--- NameLemmas, HandleNames and Members (modules by name, and among others), OwnDefinitions, TagTests and TypeTests (types by names).
+-- The proofs of the store and of phase 13. Of general use are ListTests, Orders, Outcomes, Members (modules among others), DependsOn and TagTests
+-- (types by names); mv_interface has those on one module.
 -- Common passes on the words that the proofs speak of all along, and Lemmas the lemmas that most of them cite.
 -- The rooms, each with an index at its head:
 --   Joining      a bundle joins a store
@@ -10,17 +10,12 @@
 pub mod Counted
 pub mod KeptSlots
 pub mod Common
-pub mod Each
-pub mod Found
 pub mod ListTests
 pub mod Orders
 pub mod Outcomes
-pub mod NameLemmas
-pub mod HandleNames
-pub mod OwnDefinitions
+pub mod DependsOn
 pub mod Members
 pub mod TagTests
-pub mod TypeTests
 pub mod Lemmas
 pub mod Joining
 pub mod Cycles

@@ -6,7 +6,7 @@ use Rattle.mv_move_types.specs.Module.{Module}
 use Rattle.mv_linker.specs.declared.code.Callee.{Callee}
 use Rattle.mv_linker.specs.declared.code.Callee.TheVariants.{Own, Foreign}
 use Rattle.mv_linker.specs.declared.code.Code.{Code}
-use Rattle.mv_linker.specs.Interface.{IsInterface}
+use Rattle.mv_interface.specs.Interface.{IsInterface}
 use Rattle.mv_linker.specs.Lowered.{AreOthers, AreOwnSizes, IsCalled, IsLowered}
 use Rattle.mv_linker.specs.Resolved.{AreWidths}
 use Rattle.mv_linker.specs.Slots.{AreSlots, IsOpen}

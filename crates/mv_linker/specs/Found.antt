@@ -8,8 +8,8 @@ use Rattle.mv_move_types.specs.Names.{ModuleName}
 use Rattle.mv_move_types.specs.Module.{Module, module_name}
 use Rattle.mv_move_types.specs.Named.{module_place}
 use Rattle.mv_bounds.specs.Definitions.{WellDefined}
-use Rattle.mv_linker.specs.Interface.{IsInterface}
-use Rattle.mv_linker.specs.Outline.{AreEach, IsOutline, OutlineView}
+use Rattle.mv_interface.specs.Interface.{IsInterface}
+use Rattle.mv_interface.specs.Outline.{AreEach, IsOutline, OutlineView}
 use Rattle.mv_linker.specs.declared.named_modules.Found.{Found}
 use Rattle.mv_linker.specs.declared.named_modules.Found.TheVariants.{New, Kept}
 use Rattle.mv_linker.specs.declared.named_modules.Target.{Target}

@@ -1,8 +1,7 @@
 -- Types of a published module as they are kept, by names: so that they are compared with those of the module that is to take its place.
 --   part_named modules part      what a kept field is made of, by names
 --   kept_named modules type      a kept type, by names
---   are_names names n fields     whether fields of another module have these names, in order
---   are_parts modules parts n fields    whether they are made of these
+--   are_parts modules parts n fields    whether fields of another module are made of these
 --   are_kept modules types n tokens     whether types of another module are these kept ones, in order
 use Rattle.std.specs.Prelude.{ℕ, Bool, true, false, not, ◌&&◌, ◌||◌, List, [], ◌∷◌, Option, Some, None, option_map, slice_get}
 use Rattle.std.specs.Option.{option_map_or}
@@ -16,14 +15,14 @@ use Rattle.mv_move_types.specs.AbilitySets.{same_abilities}
 use Rattle.mv_move_types.specs.Module.{Module, FunctionDefinition, StructDefinition, name_at, name_of_struct, struct_abilities}
 use Rattle.mv_move_types.specs.Named.{is_public}
 use Rattle.mv_move_types.specs.Tags.{Tag, LeafTag, StructTag, ReferenceTag, same_tag}
-use Rattle.mv_linker.specs.declared.interface.Interface.{Interface}
-use Rattle.mv_linker.specs.declared.interface.LinkedType.{LinkedType}
-use Rattle.mv_linker.specs.declared.interface.LinkedType.TheVariants.{Plain, Reference, MutableReference}
-use Rattle.mv_linker.specs.declared.shapes.Part.{Part}
-use Rattle.mv_linker.specs.declared.shapes.Part.TheVariants.{Leaf, Struct, Nothing}
-use Rattle.mv_linker.specs.Outline.{FunctionOutline, StructOutline}
+use Rattle.mv_interface.specs.declared.interface.Interface.{Interface}
+use Rattle.mv_interface.specs.declared.interface.LinkedType.{LinkedType}
+use Rattle.mv_interface.specs.declared.interface.LinkedType.TheVariants.{Plain, Reference, MutableReference}
+use Rattle.mv_interface.specs.declared.shapes.Part.{Part}
+use Rattle.mv_interface.specs.declared.shapes.Part.TheVariants.{Leaf, Struct, Nothing}
+use Rattle.mv_interface.specs.Outline.{FunctionOutline, StructOutline, are_names}
 use Rattle.mv_linker.specs.StoreRules.{function_named}
-use Rattle.mv_linker.specs.TypesByName.{both_there, token_named}
+use Rattle.mv_interface.specs.TypesByName.{both_there, token_named}
 
 -- what a kept field is made of, by names
 abbrev pub part_named : List Module → Part → Option Tag
@@ -37,14 +36,7 @@ kept_named modules (Plain p) = part_named modules p
 kept_named modules (Reference p) = part_named modules p >>= λ tag. Some (ReferenceTag false tag)
 kept_named modules (MutableReference p) = part_named modules p >>= λ tag. Some (ReferenceTag true tag)
 
--- whether fields of a module have these names, in order
-abbrev pub are_names : List (List ℕ) → Module → List Field → Bool
-are_names [] n [] = true
-are_names [] n (g ∷ gs) = false
-are_names (x ∷ xs) n [] = false
-are_names (x ∷ xs) n (g ∷ gs) = option_map_or (bytes_eq x) (slice_get n.identifiers g.name) false && are_names xs n gs
-
--- whether they are made of these, by names
+-- whether fields of a module are made of these, by names
 abbrev pub are_parts : List Module → List Part → Module → List Field → Bool
 are_parts old [] n [] = true
 are_parts old [] n (g ∷ gs) = false

@@ -1,11 +1,7 @@
-pub mod ByName
 pub mod Code
 pub mod Codes
 pub mod Found
-pub mod Handles
-pub mod Identifiers
 pub mod Indexed
-pub mod Interface
 pub mod Kept
 pub mod KeptTypes
 pub mod Link
@@ -16,7 +12,6 @@ pub mod Matches
 pub mod StoreRules
 pub mod News
 pub mod Operations
-pub mod Outline
 pub mod DependencyGraph
 pub mod Places
 pub mod ScopeDependencies
@@ -24,16 +19,13 @@ pub mod Settled
 pub mod Relinked
 pub mod Resolved
 pub mod Scope
-pub mod Shapes
 pub mod Sizes
 pub mod Slots
 pub mod Slotted
 pub mod FoundStructs
-pub mod Spans
 pub mod Stored
 pub mod Targets
 pub mod TypesByDefinition
-pub mod TypesByName
 pub mod Upgrades
 pub mod Widths
 pub mod Words

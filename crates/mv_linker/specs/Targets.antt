@@ -1,7 +1,7 @@
 -- The modules of a scope.
 use Rattle.std.specs.Prelude.{List}
 use Rattle.mv_move_types.specs.Module.{Module}
-pub use Rattle.mv_linker.specs.Handles.{IsFunctionIn, IsStructAt, IsFunctionAt, EachAt, AreStructsAt, AreFunctionsAt}
+pub use Rattle.mv_interface.specs.Handles.{IsFunctionIn, IsStructAt, IsFunctionAt, EachAt, AreStructsAt, AreFunctionsAt}
 use Rattle.mv_linker.specs.Link.{tables_in}
 use Rattle.mv_linker.specs.Scope.{with_tables, offered}
 use Rattle.mv_linker.specs.declared.scope.Scope.{Scope}

@@ -9,10 +9,10 @@ use Rattle.mv_move_types.specs.declared.token.ValueType.TheVariants.{OfLeaf, OfS
 use Rattle.mv_move_types.specs.declared.token.Token.{Token}
 use Rattle.mv_move_types.specs.declared.token.Token.TheVariants.{Plain, Reference, MutableReference}
 use Rattle.mv_move_types.specs.Tokens.{same_kind}
-use Rattle.mv_linker.specs.declared.interface.LinkedType.{LinkedType}
-use Rattle.mv_linker.specs.declared.interface.LinkedType.TheVariants.{Plain as Value, Reference as ReferenceTo, MutableReference as MutableReferenceTo}
-use Rattle.mv_linker.specs.declared.shapes.Part.{Part}
-use Rattle.mv_linker.specs.declared.shapes.Part.TheVariants.{Leaf, Struct}
+use Rattle.mv_interface.specs.declared.interface.LinkedType.{LinkedType}
+use Rattle.mv_interface.specs.declared.interface.LinkedType.TheVariants.{Plain as Value, Reference as ReferenceTo, MutableReference as MutableReferenceTo}
+use Rattle.mv_interface.specs.declared.shapes.Part.{Part}
+use Rattle.mv_interface.specs.declared.shapes.Part.TheVariants.{Leaf, Struct}
 
 -- whether two structs are defined at one place and one index
 abbrev pub same_definition : Definition → Definition → Bool

@@ -6,7 +6,7 @@ ghost use Rattle.mv_linker.specs.News.{HasItsTexts, AreTexts, published_of, publ
 ghost use Rattle.mv_linker.specs.Link.{IsPublishable};
 
 use crate::New;
-use crate::names::name_of;
+use mv_interface::name_of;
 use std::alloc::{AllocError, Global};
 use std::borrow::CowSlice;
 use std::marker::Model;

@@ -5,30 +5,26 @@ ghost use Rattle.std.specs.List.{list_all};
 ghost use Rattle.std.specs.Option.{option_map_or};
 ghost use Rattle.mv_move_types.specs.Module.{Module as Tables, FunctionDefinition as FunctionTable, module_name as name_of_module, own_name};
 ghost use Rattle.mv_move_types.specs.Names.{ModuleName, same_module};
-ghost use Rattle.mv_move_types.specs.Named.{have_one_name as are_of_one_name, is_public as may_be_called};
+ghost use Rattle.mv_move_types.specs.Named.{have_one_name as are_of_one_name};
 ghost use Rattle.mv_move_types.specs.Refusals.{IsRefusedIn};
 ghost use Rattle.mv_linker.specs.Found.{AreTargets, IsFound};
-ghost use Rattle.mv_linker.specs.Handles.{AreFunctionsAt, AreStructsAt, IsFunctionAt, IsFunctionIn};
-ghost use Rattle.mv_linker.specs.Interface.{IsInterface};
+ghost use Rattle.mv_interface.specs.Handles.{AreFunctionsAt, AreStructsAt, IsFunctionAt, IsFunctionIn};
+ghost use Rattle.mv_interface.specs.Interface.{IsInterface};
 ghost use Rattle.mv_linker.specs.Matches.{IsOf, function_matches};
-ghost use Rattle.mv_linker.specs.Outline.{IsFunctionNamed};
+ghost use Rattle.mv_interface.specs.Outline.{IsFunctionNamed};
 ghost use Rattle.mv_linker.specs.StoreRules.{function_fits, function_is_there};
 ghost use Rattle.mv_linker.specs.Targets.{modules_in};
 ghost use Rattle.mv_linker.specs.TypesByDefinition.{are_types, is_part, is_type, same_definition};
-ghost use Rattle.mv_linker.specs.TypesByName.{both_there};
+ghost use Rattle.mv_interface.specs.TypesByName.{both_there};
 
-use crate::interface::{Interface, LinkedType};
 use crate::named_modules::{Found, Target};
 use crate::named_structs::{definition, target_at};
-use crate::names::{module_name, name_of};
-use crate::outline::Outline;
 use crate::pushed::pushed;
 use crate::scope::{Scope, is_module};
-use crate::shapes::Part;
-use crate::types::{same_kind, same_signature};
 use mv_binary_format::{FunctionDefinition, Module};
 use mv_bounds::function_places;
-use mv_move_types::{Definition, FunctionHandle, Refusal, Token, ValueType, Visibility};
+use mv_interface::{Interface, LinkedType, Outline, Part, function_handle, is_public, module_name, name_of, same_kind, same_signature};
+use mv_move_types::{Definition, FunctionHandle, Refusal, Token, ValueType};
 use std::alloc::Global;
 
 /// Whether two modules have one name.
@@ -39,23 +35,6 @@ fn have_one_name(m: &Module<'_>, n: &Module<'_>) -> bool
         Some((address, name)) => is_module(n, address, name),
         None => false,
     }
-}
-
-/// Whether other modules may call a function.
-pub fn is_public(d: &FunctionDefinition) -> bool
-    ensures { result ≡ may_be_called d.now }
-{
-    match d.visibility() {
-        Visibility::Private => false,
-        Visibility::Public => true,
-    }
-}
-
-/// The function handle at an index, if it is there.
-pub fn function_handle(m: &Module<'_>, h: usize) -> Option<FunctionHandle>
-    ensures { result ≡ slice_get m.now.function_handles h }
-{
-    m.function_handles().get(h).copied()
 }
 
 /// Whether a function definition has the types that a handle says, and may be called from the handle's module.

@@ -4,19 +4,18 @@ ghost use Rattle.mv_move_types.specs.Module.{Module as Tables};
 ghost use Rattle.mv_move_types.specs.Names.{ModuleName};
 ghost use Rattle.mv_move_types.specs.Refusals.{IsRefusedIn};
 ghost use Rattle.mv_linker.specs.Found.{AreTargets};
-ghost use Rattle.mv_linker.specs.Handles.{AreStructsAt, IsStructAt};
+ghost use Rattle.mv_interface.specs.Handles.{AreStructsAt, IsStructAt};
 ghost use Rattle.mv_linker.specs.Matches.{IsOf, IsStructOf, struct_matches};
-ghost use Rattle.mv_linker.specs.Outline.{IsOutline, IsStructNamed};
+ghost use Rattle.mv_interface.specs.Outline.{IsOutline, IsStructNamed};
 ghost use Rattle.mv_linker.specs.StoreRules.{struct_is_there, structs_are_there};
 ghost use Rattle.mv_linker.specs.Targets.{modules_in};
 
 use crate::named_modules::Target;
-use crate::outline::Outline;
 use crate::pushed::pushed;
 use crate::scope::Scope;
-use crate::types::are_same;
 use mv_binary_format::Module;
 use mv_bounds::struct_places;
+use mv_interface::{Outline, are_same};
 use mv_move_types::{Definition, Refusal, StructHandle};
 use std::alloc::Global;
 

@@ -10,9 +10,9 @@ ghost use Rattle.mv_linker.specs.Scope.{offered, places_in, all_named};
 
 use crate::entry::Name;
 use crate::indexed::{PlacesByName, place_of};
-use crate::names::name_of;
 use crate::{New, Store};
 use mv_binary_format::Module;
+use mv_interface::name_of;
 use std::alloc::{AllocError, Global};
 use std::borrow::CowSlice;
 

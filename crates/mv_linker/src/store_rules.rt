@@ -13,11 +13,11 @@ ghost use Rattle.mv_linker.specs.Targets.{modules_in};
 
 use crate::dependencies::{DependenciesAt, placed};
 use crate::named_modules::places_of;
-use crate::outline::Outline;
 use crate::pushed::pushed;
 use crate::scope::Scope;
 use crate::to_link::Lowered;
 use mv_binary_format::Module;
+use mv_interface::Outline;
 use mv_move_types::{Definition, Refusal};
 use std::alloc::Global;
 

@@ -5,17 +5,15 @@ ghost use Rattle.mv_move_types.specs.Module.{name_at};
 ghost use Rattle.mv_move_types.specs.Named.{function_place};
 ghost use Rattle.mv_linker.specs.Link.{IsStore, tables_in};
 ghost use Rattle.mv_linker.specs.Code.{program};
-ghost use Rattle.mv_linker.specs.Interface.{IsInterface, IsSignatureAt};
+ghost use Rattle.mv_interface.specs.Interface.{IsInterface, IsSignatureAt};
 ghost use Rattle.mv_linker.specs.Linked.{program_of, width_of_others};
-ghost use Rattle.mv_linker.specs.Shapes.{AreFieldsAt, is_keyed, structs_in};
+ghost use Rattle.mv_interface.specs.Shapes.{AreFieldsAt, is_keyed, structs_in};
 ghost use Rattle.mv_linker.specs.Stored.{IsSizeAt};
 
 use crate::Store;
 use crate::code::Code;
-use crate::interface::{Interface, Signature};
-use crate::names::StructName;
-use crate::shapes::Part;
 use crate::sizes::Size;
+use mv_interface::{Interface, Part, Signature, StructName};
 use mv_move_types::Definition;
 
 impl Store {

@@ -7,22 +7,19 @@ ghost use Rattle.mv_move_types.specs.AbilitySets.{same_abilities};
 ghost use Rattle.mv_move_types.specs.Module.{Module as Tables, name_at, name_of_struct, struct_abilities};
 ghost use Rattle.mv_move_types.specs.Tags.{same_tag};
 ghost use Rattle.mv_type_states.specs.Sound.{IsSound};
-ghost use Rattle.mv_linker.specs.Interface.{IsInterface};
-ghost use Rattle.mv_linker.specs.KeptTypes.{are_kept, are_names, are_parts, function_same, kept_at, kept_named, part_named, struct_same, types_same};
-ghost use Rattle.mv_linker.specs.TypesByName.{both_there, token_named, value_type_named};
+ghost use Rattle.mv_interface.specs.Interface.{IsInterface};
+ghost use Rattle.mv_interface.specs.Outline.{are_names};
+ghost use Rattle.mv_linker.specs.KeptTypes.{are_kept, are_parts, function_same, kept_at, kept_named, part_named, struct_same, types_same};
+ghost use Rattle.mv_interface.specs.TypesByName.{both_there, token_named, value_type_named};
 ghost use Rattle.mv_linker.specs.Link.{tables_in, replaced_in, follows, all_follow as each_follows};
 ghost use Rattle.mv_linker.specs.Scope.{offered};
 ghost use Rattle.mv_linker.specs.Upgrades.{structs_stay as all_stay, function_stays as this_stays, may_replace as may_stand_for};
 ghost use Rattle.std.specs.List.{list_all};
 
 use crate::Store;
-use crate::interface::{Interface, LinkedType};
-use crate::named_functions::{function_handle, is_public};
-use crate::names::{function_place, struct_name};
 use crate::scope::Scope;
-use crate::shapes::Part;
-use crate::types::{are_same, same_kind};
 use mv_binary_format::{FunctionDefinition, Module, StructDefinition};
+use mv_interface::{Interface, LinkedType, Part, are_same, function_handle, function_place, is_public, same_kind, struct_name};
 use mv_move_types::{Abilities, Definition, Field, Token, ValueType};
 
 /// The abilities that a struct definition is declared with, if its handle is there.

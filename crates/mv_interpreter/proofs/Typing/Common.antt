@@ -50,10 +50,10 @@ pub use Rattle.mv_cfg.proofs.Beginnings.{IsAscending}
 pub use Rattle.mv_cfg.specs.Blocks.{ends_well, BasicBlock, starts_from}
 pub use Rattle.mv_module_text.proofs.Texts.{on_bind}
 pub use Rattle.mv_module_text.specs.Fits.{address_fits, function_definition_fits, instruction_fits, is_byte, is_index, constant_fits, token_fits}
-pub use Rattle.mv_linker.proofs.Found.{then_found}
-pub use Rattle.mv_linker.proofs.NameLemmas.{same_module-same, same_struct-same}
+pub use Rattle.mv_interface.proofs.Found.{then_found}
+pub use Rattle.mv_interface.proofs.NameLemmas.{same_module-same, same_struct-same}
 pub use Rattle.mv_linker.specs.StoreRules.{structs_are_there}
-pub use Rattle.mv_linker.specs.TypesByName.{token_named, tokens_named, value_type_named}
+pub use Rattle.mv_interface.specs.TypesByName.{token_named, tokens_named, value_type_named}
 pub use Rattle.mv_storage.proofs.Keys.{same_key-to}
 pub use Rattle.mv_storage.proofs.PlaceLemmas.{slice_get-set_other}
 pub use Rattle.mv_type_states.proofs.Tokens.{lists_equal, tokens_equal}

@@ -14,7 +14,7 @@ use Rattle.mv_move_types.specs.Tags.{Tag}
 use Rattle.mv_machine.specs.Typing.{tag_named}
 use Rattle.mv_move_types.specs.Flow.{successors}
 use Rattle.mv_type_states.specs.TypeRules.{Types, types_after}
-use Rattle.mv_linker.specs.TypesByName.{token_named, tokens_named}
+use Rattle.mv_interface.specs.TypesByName.{token_named, tokens_named}
 use Rattle.mv_module_text.specs.Fits.{instruction_fits}
 use Rattle.mv_machine.specs.Step.{Here, OwnStruct, own_struct, is_reference_tag}
 use Rattle.mv_machine.specs.StepControl.{Callee, callee}

@@ -9,7 +9,7 @@ use Rattle.mv_interpreter.proofs.{Typing.Operands.on_names, Typing.Tests.same_ki
 use Rattle.mv_interpreter.proofs.{Typing.Callees.on_found}
 use Rattle.mv_move_types.specs.{Options.find_index, Names.same_struct, Named.is_struct}
 use Rattle.mv_machine.specs.Typed.{leaf_fits, is_of_type, are_of_types, is_of_struct, is_fine_entry, is_fine_storage}
-use Rattle.mv_linker.proofs.NameLemmas.{same_struct-is}
+use Rattle.mv_interface.proofs.NameLemmas.{same_struct-is}
 use Rattle.mv_interpreter.specs.Typing.HasType.{fields_by_name}
 use Rattle.mv_type_states.proofs.Tokens.{kinds_equal}
 

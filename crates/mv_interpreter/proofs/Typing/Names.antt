@@ -8,7 +8,7 @@ use Rattle.mv_machine.specs.Typing.{struct_tag, value_type_tag}
 use Rattle.mv_move_types.specs.{Named.declared, AbilitySets.same_abilities}
 use Rattle.mv_bounds.specs.Bounds.{InBounds, value_type_in, struct_handle_in}
 use Rattle.mv_linker.specs.StoreRules.{struct_is_there}
-use Rattle.mv_linker.proofs.OwnDefinitions.{module_there, struct_name_by}
+use Rattle.mv_interface.proofs.OwnDefinitions.{module_there, struct_name_by}
 
 module _ (m : Module) (bounds : InBounds m) where
   pub struct_there : (h : ℕ) → below h m.struct_handles ≡ true → (name : StructName) × (struct_name m h ≡ Some name)

@@ -5,7 +5,7 @@ use Rattle.mv_interpreter.proofs.Typing.Common.{Field, StructHandle, Token, Plai
 use Rattle.mv_interpreter.proofs.Typing.Common.{all_at, there_below, then_found, same_module-same, token_named, tokens_named, StoreAccepted, ModuleAccepted, are_plain, may_be_field}
 use Rattle.mv_interpreter.proofs.{Typing.Operands.on_names, Typing.Roots.named_plain, Typing.Names.tokens_there}
 use Rattle.mv_machine.specs.{Typing.linked, Step.own_struct}
-use Rattle.mv_linker.proofs.OwnDefinitions.{own-definition, owns-structs}
+use Rattle.mv_interface.proofs.OwnDefinitions.{own-definition, owns-structs}
 use Rattle.mv_interpreter.specs.{Typing.HasType.fields_by_name}
 use Rattle.mv_interpreter.proofs.{Typing.Facts.OwnFacts}
 

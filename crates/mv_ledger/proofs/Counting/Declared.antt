@@ -5,7 +5,7 @@ use Rattle.mv_ledger.proofs.Common.{on_bind, map-is, count, count_in, count_in_f
 use Rattle.mv_ledger.proofs.Common.{AreKept, IsKept, StorageIsKept}
 use Rattle.mv_ledger.proofs.Bundles.Heirs.{Inherits, Stayed, stayed}
 use Rattle.mv_ledger.proofs.Counting.Packs.{HandlesDeclared, each-declared, each-get}
-use Rattle.mv_linker.proofs.Found.{passing, found_passes}
+use Rattle.mv_interface.proofs.Found.{passing, found_passes}
 use Rattle.std.proofs.lemmas.Option.{option_and_then_some}
 
 -- the module and the definition that declare a struct

@@ -7,7 +7,7 @@ use Rattle.mv_ledger.proofs.Common.{Leaf, More, NoMore, Struct, Value, Values, a
 use Rattle.mv_ledger.proofs.Counting.Counts.{declared-abilities}
 use Rattle.mv_ledger.proofs.Counting.Packs.{HandlesDeclared, each-declared, each-get, implied}
 use Rattle.mv_ledger.proofs.Counting.Declared.{definition-declared}
-use Rattle.mv_linker.proofs.Found.{passing, found_passes}
+use Rattle.mv_interface.proofs.Found.{passing, found_passes}
 use Rattle.std.proofs.lemmas.Option.{option_and_then_some}
 
 -- a struct's definition, as far as abilities go

@@ -4,9 +4,9 @@
 use Rattle.mv_ledger.proofs.Common.{[], ◌&&◌, ◌∷◌, ◌≡◌, ◌∙◌, List, Module, Token, ap, ap₂, map, refl, ℕ, are_arguments, with_sender, Value, StructPart, LeafPart, Nothing}
 use Rattle.mv_machine.specs.Ledger.{is_argument}
 use Rattle.mv_ledger.specs.ParameterTypes.{asked_type}
-use Rattle.mv_linker.specs.Interface.{AreTypes, IsType}
-use Rattle.mv_linker.specs.declared.interface.LinkedType.{LinkedType}
-use Rattle.mv_linker.specs.declared.interface.LinkedType.TheVariants as L
+use Rattle.mv_interface.specs.Interface.{AreTypes, IsType}
+use Rattle.mv_interface.specs.declared.interface.LinkedType.{LinkedType}
+use Rattle.mv_interface.specs.declared.interface.LinkedType.TheVariants as L
 use Rattle.mv_move_types.specs.declared.token.LeafKind.{LeafKind}
 use Rattle.mv_move_types.specs.declared.token.LeafKind.TheVariants.{Address, Boolean, Number, Signer}
 use Rattle.mv_move_types.specs.declared.token.Token.TheVariants.{Plain, Reference, MutableReference}

@@ -2,7 +2,7 @@
 use Rattle.mv_ledger.proofs.Common.{[], ◌++◌, ◌+◌, ◌<◌, ◌∙◌, ◌∷◌, ◌≡◌, ◌≤◌, Bool, List, Some, ap, append-nil, append_assoc, ap₂, cond, false, get_or, length, map, refl, subst, sym, take, true}
 use Rattle.mv_ledger.proofs.Common.{zero-add, ℕ, map-append, take_all, filter_more, get_or-enumerate_from, length-enumerate_from, get_or_from_slice_get, enumerate_from, filter, option_map_or}
 use Rattle.mv_ledger.proofs.Common.{slice_get, Module, StructDefinition, Definition, element_at, structs_in, keyed_at, has_key}
-use Rattle.mv_linker.specs.Shapes.{is_keyed}
+use Rattle.mv_interface.specs.Shapes.{is_keyed}
 
 module _ (m : Module) (place : ℕ) where
   -- the struct at an index

@@ -8,9 +8,9 @@ use Rattle.mv_ledger.proofs.Common.{struct_is_small, Part, Nothing, on_found, st
 use Rattle.mv_ledger.proofs.Common.{kinds_of_token, kinds_within, leaf_kinds, IsOfStore, PutsKinds, keyed_at, kinds_at, kinds_of_part, kinds_of_parts, keyed_from}
 use Rattle.mv_linker.proofs.Joining.Assembling.{passed-among}
 use Rattle.mv_linker.proofs.Members.{among-at}
-use Rattle.mv_linker.specs.Handles.{IsStructAt}
-use Rattle.mv_linker.specs.Shapes.{has_key}
-use Rattle.mv_linker.specs.declared.shapes.Part.TheVariants.{Leaf, Struct}
+use Rattle.mv_interface.specs.Handles.{IsStructAt}
+use Rattle.mv_interface.specs.Shapes.{has_key}
+use Rattle.mv_interface.specs.declared.shapes.Part.TheVariants.{Leaf, Struct}
 use Rattle.mv_ledger.proofs.Loads.LeafKinds.{kinds-count}
 
 -- ---- the kinds of the leaves of parts, as they are put one after the other

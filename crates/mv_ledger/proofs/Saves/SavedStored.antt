@@ -7,7 +7,7 @@ use Rattle.mv_ledger.proofs.Common.{on_found, AreAbove, IsAscending, is_keyed, a
 use Rattle.mv_ledger.proofs.Counting.Stored.{above-below, before-clash}
 use Rattle.mv_ledger.proofs.SavedOnce.{IsOneOn, in_parts, whole-one, uleb-one, counted-one, of_struct-one}
 use Rattle.mv_ledger.proofs.Lists.{all-front, all-back}
-use Rattle.mv_linker.proofs.Found.{passing}
+use Rattle.mv_interface.proofs.Found.{passing}
 use Rattle.mv_ledger.specs.Parts.Saving.{struct_under}
 
 -- ---- lists

@@ -4,9 +4,9 @@
 --   no-outlines, more-outlines    the outlines of the first modules
 use Rattle.mv_linker.proofs.Common.{[], ℕ, ◌++◌, ◌+◌, ◌==◌, ◌∙◌, ◌∷◌, ◌≡◌, AreOutlines, IfSome, Interface, IsInterface, IsOutline, List, Module, New, None, Option, Scope, Some, ap, modules_in}
 use Rattle.mv_linker.proofs.Common.{offered, position, refl, same_Some, slice_get, subst, sym, tables_in, take, none-some}
-use Rattle.mv_linker.specs.Outline.{OutlineView}
+use Rattle.mv_interface.specs.Outline.{OutlineView}
 use Rattle.mv_linker.specs.Relinked.{IsFitting}
-use Rattle.mv_linker.proofs.Each.{each-more}
+use Rattle.mv_interface.proofs.Each.{each-more}
 use Rattle.mv_linker.proofs.Joining.Assembling.{offered-at}
 use Rattle.mv_linker.proofs.Joining.Bundled.{bundle-at, old-at, place-at}
 use Rattle.mv_linker.proofs.Joining.Joins.{fitting}

@@ -6,10 +6,10 @@ use Rattle.mv_linker.proofs.Common.{List, Module, ModuleName, None, Option, Some
 use Rattle.mv_linker.proofs.Common.{none-some, on_bind, option_map_or, own_name, parameter_tokens, refl, same_Some, same_module, same_signature, same_tags, signature_named, slice_get, slice_get_within, subst}
 use Rattle.mv_linker.proofs.Common.{sym, tokens_named}
 use Rattle.mv_move_types.specs.Module.{result_tokens}
-use Rattle.mv_linker.specs.Outline.{FunctionOutline}
+use Rattle.mv_interface.specs.Outline.{FunctionOutline}
 use Rattle.mv_linker.specs.TypesByDefinition.{are_types}
 use Rattle.mv_linker.proofs.Lemmas.{element_at}
-use Rattle.mv_linker.proofs.TypeTests.{same_types_is}
+use Rattle.mv_interface.proofs.TypeTests.{same_types_is}
 use Rattle.mv_linker.proofs.Joining.TypesCompared.{types-compared}
 
 -- a handle of a module names its own

@@ -12,10 +12,11 @@ use Rattle.std.specs.List.{AllZip}
 use Rattle.mv_linker.specs.StoreRules.{function_named}
 use Rattle.mv_linker.specs.KeptTypes.{function_same, kept_at, struct_same, types_same}
 use Rattle.mv_linker.proofs.Lemmas.{all_at, element_at}
-use Rattle.mv_linker.proofs.TypeTests.{same_types_is}
+use Rattle.mv_interface.proofs.TypeTests.{same_types_is}
 use Rattle.mv_signatures.specs.Signatures.{may_be_field}
-use Rattle.mv_linker.specs.KeptTypes.{are_kept, are_names, are_parts, kept_named, part_named}
-use Rattle.mv_linker.specs.declared.interface.LinkedType.TheVariants.{Plain as Value, Reference as ReferenceTo, MutableReference as MutableReferenceTo}
+use Rattle.mv_interface.specs.Outline.{are_names}
+use Rattle.mv_linker.specs.KeptTypes.{are_kept, are_parts, kept_named, part_named}
+use Rattle.mv_interface.specs.declared.interface.LinkedType.TheVariants.{Plain as Value, Reference as ReferenceTo, MutableReference as MutableReferenceTo}
 use Rattle.mv_linker.proofs.Kept.HandleDefinitions.{name-found}
 
 -- a struct that isn't there has no tag

@@ -8,14 +8,14 @@ use Rattle.mv_linker.proofs.Common.{ℕ, ◌>>=◌, ◌∙◌, ◌≡◌, Functi
 use Rattle.mv_linker.proofs.Common.{declared_in, false, find_index, function_place, is_struct, module_name, name_of_function, name_of_struct, on_bind, option_map_or, own_name}
 use Rattle.mv_linker.proofs.Common.{Abilities, Bool, FunctionHandle, IsFunctionIn, IsOf, IsStructOf, StructHandle, StructName, function_fits, function_matches, function_named, none-some, option_map, same_abilities, struct_matches}
 use Rattle.mv_linker.proofs.Common.{refl, same_Some, slice_get, slice_get_within, struct_abilities, sym}
-use Rattle.mv_linker.specs.Identifiers.{struct_identifier}
-use Rattle.mv_linker.specs.Outline.{IsFunctionNamed, IsOutline, IsStructNamed, OutlineView, StructOutline}
-use Rattle.mv_linker.proofs.Found.{map_as_bind}
+use Rattle.mv_interface.specs.Identifiers.{struct_identifier}
+use Rattle.mv_interface.specs.Outline.{IsFunctionNamed, IsOutline, IsStructNamed, OutlineView, StructOutline}
+use Rattle.mv_interface.proofs.Found.{map_as_bind}
 use Rattle.mv_linker.proofs.Lemmas.{element_at, found_at, struct_named_so, struct_parts}
-use Rattle.mv_linker.proofs.NameLemmas.{named_in}
-use Rattle.mv_linker.proofs.OwnDefinitions.{own_handle, struct-at}
+use Rattle.mv_interface.proofs.NameLemmas.{named_in}
+use Rattle.mv_interface.proofs.OwnDefinitions.{own_handle, struct-at}
 use Rattle.mv_linker.proofs.Joining.Upgraded.{so-struct}
-use Rattle.mv_linker.proofs.Kept.OutlineLemmas.{named-place, no-function-named}
+use Rattle.mv_interface.proofs.OutlineLemmas.{named-place, no-function-named}
 
 -- a definition with an identifier has the name of its module and the identifier
 identified : (n : Module) (e : StructDefinition) (i : ℕ) (home : ModuleName) (name : List ℕ) → WellDefined n → slice_get n.structs i ≡ Some e → own_name n ≡ Some home

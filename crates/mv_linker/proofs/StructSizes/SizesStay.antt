@@ -9,7 +9,7 @@ use Rattle.mv_linker.proofs.Lemmas.{all_from, all_at, module_place-is, passing, 
 use Rattle.mv_linker.proofs.Joining.Upgraded.{Replaces, both-there, parts-stay, stays-at, struct-stays}
 use Rattle.mv_linker.proofs.TagTests.{same_tag-is}
 use Rattle.mv_linker.proofs.Joining.Resolving.{struct-of-all}
-use Rattle.mv_linker.proofs.OwnDefinitions.{OwnsStructs}
+use Rattle.mv_interface.proofs.OwnDefinitions.{OwnsStructs}
 
 -- an old module stands among the new ones, or one of its name that keeps its structs
 abbrev pub Keeps : List Module → List Module → Type 0

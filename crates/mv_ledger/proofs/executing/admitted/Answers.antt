@@ -1,8 +1,8 @@
 use Rattle.mv_ledger.proofs.Common.{◌<◌, ◌∙◌, ◌≡◌, ◌≤◌, Err, List, None, Option, Some, ap, arith, length, map, option_map, refl, subst, sym, true, ℕ, err_from_is_err_and, IfSome, slice_get}
 use Rattle.mv_ledger.proofs.Common.{FunctionDefinition, Module, parameter_tokens, function_place, is_module, module_place, PublishedModule, RunRequest, are_arguments, with_sender}
 use Rattle.mv_ledger.proofs.Common.{FunctionCall, Value, found_at, tables_in, arg_value, request_of, Rejected}
-use Rattle.mv_linker.specs.Interface.{AreTypesOf, IsSignatureAt}
-use Rattle.mv_linker.specs.declared.interface.Signature.{Signature}
+use Rattle.mv_interface.specs.Interface.{AreTypesOf, IsSignatureAt}
+use Rattle.mv_interface.specs.declared.interface.Signature.{Signature}
 use Rattle.mv_ledger.proofs.Runs.Parameters.{same-arguments, same-sender}
 use Rattle.mv_ledger.proofs.Runs.Admissions.{FindsModule, FindsFunction, FindsTypes, hit, miss, rejected-as, no_budget, no_module, no_function, no_entry, no_arguments, no_runs, admits, place-below}
 use Rattle.mv_ledger.proofs.executing.admitted.Goals as goal

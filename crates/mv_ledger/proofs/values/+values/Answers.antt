@@ -1,6 +1,6 @@
 use Rattle.mv_ledger.proofs.Common.{◌++◌, ◌+◌, ◌<◌, ◌∙◌, ◌∷◌, ◌≡◌, List, Some, add-one, ap, arith, codes, drop, get_or, length, subst, sym, ℕ, drop-cons, Global, Vec, Boolean, value_text}
 use Rattle.mv_ledger.proofs.Common.{tables_in, Part, PutsText, part_from}
-use Rattle.mv_linker.specs.declared.shapes.Part.TheVariants.{Leaf}
+use Rattle.mv_interface.specs.declared.shapes.Part.TheVariants.{Leaf}
 use Rattle.mv_ledger.proofs.Shows.Fields.{HasPut-first, HasPut-later, extends-same, extends-more}
 use Rattle.mv_ledger.proofs.Shows.Structs.{puts_no_depth, puts_missing, puts_fields}
 use Rattle.mv_ledger.proofs.values.+values.Goals as goal

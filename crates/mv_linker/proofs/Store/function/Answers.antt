@@ -2,8 +2,8 @@ use Rattle.mv_linker.proofs.Common.{ℕ, ◌<◌, ◌∙◌, ◌≡◌, AreCodes
 use Rattle.mv_linker.proofs.Common.{arith, function_place, length, length-map, option_map, refl, slice_get, slice_get_read, slice_get_within, subst, sym, tables_in}
 use Rattle.mv_linker.proofs.Lemmas.{among-at, element_at}
 use Rattle.mv_linker.proofs.Joining.Assembling.{passed-among}
-use Rattle.mv_linker.proofs.Kept.InterfaceLemmas.{signature-at}
-use Rattle.mv_linker.proofs.Kept.OutlineLemmas.{named-place, no-function-named}
+use Rattle.mv_interface.proofs.InterfaceLemmas.{signature-at}
+use Rattle.mv_interface.proofs.OutlineLemmas.{named-place, no-function-named}
 use Rattle.mv_linker.proofs.LinkedCode.StoredCodes.{interface-known}
 use Rattle.mv_linker.proofs.Store.function.Goals.{After-index}
 use Rattle.mv_linker.proofs.Store.function.Goals as goal

@@ -1,5 +1,5 @@
 use Rattle.mv_linker.proofs.Common.{◌≡◌, Module, None, own_name, subst, sym}
-use Rattle.mv_linker.proofs.OwnDefinitions.{own_name-not_none}
+use Rattle.mv_interface.proofs.OwnDefinitions.{own_name-not_none}
 use Rattle.mv_linker.proofs.entry.entry_of.Goals as goal
 
 pub unreachable-requires : goal.unreachable-requires

@@ -1,6 +1,6 @@
 use Rattle.std.proofs.Common.{◌≡◌, None, sym, subst}
 use Rattle.mv_move_types.specs.Module.{Module, own_name}
-use Rattle.mv_linker.proofs.OwnDefinitions.{own_name-not_none}
+use Rattle.mv_interface.proofs.OwnDefinitions.{own_name-not_none}
 use Rattle.mv_linker.proofs.scope.own_name.Goals as goal
 
 pub unreachable-requires : goal.unreachable-requires

@@ -1,5 +1,5 @@
 use Rattle.mv_ledger.proofs.Common.{Boolean, Part}
-use Rattle.mv_linker.specs.declared.shapes.Part.TheVariants.{Leaf}
+use Rattle.mv_interface.specs.declared.shapes.Part.TheVariants.{Leaf}
 use Rattle.mv_ledger.proofs.Saves.LayoutParts.{puts-struct, put-more}
 use Rattle.mv_ledger.proofs.layouts.Layouts.+kinds.Goals as goal
 

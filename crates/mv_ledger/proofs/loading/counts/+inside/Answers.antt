@@ -1,5 +1,5 @@
 use Rattle.mv_ledger.proofs.Common.{arith, Boolean, Part}
-use Rattle.mv_linker.specs.declared.shapes.Part.TheVariants.{Leaf}
+use Rattle.mv_interface.specs.declared.shapes.Part.TheVariants.{Leaf}
 use Rattle.mv_ledger.proofs.Loads.Adding.{adds-struct, adds-more, adds-all}
 use Rattle.mv_ledger.proofs.loading.counts.+inside.Goals as goal
 

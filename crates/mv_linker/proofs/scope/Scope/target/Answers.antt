@@ -1,7 +1,7 @@
 use Rattle.mv_linker.proofs.Common.{refl, sym, is_module, ModuleName, modules_in}
 use Rattle.mv_linker.proofs.Joining.Joins.{well-defined}
 use Rattle.mv_linker.proofs.Joining.Resolving.{nowhere}
-use Rattle.mv_linker.proofs.NameLemmas.{module_place-is}
+use Rattle.mv_interface.proofs.NameLemmas.{module_place-is}
 use Rattle.mv_linker.proofs.scope.Scope.target.Goals as goal
 use Rattle.mv_bounds.proofs.Entries.{place_below}
 

@@ -1,0 +1,218 @@
+// What is kept of a module beside its text and its code.
+ghost use Rattle.std.specs.Prelude.{◌≡◌, ◌≤◌, List, [], length, map, slice_get, unwrap_or, IfOk, IfNone, IfSome, OnOk};
+ghost use Rattle.mv_move_types.specs.Limits.{most_types};
+ghost use Rattle.mv_move_types.specs.Module.{Module as Tables, parameter_tokens, result_tokens};
+ghost use Rattle.mv_bounds.specs.Bounds.{InBounds};
+ghost use Rattle.mv_interface.specs.Handles.{AreStructsAt};
+ghost use Rattle.mv_interface.specs.Interface.{IsInterface, IsSignatureOf, type_by, types_by};
+ghost use Rattle.mv_interface.specs.Outline.{IsOutline};
+ghost use Rattle.mv_interface.specs.Shapes.{part_by, parts_by};
+
+use crate::lists::Lists;
+use crate::outline::{Outline, field_count};
+use crate::shapes::{Part, part_of, put_parts};
+use mv_binary_format::{FunctionDefinition, Module};
+use mv_move_types::{Definition, Token};
+use std::alloc::{AllocError, Global};
+
+/// A type of a module in which a struct stands as where it is defined, so that types of two modules can be compared.
+#[derive(Clone, Copy)]
+pub enum LinkedType {
+    /// Of a value.
+    Plain(Part),
+    /// Of a reference to one.
+    Reference(Part),
+    /// Of a reference through which it may be written.
+    MutableReference(Part),
+}
+
+/// What is kept of a module beside its text and its code: all that is asked of it where others name it or run it, so that nothing
+/// reads its bytes again. Each list is in the order of the definitions.
+#[derive(Drop)]
+pub struct Interface {
+    /// What others can name of it.
+    pub outline: Outline,
+    /// Of what the fields of each struct are made.
+    pub parts: Lists<Part>,
+    /// The types of each function's parameters.
+    pub parameters: Lists<LinkedType>,
+    /// The types of each function's results.
+    pub results: Lists<LinkedType>,
+}
+
+/// What a call from outside asks of a function.
+#[derive(Clone, Copy)]
+pub struct Signature<'a> {
+    /// The types of its parameters.
+    pub parameters: &'a [LinkedType],
+    /// Whether it is an entry.
+    pub is_entry: bool,
+}
+
+// A type, where `structs` has where the struct of each struct handle is defined.
+fn type_of(structs: &[Definition], token: Token) -> LinkedType
+    ensures { result ≡ type_by structs.now token }
+{
+    match token {
+        Token::Plain(_) => LinkedType::Plain(part_of(structs, token)),
+        Token::Reference(to) => LinkedType::Reference(part_of(structs, Token::Plain(to))),
+        Token::MutableReference(to) => {
+            LinkedType::MutableReference(part_of(structs, Token::Plain(to)))
+        }
+    }
+}
+
+// Puts types into a list that is empty.
+fn put_types(
+    types: &mut Vec<LinkedType>,
+    structs: &[Definition],
+    tokens: &[Token],
+) -> Result<(), AllocError>
+    requires { types.old.items ≡ [] }
+    ensures { OnOk result (types.new.items ≡ types_by structs.now tokens.now) }
+{
+    for token in tokens {
+        types.push(type_of(structs, *token))?;
+    }
+    Ok(())
+}
+
+// The types of a signature, if it is there.
+fn tokens_at<'m>(m: &'m Module<'_>, signature: u16) -> &'m [Token]
+    ensures value { result.now ≡ unwrap_or (slice_get m.entry.now.signatures signature) [] }
+    ensures few { length result.now ≤ most_types }
+{
+    match m.signature(usize::from(signature)) {
+        Some(tokens) => tokens,
+        None => &[],
+    }
+}
+
+// The types of a function's parameters, if they are there.
+fn parameters<'m>(m: &'m Module<'_>, d: &FunctionDefinition) -> &'m [Token]
+    ensures value { result.now ≡ unwrap_or (parameter_tokens m.entry.now d.now) [] }
+    ensures few { length result.now ≤ most_types }
+{
+    match m.function_handles().get(usize::from(d.handle())) {
+        Some(handle) => tokens_at(m, handle.parameters),
+        None => &[],
+    }
+}
+
+// The types of its results, if they are there.
+fn results<'m>(m: &'m Module<'_>, d: &FunctionDefinition) -> &'m [Token]
+    ensures value { result.now ≡ unwrap_or (result_tokens m.entry.now d.now) [] }
+    ensures few { length result.now ≤ most_types }
+{
+    match m.function_handles().get(usize::from(d.handle())) {
+        Some(handle) => tokens_at(m, handle.results),
+        None => &[],
+    }
+}
+
+// Of what the fields of each struct of a module are made.
+fn parts_of(
+    alloc: Global,
+    m: &Module<'_>,
+    structs: &[Definition],
+) -> Result<Lists<Part>, AllocError>
+    ensures { IfOk result (λ l. l ≡ map (λ d. parts_by structs.now d.fields) m.now.structs) }
+{
+    let definitions = m.structs();
+    let mut parts = Lists::with_capacity(alloc, definitions.len(), field_count(m))?;
+    let mut one = Vec::new(alloc);
+    for d in definitions {
+        one.clear();
+        put_parts(&mut one, structs, d.fields())?;
+        parts.push(&one)?;
+    }
+    Ok(parts)
+}
+
+// How many parameters the functions of a module have together, so that their types get just the room that they take.
+fn parameter_count(m: &Module<'_>) -> usize {
+    let mut count: usize = 0;
+    for d in m.functions() {
+        count = count.saturating_add(parameters(m, d).len());
+    }
+    count
+}
+
+// How many results they have together, likewise.
+fn result_count(m: &Module<'_>) -> usize {
+    let mut count: usize = 0;
+    for d in m.functions() {
+        count = count.saturating_add(results(m, d).len());
+    }
+    count
+}
+
+// The types of the parameters of each function of a module.
+fn parameters_of(
+    alloc: Global,
+    m: &Module<'_>,
+    structs: &[Definition],
+) -> Result<Lists<LinkedType>, AllocError>
+    ensures { IfOk result (λ l. l ≡ map (λ d. types_by structs.now (unwrap_or (parameter_tokens m.now d) [])) m.now.functions) }
+{
+    let functions = m.functions();
+    let mut types = Lists::with_capacity(alloc, functions.len(), parameter_count(m))?;
+    let mut one = Vec::new(alloc);
+    for d in functions {
+        one.clear();
+        put_types(&mut one, structs, parameters(m, d))?;
+        types.push(&one)?;
+    }
+    Ok(types)
+}
+
+// The types of their results.
+fn results_of(
+    alloc: Global,
+    m: &Module<'_>,
+    structs: &[Definition],
+) -> Result<Lists<LinkedType>, AllocError>
+    ensures { IfOk result (λ l. l ≡ map (λ d. types_by structs.now (unwrap_or (result_tokens m.now d) [])) m.now.functions) }
+{
+    let functions = m.functions();
+    let mut types = Lists::with_capacity(alloc, functions.len(), result_count(m))?;
+    let mut one = Vec::new(alloc);
+    for d in functions {
+        one.clear();
+        put_types(&mut one, structs, results(m, d))?;
+        types.push(&one)?;
+    }
+    Ok(types)
+}
+
+impl Interface {
+    /// That of a module, with its outline; `structs` has where the struct of each of its struct handles is defined.
+    pub fn of(
+        alloc: Global,
+        outline: Outline,
+        m: &Module<'_>,
+        structs: &[Definition],
+    ) -> Result<Self, AllocError>
+        ensures { IfOk result (λ i. (modules : List Tables) → InBounds m.now → IsOutline m.now outline → AreStructsAt modules m.now structs.now → IsInterface modules m.now i) }
+    {
+        Ok(Interface {
+            outline,
+            parts: parts_of(alloc, m, structs)?,
+            parameters: parameters_of(alloc, m, structs)?,
+            results: results_of(alloc, m, structs)?,
+        })
+    }
+
+    /// What a call from outside asks of the function at an index, if it is there.
+    pub fn signature(&self, index: usize) -> Option<Signature<'_>>
+        requires { length self.now.parameters ≡ length self.now.outline.functions }
+        ensures there { IfSome result (IsSignatureOf self.now index) }
+        ensures none { IfNone result (length self.now.parameters ≤ index) }
+    {
+        let parameters = self.parameters.get(index)?;
+        Some(Signature {
+            parameters,
+            is_entry: self.outline.is_entry(index),
+        })
+    }
+}

@@ -1,0 +1,43 @@
+//! What other modules see of a module: the names and abilities of its structs and fields, its functions with their types, and whether
+//! types of two modules are one. It needs no store: where the structs of a module's handles are defined is given.
+//!
+//! ```
+//! use mv_binary_format::Module;
+//! use mv_interface::{Interface, Outline};
+//! use mv_move_types::Definition;
+//! use std::alloc::{AllocError, Global};
+//!
+//! /// The number of parameters of a module's function of an identifier, if there is one. `structs` has where the structs of the
+//! /// module's handles are defined.
+//! fn example(
+//!     alloc: Global,
+//!     m: &Module<'_>,
+//!     structs: &[Definition],
+//!     name: &[u8],
+//! ) -> Result<Option<usize>, AllocError> {
+//!     let outline = Outline::of(alloc, m)?;
+//!     let interface = Interface::of(alloc, outline, m, structs)?;
+//!     Ok(interface.outline.find_function(name).and_then(|index| {
+//!         let types = interface.parameters.get(index)?;
+//!         Some(types.len())
+//!     }))
+//! }
+//! ```
+#![tactic(auto)]
+
+mod by_name;
+mod definitions;
+mod interface;
+mod lists;
+mod names;
+mod outline;
+mod shapes;
+mod types;
+
+pub use definitions::{function_handle, is_public};
+pub use interface::{Interface, LinkedType, Signature};
+pub use lists::Lists;
+pub use names::{StructName, function_place, module_name, name_of, struct_name};
+pub use outline::Outline;
+pub use shapes::Part;
+pub use types::{are_same, same_kind, same_signature};

@@ -1,6 +1,0 @@
-use Rattle.mv_linker.proofs.Common.{◌≡◌, take, types_by}
-use Rattle.mv_linker.proofs.interface.put_types.Given as goal
-
--- the types so far
-abbrev pub invariant-loop-token : goal.invariant-loop-token
-invariant-loop-token l = l.types.items ≡ types_by l.structs (take l.token-index l.tokens)
