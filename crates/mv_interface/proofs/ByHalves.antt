@@ -1,5 +1,5 @@
 -- Definitions by their names: how they are ordered, and that the search for one by halves is exact.
---   by-name                    entries of sorted pairs give the order
+--   by-name, by-no-name        entries of sorted pairs give the order, and none that of no names
 --   begins, goes-down, goes-up, nowhere   how far the search came, and that it found nothing
 use Rattle.std.proofs.Common.{Bor, zero, suc, [], ◌∷◌, ◌++◌, map, ◌≡◌, ℕ, ◌+◌, ◌<◌, ◌≤◌, ◌∙◌, ◌-◌, true, false, List, length, Some, option_map, refl, subst, None, Option, unwrap_or, sym, ap, ap₂, arith, inl, inr}
 use Rattle.std.specs.Prelude.{◌⊎◌, slice_get, Contains, IsPermutation, IsSorted}
@@ -263,3 +263,15 @@ by-name identifiers indices pairs sorted order entries are moves rises order_is 
           read-at identifiers (slice_get indices b.0) p.0.0.now (sym (slice_get-map (identifier_at identifiers) indices b.0) ∙ named) in
           subst (λ (x : ByName). slice_get names x.index ≡ Some (identifier_at identifiers x.identifier)) b.2 (named ∙ ap (λ n. Some n) (sym read));
     }
+
+-- no definitions
+pub by-no-name : (identifiers : List (List ℕ)) (indices : List ℕ) (entries : List ByName) → indices ≡ [] → entries ≡ [] → IsByName identifiers (names_at identifiers indices) entries
+by-no-name identifiers indices entries no_index no_entry =
+    subst (λ (l : List ℕ). IsByName identifiers (names_at identifiers l) entries) (sym no_index) (subst (λ (l : List ByName). IsByName identifiers [] l) (sym no_entry) (record {
+      ascending = record {
+        all = λ p low. absurd (omega (arith, low));
+        low = λ k p at. absurd (none-some p at);
+        ascends = λ j k p q x y before p_at q_at x_at y_at. absurd (none-some p p_at);
+      };
+      named = λ k e at. absurd (none-some e at);
+    }))

@@ -6,7 +6,7 @@ pub use Rattle.std.proofs.Common.{length, length-append, map, option_map, refl, 
 pub use Rattle.std.proofs.lemmas.Bool.{and_from, and_parts, both_ways, cases_Bool, cases_cond, cases_eq, cases_lt, cases_order, eq-eqb, eqb-true, le-leb}
 pub use Rattle.std.proofs.lemmas.Bool.{leb-true, ltb-true, not-true, or_cases, or_left, or_right}
 pub use Rattle.std.proofs.lemmas.Bool.Decides.{nat_tests}
-pub use Rattle.std.proofs.lemmas.List.{length-map, length_push, map-append, take-append-le, take_all, take_more}
+pub use Rattle.std.proofs.lemmas.List.{length-map, length_push, map-append, nil_from_length, take-append-le, take_all, take_more}
 pub use Rattle.std.proofs.lemmas.List.Elements.{All-contains}
 pub use Rattle.std.proofs.lemmas.Option.{get_or_from_slice_get, none-some, same_Some, slice_get-get_or, slice_get-map, slice_get_past}
 pub use Rattle.std.proofs.lemmas.Option.{slice_get_read, slice_get_within}

@@ -12,6 +12,8 @@ use Rattle.mv_move_types.specs.Module.{Module, StructDefinition, FunctionDefinit
 use Rattle.mv_interface.specs.declared.interface.Interface.{Interface}
 use Rattle.mv_interface.specs.declared.interface.LinkedType.{LinkedType}
 use Rattle.mv_interface.specs.declared.interface.LinkedType.TheVariants.{Plain as Value, Reference as ReferenceTo, MutableReference as MutableReferenceTo}
+use Rattle.mv_interface.specs.declared.interface.Side.{Side}
+use Rattle.mv_interface.specs.declared.interface.Side.TheVariants.{Parameters, Results}
 use Rattle.mv_interface.specs.declared.interface.Signature.{Signature}
 use Rattle.mv_interface.specs.Outline.{AreEach, FunctionOutline, IsOutline}
 use Rattle.mv_interface.specs.Shapes.{AreParts, IsPart, part_by}
@@ -65,3 +67,8 @@ type_by structs (MutableReference t) = MutableReferenceTo (part_by structs (Plai
 
 abbrev pub types_by : List Definition → List Token → List LinkedType
 types_by structs tokens = map (type_by structs) tokens
+
+-- the types of a function's parameters, or of its results
+abbrev pub tokens_on : Side → Module → FunctionDefinition → Option (List Token)
+tokens_on Parameters m d = parameter_tokens m d
+tokens_on Results m d = result_tokens m d

@@ -5,4 +5,5 @@ pub mod Interface
 pub mod Outline
 pub mod Shapes
 pub mod Spans
+pub mod TypesByDefinition
 pub mod TypesByName

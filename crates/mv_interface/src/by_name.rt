@@ -40,25 +40,15 @@ fn entry_of(names: &[u16], index: u16) -> ByName
     }
 }
 
-/// The indices of pairs.
-fn indices_of(alloc: Global, pairs: &[(&[u8], u16)]) -> Result<Vec<u16>, AllocError>
-    ensures { IfOk result (λ v. v.items ≡ map (λ p. p.1) pairs.now) }
+/// The definitions of pairs, in order.
+fn entries_of(
+    alloc: Global,
+    names: &[u16],
+    pairs: &[(&[u8], u16)],
+) -> Result<Vec<ByName>, AllocError>
+    ensures { IfOk result (λ v. v.items ≡ map (λ p. entry_by names.now p.1) pairs.now) }
 {
-    let mut order = Vec::with_capacity(alloc, pairs.len())?;
-    for p in pairs {
-        order.push(p.1)?;
-    }
-    Ok(order)
-}
-
-/// The definitions at indices.
-fn entries_of(alloc: Global, names: &[u16], order: &[u16]) -> Result<Vec<ByName>, AllocError>
-    ensures { IfOk result (λ v. v.items ≡ map (entry_by names.now) order.now) }
-{
-    order
-        .iter()
-        .map(|index| entry_of(names, *index))
-        .collect(alloc)
+    pairs.iter().map(|p| entry_of(names, p.1)).collect(alloc)
 }
 
 /// Definitions by their names, which are those at some indices of a table of identifiers.
@@ -70,10 +60,12 @@ pub fn by_name(
     requires { length names.now ≤ 65536 }
     ensures { IfOk result (λ v. IsByName identifiers.now (names_at identifiers.now names.now) v.items) }
 {
+    if names.is_empty() {
+        return Ok(Vec::new(alloc));
+    }
     let mut pairs = pairs_of(alloc, identifiers, names)?;
     pairs.sort()?;
-    let order = indices_of(alloc, &pairs)?;
-    entries_of(alloc, names, &order)
+    entries_of(alloc, names, &pairs)
 }
 
 /// The definition at a place of the order.

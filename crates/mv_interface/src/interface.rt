@@ -1,10 +1,10 @@
 // What is kept of a module beside its text and its code.
 ghost use Rattle.std.specs.Prelude.{◌≡◌, ◌≤◌, List, [], length, map, slice_get, unwrap_or, IfOk, IfNone, IfSome, OnOk};
 ghost use Rattle.mv_move_types.specs.Limits.{most_types};
-ghost use Rattle.mv_move_types.specs.Module.{Module as Tables, parameter_tokens, result_tokens};
+ghost use Rattle.mv_move_types.specs.Module.{Module as Tables};
 ghost use Rattle.mv_bounds.specs.Bounds.{InBounds};
 ghost use Rattle.mv_interface.specs.Handles.{AreStructsAt};
-ghost use Rattle.mv_interface.specs.Interface.{IsInterface, IsSignatureOf, type_by, types_by};
+ghost use Rattle.mv_interface.specs.Interface.{IsInterface, IsSignatureOf, tokens_on, type_by, types_by};
 ghost use Rattle.mv_interface.specs.Outline.{IsOutline};
 ghost use Rattle.mv_interface.specs.Shapes.{part_by, parts_by};
 
@@ -88,25 +88,24 @@ fn tokens_at<'m>(m: &'m Module<'_>, signature: u16) -> &'m [Token]
     }
 }
 
-// The types of a function's parameters, if they are there.
-fn parameters<'m>(m: &'m Module<'_>, d: &FunctionDefinition) -> &'m [Token]
-    ensures value { result.now ≡ unwrap_or (parameter_tokens m.entry.now d.now) [] }
-    ensures few { length result.now ≤ most_types }
-{
-    match m.function_handles().get(usize::from(d.handle())) {
-        Some(handle) => tokens_at(m, handle.parameters),
-        None => &[],
-    }
+// Its parameters, or its results.
+#[derive(Clone, Copy)]
+pub enum Side {
+    Parameters,
+    Results,
 }
 
-// The types of its results, if they are there.
-fn results<'m>(m: &'m Module<'_>, d: &FunctionDefinition) -> &'m [Token]
-    ensures value { result.now ≡ unwrap_or (result_tokens m.entry.now d.now) [] }
+// The types of a function's parameters or results, if they are there.
+fn tokens_of<'m>(m: &'m Module<'_>, d: &FunctionDefinition, side: Side) -> &'m [Token]
+    ensures value { result.now ≡ unwrap_or (tokens_on side m.entry.now d.now) [] }
     ensures few { length result.now ≤ most_types }
 {
-    match m.function_handles().get(usize::from(d.handle())) {
-        Some(handle) => tokens_at(m, handle.results),
-        None => &[],
+    let Some(handle) = m.function_handles().get(usize::from(d.handle())) else {
+        return &[];
+    };
+    match side {
+        Side::Parameters => tokens_at(m, handle.parameters),
+        Side::Results => tokens_at(m, handle.results),
     }
 }
 
@@ -129,57 +128,30 @@ fn parts_of(
     Ok(parts)
 }
 
-// How many parameters the functions of a module have together, so that their types get just the room that they take.
-fn parameter_count(m: &Module<'_>) -> usize {
+// How many parameters or results the functions of a module have together, so that their types get just the room that they take.
+fn type_count(m: &Module<'_>, side: Side) -> usize {
     let mut count: usize = 0;
     for d in m.functions() {
-        count = count.saturating_add(parameters(m, d).len());
+        count = count.saturating_add(tokens_of(m, d, side).len());
     }
     count
 }
 
-// How many results they have together, likewise.
-fn result_count(m: &Module<'_>) -> usize {
-    let mut count: usize = 0;
-    for d in m.functions() {
-        count = count.saturating_add(results(m, d).len());
-    }
-    count
-}
-
-// The types of the parameters of each function of a module.
-fn parameters_of(
+// The types of the parameters of each function of a module, or of the results.
+fn types_of(
     alloc: Global,
     m: &Module<'_>,
     structs: &[Definition],
+    side: Side,
 ) -> Result<Lists<LinkedType>, AllocError>
-    ensures { IfOk result (λ l. l ≡ map (λ d. types_by structs.now (unwrap_or (parameter_tokens m.now d) [])) m.now.functions) }
+    ensures { IfOk result (λ l. l ≡ map (λ d. types_by structs.now (unwrap_or (tokens_on side m.now d) [])) m.now.functions) }
 {
     let functions = m.functions();
-    let mut types = Lists::with_capacity(alloc, functions.len(), parameter_count(m))?;
+    let mut types = Lists::with_capacity(alloc, functions.len(), type_count(m, side))?;
     let mut one = Vec::new(alloc);
     for d in functions {
         one.clear();
-        put_types(&mut one, structs, parameters(m, d))?;
-        types.push(&one)?;
-    }
-    Ok(types)
-}
-
-// The types of their results.
-fn results_of(
-    alloc: Global,
-    m: &Module<'_>,
-    structs: &[Definition],
-) -> Result<Lists<LinkedType>, AllocError>
-    ensures { IfOk result (λ l. l ≡ map (λ d. types_by structs.now (unwrap_or (result_tokens m.now d) [])) m.now.functions) }
-{
-    let functions = m.functions();
-    let mut types = Lists::with_capacity(alloc, functions.len(), result_count(m))?;
-    let mut one = Vec::new(alloc);
-    for d in functions {
-        one.clear();
-        put_types(&mut one, structs, results(m, d))?;
+        put_types(&mut one, structs, tokens_of(m, d, side))?;
         types.push(&one)?;
     }
     Ok(types)
@@ -198,8 +170,8 @@ impl Interface {
         Ok(Interface {
             outline,
             parts: parts_of(alloc, m, structs)?,
-            parameters: parameters_of(alloc, m, structs)?,
-            results: results_of(alloc, m, structs)?,
+            parameters: types_of(alloc, m, structs, Side::Parameters)?,
+            results: types_of(alloc, m, structs, Side::Results)?,
         })
     }
 

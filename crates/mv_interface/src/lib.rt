@@ -25,6 +25,7 @@
 //! ```
 #![tactic(auto)]
 
+mod by_definition;
 mod by_name;
 mod definitions;
 mod interface;
@@ -34,6 +35,7 @@ mod outline;
 mod shapes;
 mod types;
 
+pub use by_definition::is_signature;
 pub use definitions::{function_handle, is_public};
 pub use interface::{Interface, LinkedType, Signature};
 pub use lists::Lists;

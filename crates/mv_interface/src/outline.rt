@@ -258,22 +258,17 @@ fn have_names(identifiers: &Lists<u8>, names: &[u16], n: &Module<'_>, fields: &[
 
 impl Outline {
     /// That of a module that defines nothing.
-    fn new(alloc: Global) -> Result<Self, AllocError>
-        ensures { IfOk result (λ o. o ≡ record { structs = []; fields = []; functions = [] }) }
+    fn new(alloc: Global) -> Self
+        ensures { result ≡ record { structs = []; fields = []; functions = [] } }
     {
-        let identifiers: Lists<u8> = Lists::new(alloc);
-        let structs: Vec<StructEntry> = Vec::new(alloc);
-        let functions: Vec<FunctionEntry> = Vec::new(alloc);
-        let structs_by_name = structs_by_name(alloc, &identifiers, &structs)?;
-        let functions_by_name = functions_by_name(alloc, &identifiers, &functions)?;
-        Ok(Outline {
-            identifiers,
-            structs,
+        Outline {
+            identifiers: Lists::new(alloc),
+            structs: Vec::new(alloc),
             fields: Lists::new(alloc),
-            functions,
-            structs_by_name,
-            functions_by_name,
-        })
+            functions: Vec::new(alloc),
+            structs_by_name: Vec::new(alloc),
+            functions_by_name: Vec::new(alloc),
+        }
     }
 
     /// That of a module.
@@ -281,7 +276,7 @@ impl Outline {
         ensures { IfOk result (λ o. InBounds m.now → IsOutline m.now o) }
     {
         if defines_nothing(m) {
-            return Outline::new(alloc);
+            return Ok(Outline::new(alloc));
         }
         let identifiers = identifiers_of(alloc, m)?;
         let structs = structs_of(alloc, m)?;
@@ -393,5 +388,39 @@ impl Outline {
         ensures few { IfSome result (λ k. k < 256) }
     {
         find(&self.identifiers, &self.functions_by_name, name)
+    }
+
+    /// The index of a struct with an identifier: one that is likely is tried before the others.
+    pub fn struct_named(&self, name: &[u8], likely: Option<usize>) -> Option<usize>
+        ensures found { MatchOption result ((k : ℕ) → IsStructNamed self.now k name.now → ⊥) (λ k. IsStructNamed self.now k name.now) }
+        ensures few { IfSome result (λ k. k < 65536) }
+    {
+        // For the prover: at most 65,536 structs.
+        let _structs = self.struct_count();
+        if let Some(index) = likely {
+            if let Some(own) = self.struct_identifier(index) {
+                if own == name {
+                    return Some(index);
+                }
+            }
+        }
+        self.find_struct(name)
+    }
+
+    /// The index of a function with an identifier: one that is likely is tried before the others.
+    pub fn function_named(&self, name: &[u8], likely: Option<usize>) -> Option<usize>
+        ensures found { MatchOption result ((k : ℕ) → IsFunctionNamed self.now k name.now → ⊥) (λ k. IsFunctionNamed self.now k name.now) }
+        ensures few { IfSome result (λ k. k < 256) }
+    {
+        // For the prover: at most 256 functions.
+        let _functions = self.function_count();
+        if let Some(index) = likely {
+            if let Some(own) = self.function_identifier(index) {
+                if own == name {
+                    return Some(index);
+                }
+            }
+        }
+        self.find_function(name)
     }
 }

@@ -25,7 +25,6 @@ pub mod Slotted
 pub mod FoundStructs
 pub mod Stored
 pub mod Targets
-pub mod TypesByDefinition
 pub mod Upgrades
 pub mod Widths
 pub mod Words

@@ -11,10 +11,9 @@ ghost use Rattle.mv_linker.specs.Found.{AreTargets, IsFound};
 ghost use Rattle.mv_interface.specs.Handles.{AreFunctionsAt, AreStructsAt, IsFunctionAt, IsFunctionIn};
 ghost use Rattle.mv_interface.specs.Interface.{IsInterface};
 ghost use Rattle.mv_linker.specs.Matches.{IsOf, function_matches};
-ghost use Rattle.mv_interface.specs.Outline.{IsFunctionNamed};
 ghost use Rattle.mv_linker.specs.StoreRules.{function_fits, function_is_there};
 ghost use Rattle.mv_linker.specs.Targets.{modules_in};
-ghost use Rattle.mv_linker.specs.TypesByDefinition.{are_types, is_part, is_type, same_definition};
+ghost use Rattle.mv_interface.specs.TypesByDefinition.{are_types};
 ghost use Rattle.mv_interface.specs.TypesByName.{both_there};
 
 use crate::named_modules::{Found, Target};
@@ -23,8 +22,17 @@ use crate::pushed::pushed;
 use crate::scope::{Scope, is_module};
 use mv_binary_format::{FunctionDefinition, Module};
 use mv_bounds::function_places;
-use mv_interface::{Interface, LinkedType, Outline, Part, function_handle, is_public, module_name, name_of, same_kind, same_signature};
-use mv_move_types::{Definition, FunctionHandle, Refusal, Token, ValueType};
+use mv_interface::{
+    Interface,
+    LinkedType,
+    function_handle,
+    is_public,
+    is_signature,
+    module_name,
+    name_of,
+    same_signature,
+};
+use mv_move_types::{Definition, FunctionHandle, Refusal};
 use std::alloc::Global;
 
 /// Whether two modules have one name.
@@ -48,66 +56,6 @@ fn fits(m: &Module<'_>, handle: FunctionHandle, n: &Module<'_>, d: &FunctionDefi
                 && (same_signature(m, handle.parameters as usize, n, own.parameters as usize)
                     && same_signature(m, handle.results as usize, n, own.results as usize))
         }
-        None => false,
-    }
-}
-
-/// Whether two structs are defined at one place.
-fn is_same(d: Definition, e: Definition) -> bool
-    ensures { result ≡ same_definition d e }
-{
-    d.place == e.place && d.index == e.index
-}
-
-/// Whether a type that is no reference is a kept one, where `structs` has where the structs of its module's handles are defined.
-fn is_part(structs: &[Definition], t: ValueType, part: Part) -> bool
-    ensures { result ≡ is_part structs.now t part }
-{
-    match (t, part) {
-        (ValueType::OfLeaf(a), Part::Leaf(b)) => same_kind(a, b),
-        (ValueType::OfStruct(h), Part::Struct(e)) => match structs.get(h as usize) {
-            Some(d) => is_same(*d, e),
-            None => false,
-        },
-        _ => false,
-    }
-}
-
-/// Whether a type is a kept one, likewise.
-fn is_type(structs: &[Definition], token: Token, kept: LinkedType) -> bool
-    ensures { result ≡ is_type structs.now token kept }
-{
-    match (token, kept) {
-        (Token::Plain(t), LinkedType::Plain(part)) => is_part(structs, t, part),
-        (Token::Reference(t), LinkedType::Reference(part)) => is_part(structs, t, part),
-        (Token::MutableReference(t), LinkedType::MutableReference(part)) => {
-            is_part(structs, t, part)
-        }
-        _ => false,
-    }
-}
-
-/// Whether types are kept ones, in order.
-fn are_types(structs: &[Definition], tokens: &[Token], kept: &[LinkedType]) -> bool
-    ensures { result ≡ are_types structs.now tokens.now kept.now }
-{
-    match tokens {
-        [] => kept.is_empty(),
-        [t, ts @ ..] => {
-            match kept {
-                [] => false,
-                [k, ks @ ..] => is_type(structs, *t, *k) && are_types(structs, ts, ks),
-            }
-        }
-    }
-}
-
-/// Whether the types of a signature, if it is there, are kept ones.
-fn is_signature(m: &Module<'_>, i: u16, structs: &[Definition], kept: &[LinkedType]) -> bool
-    ensures { result ≡ option_map_or (λ ts. are_types structs.now ts kept.now) (slice_get m.now.signatures i) false }
-{
-    match m.signature(i as usize) {
-        Some(tokens) => are_types(structs, tokens, kept),
         None => false,
     }
 }
@@ -192,23 +140,6 @@ fn fits_found(
     }
 }
 
-/// The index of a function with an identifier: one that is likely is tried before the others.
-fn function_named(outline: &Outline, name: &[u8], likely: Option<usize>) -> Option<usize>
-    ensures found { MatchOption result ((k : ℕ) → IsFunctionNamed outline.now k name.now → ⊥) (λ k. IsFunctionNamed outline.now k name.now) }
-    ensures few { IfSome result (λ k. k < 65536) }
-{
-    // For the prover: at most 256 functions.
-    let _functions = outline.function_count();
-    if let Some(index) = likely {
-        if let Some(own) = outline.function_identifier(index) {
-            if own == name {
-                return Some(index);
-            }
-        }
-    }
-    outline.find_function(name)
-}
-
 /// The index of the function that a handle names, if a module that was found has it as the handle says.
 fn function_in(
     m: &Module<'_>,
@@ -224,7 +155,7 @@ fn function_in(
     let Some(name) = m.identifier(handle.name as usize) else {
         return None;
     };
-    let Some(index) = function_named(found.outline(), name, likely) else {
+    let Some(index) = found.outline().function_named(name, likely) else {
         return None;
     };
     if fits_found(m, handle, structs, found, index) {

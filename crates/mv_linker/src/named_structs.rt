@@ -6,7 +6,7 @@ ghost use Rattle.mv_move_types.specs.Refusals.{IsRefusedIn};
 ghost use Rattle.mv_linker.specs.Found.{AreTargets};
 ghost use Rattle.mv_interface.specs.Handles.{AreStructsAt, IsStructAt};
 ghost use Rattle.mv_linker.specs.Matches.{IsOf, IsStructOf, struct_matches};
-ghost use Rattle.mv_interface.specs.Outline.{IsOutline, IsStructNamed};
+ghost use Rattle.mv_interface.specs.Outline.{IsOutline};
 ghost use Rattle.mv_linker.specs.StoreRules.{struct_is_there, structs_are_there};
 ghost use Rattle.mv_linker.specs.Targets.{modules_in};
 
@@ -34,23 +34,6 @@ pub fn target_at<'t, 'm>(targets: &'t [Target<'m>], h: usize) -> Option<&'t Targ
     targets.get(h)
 }
 
-/// The index of a struct with an identifier: one that is likely is tried before the others.
-fn struct_named(outline: &Outline, name: &[u8], likely: Option<usize>) -> Option<usize>
-    ensures found { MatchOption result ((k : ℕ) → IsStructNamed outline.now k name.now → ⊥) (λ k. IsStructNamed outline.now k name.now) }
-    ensures few { IfSome result (λ k. k < 65536) }
-{
-    // For the prover: at most 65,536 structs.
-    let _structs = outline.struct_count();
-    if let Some(index) = likely {
-        if let Some(own) = outline.struct_identifier(index) {
-            if own == name {
-                return Some(index);
-            }
-        }
-    }
-    outline.find_struct(name)
-}
-
 /// The index of the struct that a handle names, if the module of an outline has it with the handle's abilities.
 fn struct_in(
     m: &Module<'_>,
@@ -65,7 +48,7 @@ fn struct_in(
     let Some(name) = m.identifier(handle.name as usize) else {
         return None;
     };
-    let Some(index) = struct_named(outline, name, likely) else {
+    let Some(index) = outline.struct_named(name, likely) else {
         return None;
     };
     let Some(abilities) = outline.abilities(index) else {

@@ -7,7 +7,7 @@ use Rattle.mv_linker.proofs.Common.{none-some, on_bind, option_map_or, own_name,
 use Rattle.mv_linker.proofs.Common.{sym, tokens_named}
 use Rattle.mv_move_types.specs.Module.{result_tokens}
 use Rattle.mv_interface.specs.Outline.{FunctionOutline}
-use Rattle.mv_linker.specs.TypesByDefinition.{are_types}
+use Rattle.mv_interface.specs.TypesByDefinition.{are_types}
 use Rattle.mv_linker.proofs.Lemmas.{element_at}
 use Rattle.mv_interface.proofs.TypeTests.{same_types_is}
 use Rattle.mv_linker.proofs.Joining.TypesCompared.{types-compared}

@@ -7,7 +7,7 @@ use Rattle.mv_linker.proofs.Common.{find_index, is_some, is_struct, option_map_o
 use Rattle.mv_linker.proofs.Common.{token_named, true, value_type_named, both_ways, AreTypes, IsType, LinkedType, MutableReference, Plain, Reference}
 use Rattle.mv_move_types.specs.declared.token.LeafKind.{LeafKind}
 use Rattle.mv_interface.specs.Shapes.{is_of_value}
-use Rattle.mv_linker.specs.TypesByDefinition.{are_types, is_part, is_type, same_definition}
+use Rattle.mv_interface.specs.TypesByDefinition.{are_types, is_part, is_type, same_definition}
 use Rattle.mv_interface.specs.declared.interface.LinkedType.TheVariants.{Plain as Value, Reference as ReferenceTo, MutableReference as MutableReferenceTo}
 use Rattle.mv_linker.proofs.Lemmas.{past_from}
 use Rattle.mv_interface.proofs.NameLemmas.{same_struct-is, same_struct-same}

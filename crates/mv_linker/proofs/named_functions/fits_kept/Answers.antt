@@ -1,5 +1,5 @@
 use Rattle.mv_linker.proofs.Common.{◌&&◌, ◌||◌, ◌∙◌, ap, both_there, false, option_map_or, own_name, module_name, same_module, slice_get, sym}
-use Rattle.mv_linker.specs.TypesByDefinition.{are_types}
+use Rattle.mv_interface.specs.TypesByDefinition.{are_types}
 use Rattle.mv_linker.proofs.Joining.KeptFits.{kept-fits, kept-parameters, kept-results}
 use Rattle.mv_linker.proofs.named_functions.fits_kept.Goals as goal
 

@@ -3,4 +3,4 @@ use Rattle.mv_interface.proofs.interface.Interface.of.Goals as goal
 
 pub returns : goal.returns
 returns c = λ modules bounds outline are.
-    interface-is modules c.args.m.now c.args.structs.now are bounds _ outline c.in_ok-parts_of.ensures c.in_ok-parameters_of.ensures c.in_ok-results_of.ensures
+    interface-is modules c.args.m.now c.args.structs.now are bounds _ outline c.in_ok-parts_of.ensures c.in_ok-types_of.ensures c.in_ok-types_of-2.ensures

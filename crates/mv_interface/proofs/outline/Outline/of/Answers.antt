@@ -1,4 +1,4 @@
-use Rattle.mv_interface.proofs.Common.{[], ◌∙◌, ◌≡◌, IsOutline, ap, map, names_by, outline_kept, struct_by, subst, sym, IfOk-weaker, InBounds, OutlineView}
+use Rattle.mv_interface.proofs.Common.{◌∙◌, ◌≡◌, IsOutline, ap, map, names_by, outline_kept, struct_by, subst, sym}
 use Rattle.mv_interface.proofs.OutlineLemmas.{outline-is, outline-none, outline_by}
 use Rattle.mv_interface.proofs.outline.Outline.of.Goals as goal
 
@@ -13,7 +13,6 @@ returns c = λ bounds.
     subst (IsOutline m) (sym same) (outline-is m bounds)
 
 pub returns-then-defines_nothing : goal.returns-then-defines_nothing
-returns-then-defines_nothing c =
+returns-then-defines_nothing c = λ bounds.
     let m = c.args.m.now in
-    IfOk-weaker c.new.result (λ (o : OutlineView). o ≡ record { structs = []; fields = []; functions = [] }) (λ (o : OutlineView). InBounds m → IsOutline m o)
-    (λ o is bounds. subst (IsOutline m) (sym is) (outline-none m (c.defines_nothing.ensures.structs c.if-defines_nothing.true) (c.defines_nothing.ensures.functions c.if-defines_nothing.true))) c.new.ensures
+    subst (IsOutline m) (sym c.new.ensures) (outline-none m (c.defines_nothing.ensures.structs c.if-defines_nothing.true) (c.defines_nothing.ensures.functions c.if-defines_nothing.true))

@@ -1,8 +1,9 @@
-use Rattle.mv_interface.proofs.Common.{[], ◌++◌, ◌+◌, ◌∙◌, ◌∷◌, ◌≡◌, FunctionDefinition, LinkedType, List, Some, ap, arith, leb-true, length, length-map, length_push, map, map-append, parameter_tokens, refl, slice_get}
+use Rattle.mv_interface.proofs.Common.{[], ◌++◌, ◌+◌, ◌∙◌, ◌∷◌, ◌≡◌, FunctionDefinition, LinkedType, List, Some, ap, arith, leb-true, length, length-map, length_push, map, map-append, refl, slice_get}
 use Rattle.mv_interface.proofs.Common.{slice_get_read, sym, take, take_all, type_by, types_by, unwrap_or}
+use Rattle.mv_interface.specs.Interface.{tokens_on}
 use Rattle.mv_interface.proofs.Found.{taken-more}
-use Rattle.mv_interface.proofs.interface.parameters_of.Goals.{After-put_types}
-use Rattle.mv_interface.proofs.interface.parameters_of.Goals as goal
+use Rattle.mv_interface.proofs.interface.types_of.Goals.{After-put_types}
+use Rattle.mv_interface.proofs.interface.types_of.Goals as goal
 
 -- the function that is gone over
 here : (c : After-put_types) → slice_get c.args.m.now.functions c.loop-d.d-index ≡ Some c.d-item.result
@@ -16,7 +17,7 @@ push-requires-clause-few c =
     omega (arith, c.loop-d-test.true, c.loop-d.invariant.count, few, ap length c.functions-functions.ensures.value)
 
 pub push-requires-clause-short : goal.push-requires-clause-short
-push-requires-clause-short c = omega (arith, c.parameters.ensures.few, ap length c.deref.ensures.value, ap length c.in_ok-put_types.ensures, length-map c.parameters.result.now (type_by c.args.structs.now))
+push-requires-clause-short c = omega (arith, c.tokens_of.ensures.few, ap length c.deref.ensures.value, ap length c.in_ok-put_types.ensures, length-map c.tokens_of.result.now (type_by c.args.structs.now))
 
 pub loop-d-init : goal.loop-d-init
 loop-d-init c = record { so_far = c.in_ok-types.ensures; count = ap length c.in_ok-types.ensures }
@@ -27,8 +28,8 @@ loop-d-preserved c =
     let m = c.args.m.now in
     let i = c.loop-d.d-index in
     let d : FunctionDefinition = c.d-item.result in
-    let made : FunctionDefinition → List LinkedType = λ d. types_by c.args.structs.now (unwrap_or (parameter_tokens m d) []) in
-    let one : c.deref.result.now ≡ made d = c.deref.ensures.value ∙ c.in_ok-put_types.ensures ∙ ap (types_by c.args.structs.now) c.parameters.ensures.value in
+    let made : FunctionDefinition → List LinkedType = λ d. types_by c.args.structs.now (unwrap_or (tokens_on c.args.side m d) []) in
+    let one : c.deref.result.now ≡ made d = c.deref.ensures.value ∙ c.in_ok-put_types.ensures ∙ ap (types_by c.args.structs.now) c.tokens_of.ensures.value in
     record {
       so_far = c.in_ok-push.ensures ∙ ap (λ l. l ++ c.deref.result.now ∷ []) c.loop-d.invariant.so_far ∙ ap (λ x. map made (take i m.functions) ++ x ∷ []) one
           ∙ sym (ap (map made) (taken-more m.functions i d (here at)) ∙ map-append made (take i m.functions) (d ∷ []));
@@ -36,4 +37,4 @@ loop-d-preserved c =
     }
 
 pub returns : goal.returns
-returns c = c.loop-d.invariant.so_far ∙ ap (map (λ (d : FunctionDefinition). types_by c.args.structs.now (unwrap_or (parameter_tokens c.args.m.now d) []))) (take_all c.loop-d.d-index c.args.m.now.functions (omega (arith, c.loop-d-test.false, c.loop-d.auto.d-index-end, ap length c.functions-functions.ensures.value)))
+returns c = c.loop-d.invariant.so_far ∙ ap (map (λ (d : FunctionDefinition). types_by c.args.structs.now (unwrap_or (tokens_on c.args.side c.args.m.now d) []))) (take_all c.loop-d.d-index c.args.m.now.functions (omega (arith, c.loop-d-test.false, c.loop-d.auto.d-index-end, ap length c.functions-functions.ensures.value)))

@@ -1,9 +1,0 @@
-use Rattle.mv_interface.proofs.Common.{[], ◌≡◌, FunctionDefinition, length, map, parameter_tokens, take, types_by, unwrap_or}
-use Rattle.mv_interface.proofs.interface.parameters_of.Given as goal
-
--- the types of the functions so far
-abbrev pub invariant-loop-d : goal.invariant-loop-d
-invariant-loop-d l = record {
-  so_far : l.types ≡ map (λ (d : FunctionDefinition). types_by l.structs (unwrap_or (parameter_tokens l.m d) [])) (take l.d-index l.m.functions);
-  count : length l.types ≡ l.d-index;
-}
