@@ -104,13 +104,13 @@ pub use Rattle.mv_linker.specs.Upgrades.{function_stays, have_one_type, may_repl
 pub use Rattle.mv_linker.specs.Widths.{width_of_tag, width_of_token, width_of_tokens}
 pub use Rattle.mv_linker.specs.Words.{slots_from, top_target, value_width, width_by, words_by}
 pub use Rattle.mv_linker.specs.declared.New.{New}
-pub use Rattle.mv_linker.specs.declared.code.Callee.{Callee}
-pub use Rattle.mv_linker.specs.declared.code.Code.{Code}
-pub use Rattle.mv_linker.specs.declared.code.CodeAt.{CodeAt}
-pub use Rattle.mv_linker.specs.declared.dependencies.Dependencies.{Dependencies}
-pub use Rattle.mv_linker.specs.declared.dependencies.DependenciesAt.{DependenciesAt}
-pub use Rattle.mv_linker.specs.declared.entry.Name.{Name}
-pub use Rattle.mv_linker.specs.declared.entry.Texts.{Texts}
+pub use Rattle.mv_linker.specs.declared.store.code.Callee.{Callee}
+pub use Rattle.mv_linker.specs.declared.store.code.Code.{Code}
+pub use Rattle.mv_linker.specs.declared.store.code.CodeAt.{CodeAt}
+pub use Rattle.mv_linker.specs.declared.store.dependencies.Dependencies.{Dependencies}
+pub use Rattle.mv_linker.specs.declared.store.dependencies.DependenciesAt.{DependenciesAt}
+pub use Rattle.mv_linker.specs.declared.store.entry.Name.{Name}
+pub use Rattle.mv_linker.specs.declared.store.entry.Texts.{Texts}
 pub use Rattle.mv_interface.specs.declared.interface.Interface.{Interface}
 pub use Rattle.mv_interface.specs.declared.interface.LinkedType.{LinkedType}
 pub use Rattle.mv_interface.specs.declared.interface.Signature.{Signature}
@@ -119,19 +119,19 @@ pub use Rattle.mv_interface.specs.declared.outline.FunctionEntry.{FunctionEntry}
 pub use Rattle.mv_interface.specs.declared.outline.StructEntry.{StructEntry}
 pub use Rattle.mv_linker.specs.declared.lowering.linker.Linker.{Linker}
 pub use Rattle.mv_linker.specs.declared.lowering.slots.Slot.{Slot}
-pub use Rattle.mv_linker.specs.declared.resolved.Resolved.{Resolved}
-pub use Rattle.mv_linker.specs.declared.scope.Scope.{Scope}
+pub use Rattle.mv_linker.specs.declared.lowering.resolved.Resolved.{Resolved}
+pub use Rattle.mv_linker.specs.declared.rules.scope.Scope.{Scope}
 pub use Rattle.mv_interface.specs.declared.shapes.Part.{Part}
 pub use Rattle.mv_interface.specs.declared.shapes.Part.TheVariants.{Leaf, Nothing, Struct}
-pub use Rattle.mv_linker.specs.declared.sizes.Defined.{Defined}
-pub use Rattle.mv_linker.specs.declared.sizes.Defined.TheVariants.{Bundled, Published}
-pub use Rattle.mv_linker.specs.declared.sizes.Size.{Size}
-pub use Rattle.mv_linker.specs.declared.store_rules.Names.{Names}
-pub use Rattle.mv_linker.specs.declared.named_modules.Found.{Found}
-pub use Rattle.mv_linker.specs.declared.named_modules.Found.TheVariants.{Kept as FoundKept, New as FoundNew}
-pub use Rattle.mv_linker.specs.declared.named_modules.Target.{Target}
-pub use Rattle.mv_linker.specs.declared.to_link.Called.{Called}
-pub use Rattle.mv_linker.specs.declared.to_link.Lowered.{Lowered}
-pub use Rattle.mv_linker.specs.declared.to_link.ToLink.{ToLink}
+pub use Rattle.mv_linker.specs.declared.rules.sizes.Defined.{Defined}
+pub use Rattle.mv_linker.specs.declared.rules.sizes.Defined.TheVariants.{Bundled, Published}
+pub use Rattle.mv_linker.specs.declared.rules.sizes.Size.{Size}
+pub use Rattle.mv_linker.specs.declared.rules.store_rules.Names.{Names}
+pub use Rattle.mv_linker.specs.declared.rules.named_modules.Found.{Found}
+pub use Rattle.mv_linker.specs.declared.rules.named_modules.Found.TheVariants.{Kept as FoundKept, New as FoundNew}
+pub use Rattle.mv_linker.specs.declared.rules.named_modules.Target.{Target}
+pub use Rattle.mv_linker.specs.declared.lowering.to_link.Called.{Called}
+pub use Rattle.mv_linker.specs.declared.lowering.to_link.Lowered.{Lowered}
+pub use Rattle.mv_linker.specs.declared.lowering.to_link.ToLink.{ToLink}
 unfoldable pub use Rattle.mv_linker.specs.Linked.{linked}
 unfoldable pub use Rattle.mv_linker.specs.Lowered.{words_of_others}

@@ -3,9 +3,9 @@
 --   IsCode modules codes place m code    the code is the module's
 use Rattle.std.specs.Prelude.{◌≡◌, ℕ, List, length, Some, slice_get}
 use Rattle.mv_move_types.specs.Module.{Module}
-use Rattle.mv_linker.specs.declared.code.Callee.{Callee}
-use Rattle.mv_linker.specs.declared.code.Callee.TheVariants.{Own, Foreign}
-use Rattle.mv_linker.specs.declared.code.Code.{Code}
+use Rattle.mv_linker.specs.declared.store.code.Callee.{Callee}
+use Rattle.mv_linker.specs.declared.store.code.Callee.TheVariants.{Own, Foreign}
+use Rattle.mv_linker.specs.declared.store.code.Code.{Code}
 use Rattle.mv_interface.specs.Interface.{IsInterface}
 use Rattle.mv_linker.specs.Lowered.{AreOthers, AreOwnSizes, IsCalled, IsLowered}
 use Rattle.mv_linker.specs.Resolved.{AreWidths}

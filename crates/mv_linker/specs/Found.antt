@@ -10,9 +10,9 @@ use Rattle.mv_move_types.specs.Named.{module_place}
 use Rattle.mv_bounds.specs.Definitions.{WellDefined}
 use Rattle.mv_interface.specs.Interface.{IsInterface}
 use Rattle.mv_interface.specs.Outline.{AreEach, IsOutline, OutlineView}
-use Rattle.mv_linker.specs.declared.named_modules.Found.{Found}
-use Rattle.mv_linker.specs.declared.named_modules.Found.TheVariants.{New, Kept}
-use Rattle.mv_linker.specs.declared.named_modules.Target.{Target}
+use Rattle.mv_linker.specs.declared.rules.named_modules.Found.{Found}
+use Rattle.mv_linker.specs.declared.rules.named_modules.Found.TheVariants.{New, Kept}
+use Rattle.mv_linker.specs.declared.rules.named_modules.Target.{Target}
 
 -- the outlines of modules, in order
 abbrev pub AreOutlines : List Module → List OutlineView → Type 0

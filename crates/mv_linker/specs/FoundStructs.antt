@@ -3,9 +3,9 @@ use Rattle.std.specs.Prelude.{◌≡◌, ℕ, ◌==◌, List, Some, None, positi
 use Rattle.std.specs.List.{AllZip}
 use Rattle.mv_move_types.specs.declared.tables.Definition.{Definition}
 use Rattle.mv_move_types.specs.Module.{Module}
-use Rattle.mv_linker.specs.declared.store_rules.Names.{Names}
-use Rattle.mv_linker.specs.declared.sizes.Defined.{Defined}
-use Rattle.mv_linker.specs.declared.sizes.Defined.TheVariants.{Published, Bundled}
+use Rattle.mv_linker.specs.declared.rules.store_rules.Names.{Names}
+use Rattle.mv_linker.specs.declared.rules.sizes.Defined.{Defined}
+use Rattle.mv_linker.specs.declared.rules.sizes.Defined.TheVariants.{Published, Bundled}
 use Rattle.mv_linker.specs.Stored.{IsSizeAt}
 
 -- a struct of the bundle, whose modules take these places, or of an old module, with its size

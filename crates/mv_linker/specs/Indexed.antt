@@ -3,7 +3,7 @@ use Rattle.std.specs.Prelude.{◌≡◌, ℕ, Bool, true, cond, List, ◌∷◌,
 use Rattle.std.specs.Map.{lookup}
 use Rattle.mv_move_types.specs.Names.{same_module}
 use Rattle.mv_move_types.specs.Module.{Module}
-use Rattle.mv_linker.specs.declared.entry.Name.{Name}
+use Rattle.mv_linker.specs.declared.store.entry.Name.{Name}
 use Rattle.mv_linker.specs.Kept.{name_in}
 use Rattle.mv_linker.specs.Scope.{found_among}
 

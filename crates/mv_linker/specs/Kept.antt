@@ -5,8 +5,8 @@ use Rattle.mv_move_types.specs.Names.{ModuleName}
 use Rattle.mv_move_types.specs.Published.{PublishedModule}
 use Rattle.mv_move_types.specs.Module.{own_name}
 use Rattle.mv_binary_format.specs.Parsing.{tables_of}
-use Rattle.mv_linker.specs.declared.entry.Name.{Name}
-use Rattle.mv_linker.specs.declared.entry.Texts.{Texts}
+use Rattle.mv_linker.specs.declared.store.entry.Name.{Name}
+use Rattle.mv_linker.specs.declared.store.entry.Texts.{Texts}
 
 -- a published module, with its name beside it
 pub record Kept : Type 0 where

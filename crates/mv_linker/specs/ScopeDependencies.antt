@@ -1,7 +1,7 @@
 -- What is known of the dependencies of the modules of a scope.
 use Rattle.std.specs.Prelude.{◌≡◌, ℕ, ◌+◌, ◌≤◌, ◌==◌, cond, List, [], ◌∷◌, length, Some, slice_get}
 use Rattle.mv_move_types.specs.Module.{Module}
-use Rattle.mv_linker.specs.declared.dependencies.Dependencies.{Dependencies}
+use Rattle.mv_linker.specs.declared.store.dependencies.Dependencies.{Dependencies}
 use Rattle.mv_linker.specs.DependencyGraph.{AreNeeds}
 
 -- each of these places is one of so many, or the next one

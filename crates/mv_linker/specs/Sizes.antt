@@ -12,9 +12,9 @@ use Rattle.mv_move_types.specs.Module.{Module, StructDefinition, struct_name, na
 use Rattle.mv_move_types.specs.Named.{definition_of}
 use Rattle.mv_move_types.specs.Leaves.{leaves_within}
 use Rattle.mv_linker.specs.StoreRules.{struct_is_small}
-use Rattle.mv_linker.specs.declared.sizes.Size.{Size}
-use Rattle.mv_linker.specs.declared.sizes.Defined.{Defined}
-use Rattle.mv_linker.specs.declared.sizes.Defined.TheVariants.{Published, Bundled}
+use Rattle.mv_linker.specs.declared.rules.sizes.Size.{Size}
+use Rattle.mv_linker.specs.declared.rules.sizes.Defined.{Defined}
+use Rattle.mv_linker.specs.declared.rules.sizes.Defined.TheVariants.{Published, Bundled}
 
 -- a struct's size: it has its leaves within a nesting exactly if its own is at most that
 abbrev pub IsSized : List Module → StructName → Size → Type 0

@@ -4,7 +4,7 @@ use Rattle.mv_move_types.specs.Module.{Module}
 pub use Rattle.mv_interface.specs.Handles.{IsFunctionIn, IsStructAt, IsFunctionAt, EachAt, AreStructsAt, AreFunctionsAt}
 use Rattle.mv_linker.specs.Link.{tables_in}
 use Rattle.mv_linker.specs.Scope.{with_tables, offered}
-use Rattle.mv_linker.specs.declared.scope.Scope.{Scope}
+use Rattle.mv_linker.specs.declared.rules.scope.Scope.{Scope}
 
 -- the modules of a scope
 abbrev pub modules_in : Scope → List Module

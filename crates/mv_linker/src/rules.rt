@@ -9,10 +9,22 @@ ghost use Rattle.mv_linker.specs.Kept.{Kept, published_in};
 ghost use Rattle.mv_linker.specs.News.{published_of};
 ghost use Rattle.mv_linker.specs.Stored.{AreLowered, KeepsDependencies};
 
-use crate::entry::Entry;
-use crate::indexed::put_name;
-use crate::scope::Scope;
-use crate::store_rules::Changes;
+mod acyclic;
+mod named_functions;
+pub mod named_modules;
+mod named_structs;
+mod pushed;
+pub mod scope;
+mod searching;
+pub mod sizes;
+mod small_structs;
+pub mod store_rules;
+mod upgrades;
+
+use crate::store::entry::Entry;
+use crate::store::indexed::put_name;
+use crate::rules::scope::Scope;
+use crate::rules::store_rules::Changes;
 use crate::{New, Store};
 use indexmap::IndexMap;
 use mv_move_types::Refusal;

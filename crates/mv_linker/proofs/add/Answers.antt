@@ -1,14 +1,15 @@
-use Rattle.mv_linker.proofs.Common.{◌∙◌, ◌≡◌, List, ap, ap₂, arith, length, subst, sym, PublishedModule, with_modules, AreKeyed, published_under, IsStore, tables_in}
+use Rattle.mv_linker.proofs.Common.{◌∙◌, ◌≡◌, ◌≤◌, List, ap, ap₂, arith, length, subst, sym, PublishedModule, with_modules, AreKeyed, published_under, IsStore, tables_in}
 use Rattle.mv_linker.proofs.Common.{AreCodesOf, AreDependenciesOf, with_codes, with_dependencies, Code}
-use Rattle.mv_linker.specs.declared.dependencies.Dependencies.{Dependencies}
-use Rattle.mv_linker.specs.declared.entry.Name.{Name}
-use Rattle.mv_linker.specs.declared.entry.Texts.{Texts}
+use Rattle.mv_linker.specs.declared.store.dependencies.Dependencies.{Dependencies}
+use Rattle.mv_linker.specs.declared.store.entry.Name.{Name}
+use Rattle.mv_linker.specs.declared.store.entry.Texts.{Texts}
 use Rattle.mv_linker.proofs.add.Goals as goal
 
 -- what a store keeps holds together
 abbrev IsWhole : List (Name × Texts) → List Code → List Dependencies → Type 0
 IsWhole entries codes kept =
     IsStore (published_under entries) × AreKeyed entries × AreCodesOf (tables_in (published_under entries)) codes × AreDependenciesOf (tables_in (published_under entries)) kept
+    × length (published_under entries) ≤ 65536
 
 -- as before
 still : (entries was_entries : List (Name × Texts)) (codes was_codes : List Code) (kept was_kept : List Dependencies) → entries ≡ was_entries → codes ≡ was_codes → kept ≡ was_kept
@@ -46,4 +47,5 @@ invariant_of-s-2 c =
           (subst (AreCodesOf (tables_in (with_modules old c.args.l.published))) (sym put_codes) recoded),
       subst (λ (l : List PublishedModule). AreDependenciesOf (tables_in l) c.put_dependencies.new.kept.items) (sym joined)
           (subst (AreDependenciesOf (tables_in (with_modules old c.args.l.published))) (sym put_kept) (c.requires.dependencies.keeps kept depend)),
+      subst (λ (l : List PublishedModule). length l ≤ 65536) (sym joined) c.requires.few,
     )

@@ -1,5 +1,0 @@
-use Rattle.mv_linker.proofs.Common.{◌≡◌, All, IsPublishable, published_in, published_of, take}
-use Rattle.mv_linker.proofs.entry.entries_of.Given as goal
-
-abbrev pub invariant-loop-n : goal.invariant-loop-n
-invariant-loop-n l = (published_in l.entries.items ≡ published_of (take l.n-index l.new)) × All IsPublishable (published_in l.entries.items)

@@ -1,5 +1,0 @@
-use Rattle.mv_linker.proofs.Cycles.PlaceBits.{HasFirst}
-use Rattle.mv_linker.proofs.places.Places.of.Given as goal
-
-abbrev pub invariant-loop-place : goal.invariant-loop-place
-invariant-loop-place l = HasFirst l.set l.places l.place-index

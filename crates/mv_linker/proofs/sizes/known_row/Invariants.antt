@@ -1,6 +1,0 @@
-use Rattle.std.proofs.Common.{◌≡◌, map, take, Some}
-use Rattle.mv_linker.specs.declared.sizes.Size.{Size}
-use Rattle.mv_linker.proofs.sizes.known_row.Given as goal
-
-abbrev pub invariant-loop-size : goal.invariant-loop-size
-invariant-loop-size l = take l.size-index l.row ≡ map (λ (s : Size). Some s) l.known.items

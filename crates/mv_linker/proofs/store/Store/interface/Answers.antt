@@ -1,0 +1,14 @@
+use Rattle.mv_linker.proofs.Common.{◌<◌, ◌≡◌, AreCodesOf, IfSome, IsInterface, List, Module, PublishedModule, Some, arith, length, length-map, refl, slice_get, slice_get_read, subst, sym}
+use Rattle.mv_linker.proofs.Common.{tables_in}
+use Rattle.mv_linker.proofs.Lemmas.{element_at}
+use Rattle.mv_linker.proofs.store.Store.interface.Goals as goal
+
+pub returns : goal.returns
+returns c =
+    let modules = tables_in c.args.self.now in
+    let codes = c.self.inside.codes.items in
+    let are : AreCodesOf modules codes = subst (λ (s : List PublishedModule). AreCodesOf (tables_in s) codes) c.self.view_is c.self.invariant.2 in
+    let low : c.args.place < length codes = omega (arith, are.len, length-map c.args.self.now (λ (p : PublishedModule). p.tables), c.requires) in
+    let at : slice_get codes c.args.place ≡ Some c.index.result.now = slice_get_read codes (length codes) c.args.place c.index.result.now refl low c.index.ensures in
+    let m = element_at modules c.args.place (omega (arith, are.len, low)) in
+    subst (λ o. IfSome o (λ (x : Module). IsInterface modules x c.index.result.now.interface)) (sym m.1) (are.each c.args.place m.0 c.index.result.now m.1 at).interface

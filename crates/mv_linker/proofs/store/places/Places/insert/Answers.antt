@@ -1,0 +1,14 @@
+use Rattle.std.proofs.Common.{◌≡◌, ◌∙◌, ◌/◌, ◌<◌, ap, arith, sym, length, get_or}
+use Rattle.std.specs.Prelude.{◌||◌, ◌==◌}
+use Rattle.std.proofs.lemmas.Option.{get_or_from_slice_get, slice_get-get_or}
+use Rattle.mv_linker.specs.Places.{has}
+use Rattle.mv_linker.proofs.Cycles.PlaceBits.{has-put}
+use Rattle.mv_linker.proofs.store.places.Places.insert.Goals as goal
+
+pub returns : goal.returns
+returns c = λ p.
+    let ws = c.self.inside.words.items in
+    let low : c.args.place / 64 < length ws = omega (arith, c.in_ok-grow.ensures.long, ap length c.self.view_is) in
+    let word : c.index.result.now ≡ get_or ws (c.args.place / 64) 0 =
+    c.index.ensures ∙ sym (get_or_from_slice_get ws (c.args.place / 64) (get_or ws (c.args.place / 64) c.index.result.now) 0 (slice_get-get_or ws (c.args.place / 64) c.index.result.now low)) in
+    rw word (has-put ws c.args.place low p) ∙ ap (λ b. p == c.args.place || b) (ap (λ l. has l p) c.self.view_is ∙ c.in_ok-grow.ensures.same p)

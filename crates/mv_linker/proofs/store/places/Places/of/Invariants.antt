@@ -1,0 +1,5 @@
+use Rattle.mv_linker.proofs.Cycles.PlaceBits.{HasFirst}
+use Rattle.mv_linker.proofs.store.places.Places.of.Given as goal
+
+abbrev pub invariant-loop-place : goal.invariant-loop-place
+invariant-loop-place l = HasFirst l.set l.places l.place-index

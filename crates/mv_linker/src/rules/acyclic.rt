@@ -1,0 +1,80 @@
+// Rule f of linking: no module that a store has once a bundle joins depends on itself by a chain.
+ghost use Rattle.std.specs.Prelude.{◌≡◌, ◌↔◌, ◌+◌, ◌<◌, ◌≤◌, [], length, IsTrue, IfOk};
+ghost use Rattle.mv_linker.specs.Link.{IsStore, tables_in};
+ghost use Rattle.mv_linker.specs.DependencyGraph.{IsOrdered};
+ghost use Rattle.mv_linker.specs.ScopeDependencies.{AreDependenciesIn};
+ghost use Rattle.mv_linker.specs.Relinked.{IsFitting};
+ghost use Rattle.mv_linker.specs.Scope.{offered};
+ghost use Rattle.mv_linker.specs.Settled.{AreSettled, GainsNothing};
+ghost use Rattle.mv_linker.specs.Stored.{AreNamesOf};
+ghost use Rattle.mv_linker.specs.Targets.{modules_in};
+
+use crate::store::dependencies::Dependencies;
+use crate::rules::scope::Scope;
+use crate::rules::store_rules::Names;
+use std::alloc::{AllocError, Global};
+
+impl<'a> Scope<'a> {
+    /// What each module of the bundle depends on, by what its handles name.
+    pub fn dependencies(
+        &self,
+        alloc: Global,
+        names: &[Names],
+    ) -> Result<Vec<Dependencies>, AllocError>
+        requires few { length (modules_in self.now) ≤ 65536 }
+        requires store { IsStore self.now.store.now }
+        requires names { AreNamesOf (modules_in self.now) (offered self.now.new.now) names.now }
+        ensures { IfOk result (λ v. AreDependenciesIn (modules_in self.now) (offered self.now.new.now) v.items) }
+    {
+        let mut all = Vec::with_capacity(alloc, names.len())?;
+        for k in 0..names.len() {
+            all.push(Dependencies::of(alloc, self.places[k], &names[k].modules)?)?;
+        }
+        Ok(all)
+    }
+
+    /// Whether no module of the bundle takes the place of one that depends on less.
+    fn gains_nothing(&self, needed: &[Dependencies]) -> bool
+        requires fits { IsFitting self.now }
+        requires needed { AreDependenciesIn (modules_in self.now) (offered self.now.new.now) needed.now }
+        ensures { IsTrue result ↔ GainsNothing (tables_in self.now.store.now) (modules_in self.now) }
+    {
+        for k in 0..self.places.len() {
+            let place = self.places[k];
+            if place >= self.store.len() {
+                continue;
+            }
+            let old = self.store.needs_at(place);
+            if needed[k].needs.outside(0, old).is_some() {
+                return false;
+            }
+        }
+        true
+    }
+
+    /// How many of the first modules are in order by themselves. Where the bundle gains no dependency, these are the published
+    /// modules and those that take their places; otherwise it is known of none.
+    fn settled(&self, needed: &[Dependencies]) -> usize
+        requires fits { IsFitting self.now }
+        requires needed { AreDependenciesIn (modules_in self.now) (offered self.now.new.now) needed.now }
+        ensures { AreSettled (modules_in self.now) result [] }
+    {
+        if self.gains_nothing(needed) {
+            self.store.len()
+        } else {
+            0
+        }
+    }
+
+    /// Whether no module depends on itself by a chain; `needed` has what the bundle's modules depend on. No other module is
+    /// looked at, unless one of the bundle takes the place of a module that depends on less.
+    pub fn is_ordered(&self, alloc: Global, needed: &[Dependencies]) -> Result<bool, AllocError>
+        requires few { length (modules_in self.now) ≤ 65536 }
+        requires fits { IsFitting self.now }
+        requires needed { AreDependenciesIn (modules_in self.now) (offered self.now.new.now) needed.now }
+        ensures { IfOk result (λ b. IsTrue b ↔ IsOrdered (modules_in self.now)) }
+    {
+        let base = self.settled(needed);
+        self.is_ordered_from(alloc, needed, base)
+    }
+}

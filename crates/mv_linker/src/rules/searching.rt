@@ -1,0 +1,141 @@
+// The search for a chain of dependencies that leads back to its module.
+ghost use Rattle.std.specs.Prelude.{◌≡◌, ◌↔◌, ◌<◌, ◌≤◌, [], length, slice_get, ℕ, Some, IsTrue, IfOk, MatchBool, MatchOption};
+ghost use Rattle.mv_linker.specs.Link.{IsStore};
+ghost use Rattle.mv_linker.specs.DependencyGraph.{IsOrdered};
+ghost use Rattle.mv_linker.specs.Places.{IsWithin};
+ghost use Rattle.mv_linker.specs.ScopeDependencies.{AreDependenciesIn, AreNeedsAt};
+ghost use Rattle.mv_linker.specs.Relinked.{IsFitting};
+ghost use Rattle.mv_linker.specs.Scope.{offered};
+ghost use Rattle.mv_linker.specs.Settled.{AreSettled, IsNext, IsSearched, IsSettled, LeadsToSettled};
+ghost use Rattle.mv_linker.specs.Targets.{modules_in};
+
+use crate::store::dependencies::Dependencies;
+use crate::store::places::Places;
+use crate::rules::scope::Scope;
+use std::alloc::{AllocError, Global};
+
+/// Whether a place is one of the first, or one that the search is done with.
+fn is_settled(base: usize, done: &Places, place: usize) -> bool
+    ensures { IsTrue result ↔ IsSettled base done.now place }
+{
+    place < base || done.contains(place)
+}
+
+impl<'a> Scope<'a> {
+    /// The places that the module at a place depends on; `needed` has what the bundle's modules do. Nothing is decoded.
+    fn needs_at<'d>(&'d self, needed: &'d [Dependencies], place: usize) -> &'d Places
+        requires store { IsStore self.now.store.now }
+        requires needed { AreDependenciesIn (modules_in self.now) (offered self.now.new.now) needed.now }
+        requires place { place < length (modules_in self.now) }
+        ensures { AreNeedsAt (modules_in self.entry.now) place result.now }
+    {
+        match self.bundled(place) {
+            Some(k) => &needed[k].needs,
+            None => self.store.needs_at(place),
+        }
+    }
+
+    /// A place that the module at one depends on, from `base` on, with which the search isn't done.
+    fn next_after(
+        &self,
+        needed: &[Dependencies],
+        base: usize,
+        done: &Places,
+        place: usize,
+    ) -> Option<usize>
+        requires store { IsStore self.now.store.now }
+        requires needed { AreDependenciesIn (modules_in self.now) (offered self.now.new.now) needed.now }
+        requires place { place < length (modules_in self.now) }
+        ensures { MatchOption result (LeadsToSettled (modules_in self.now) base done.now place) (IsNext (modules_in self.now) base done.now place) }
+    {
+        self.needs_at(needed, place).outside(base, done)
+    }
+
+    /// Whether each module of the bundle depends on modules before `base` alone.
+    fn need_first_alone(&self, alloc: Global, needed: &[Dependencies], base: usize) -> bool
+        requires fits { IsFitting self.now }
+        requires needed { AreDependenciesIn (modules_in self.now) (offered self.now.new.now) needed.now }
+        ensures { IsTrue result ↔ ((k p : ℕ) → slice_get self.now.places.items k ≡ Some p → LeadsToSettled (modules_in self.now) base [] p) }
+    {
+        let none = Places::new(alloc);
+        for k in 0..self.places.len() {
+            if self
+                .next_after(needed, base, &none, self.places[k])
+                .is_some()
+            {
+                return false;
+            }
+        }
+        true
+    }
+
+    /// Whether a chain of dependencies that begins at a place leads back to one of its modules. `met` has the places that the
+    /// search came to, `done` those from which no chain does. Each place is come to once, and left once.
+    fn leads_back(
+        &self,
+        alloc: Global,
+        needed: &[Dependencies],
+        base: usize,
+        start: usize,
+        met: &mut Places,
+        done: &mut Places,
+    ) -> Result<bool, AllocError>
+        requires few { length (modules_in self.now) ≤ 65536 }
+        requires store { IsStore self.now.store.now }
+        requires needed { AreDependenciesIn (modules_in self.now) (offered self.now.new.now) needed.now }
+        requires start { start < length (modules_in self.now) }
+        requires fresh { IsSettled base done.old start → ⊥ }
+        requires met { IsWithin 0 met.old done.old }
+        requires settled { AreSettled (modules_in self.now) base done.old }
+        ensures { IfOk result (λ b. MatchBool b (IsOrdered (modules_in self.now) → ⊥) (IsSearched (modules_in self.now) base start done.old met.new done.new)) }
+    {
+        let mut chain = Vec::new(alloc);
+        met.insert(start)?;
+        chain.push(start)?;
+        'search: while let Some(last) = chain.last() {
+            let place = *last;
+            let Some(next) = self.next_after(needed, base, done, place) else {
+                done.insert(place)?;
+                chain.pop();
+                continue;
+            };
+            if met.contains(next) {
+                return Ok(true);
+            }
+            met.insert(next)?;
+            chain.push(next)?;
+        }
+        Ok(false)
+    }
+
+    /// Whether no module depends on itself by a chain, where the modules before `base` are in order by themselves. One search
+    /// serves all the modules of the bundle, since a chain that leads back is of one of them, or of those before `base`.
+    pub fn is_ordered_from(
+        &self,
+        alloc: Global,
+        needed: &[Dependencies],
+        base: usize,
+    ) -> Result<bool, AllocError>
+        requires few { length (modules_in self.now) ≤ 65536 }
+        requires fits { IsFitting self.now }
+        requires needed { AreDependenciesIn (modules_in self.now) (offered self.now.new.now) needed.now }
+        requires settled { AreSettled (modules_in self.now) base [] }
+        ensures { IfOk result (λ b. IsTrue b ↔ IsOrdered (modules_in self.now)) }
+    {
+        if self.need_first_alone(alloc, needed, base) {
+            return Ok(true);
+        }
+        let mut met = Places::new(alloc);
+        let mut done = Places::new(alloc);
+        for k in 0..self.places.len() {
+            let place = self.places[k];
+            if is_settled(base, &done, place) {
+                continue;
+            }
+            if self.leads_back(alloc, needed, base, place, &mut met, &mut done)? {
+                return Ok(false);
+            }
+        }
+        Ok(true)
+    }
+}

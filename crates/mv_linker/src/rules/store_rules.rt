@@ -1,0 +1,118 @@
+// The rules over a whole store, c to g of linking, for the modules that it has once a bundle joins it: c is in named_modules.rt, d in
+// named_structs.rt, e in named_functions.rt, f in acyclic.rt and g in small_structs.rt.
+ghost use Rattle.std.specs.Prelude.{◌+◌, ◌≤◌, length, IsTrue, IfOk, IfErr, OnOk};
+ghost use Rattle.std.specs.List.{list_all};
+ghost use Rattle.mv_move_types.specs.Refusals.{IsRefusedIn};
+ghost use Rattle.mv_linker.specs.Found.{AreOutlines};
+ghost use Rattle.mv_linker.specs.Link.{tables_in};
+ghost use Rattle.mv_linker.specs.StoreRules.{Links, names_hold};
+ghost use Rattle.mv_linker.specs.Relinked.{IsFitting};
+ghost use Rattle.mv_linker.specs.Scope.{offered};
+ghost use Rattle.mv_linker.specs.Stored.{KeepsDependencies, AreLowered, AreNames, AreNamesOf};
+ghost use Rattle.mv_linker.specs.Targets.{modules_in};
+
+use crate::store::dependencies::{DependenciesAt, placed};
+use crate::rules::named_modules::places_of;
+use crate::rules::pushed::pushed;
+use crate::rules::scope::Scope;
+use crate::lowering::to_link::Lowered;
+use mv_binary_format::Module;
+use mv_interface::Outline;
+use mv_move_types::{Definition, Refusal};
+use std::alloc::Global;
+
+/// What the handles of a module name.
+#[derive(Drop)]
+pub struct Names {
+    /// The place of each module.
+    pub modules: Vec<usize>,
+    /// Where each struct is defined.
+    pub structs: Vec<Definition>,
+    /// Where each function is defined.
+    pub functions: Vec<Definition>,
+}
+
+/// What a store keeps of the modules that a bundle changes, beside their texts.
+#[derive(Drop)]
+pub struct Changes {
+    /// What was made of the bundle's modules.
+    pub lowered: Vec<Lowered>,
+    /// The dependencies of the bundle's modules.
+    pub dependencies: Vec<DependenciesAt>,
+}
+
+impl<'a> Scope<'a> {
+    /// What a module's handles name; `Phase(13)`, where something is not there as a handle says. `outlines` has those of the
+    /// bundle.
+    fn names(&self, alloc: Global, outlines: &[Outline], m: &Module<'_>) -> Result<Names, Refusal>
+        requires few { length (modules_in self.now) ≤ 65536 }
+        requires fits { IsFitting self.now }
+        requires outlines { AreOutlines (offered self.now.new.now) outlines.now }
+        ensures names { IfOk result (AreNames (modules_in self.now) m.now) }
+        ensures there { OnOk result (IsTrue (names_hold (modules_in self.now) m.now)) }
+        ensures refused { IfErr result (IsRefusedIn 13 (IsTrue (names_hold (modules_in self.now) m.now))) }
+    {
+        let targets = match self.targets(alloc, outlines, m) {
+            Ok(targets) => targets,
+            Err(e) => return Err(e),
+        };
+        let modules = places_of(alloc, &targets)?;
+        let structs = match self.structs(alloc, m, &targets) {
+            Ok(structs) => structs,
+            Err(e) => return Err(e),
+        };
+        let functions = match self.functions(alloc, m, &targets, &structs) {
+            Ok(functions) => functions,
+            Err(e) => return Err(e),
+        };
+        Ok(Names {
+            modules,
+            structs,
+            functions,
+        })
+    }
+
+    /// What the handles of the bundle's modules name; `Phase(13)`, where rule c, d or e fails.
+    fn named(&self, alloc: Global, outlines: &[Outline]) -> Result<Vec<Names>, Refusal>
+        requires few { length (modules_in self.now) ≤ 65536 }
+        requires fits { IsFitting self.now }
+        requires outlines { AreOutlines (offered self.now.new.now) outlines.now }
+        ensures names { IfOk result (λ v. AreNamesOf (modules_in self.now) (offered self.now.new.now) v.items) }
+        ensures ok { OnOk result (IsTrue (list_all (names_hold (modules_in self.now)) (offered self.now.new.now))) }
+        ensures refused { IfErr result (IsRefusedIn 13 (Links (modules_in self.now))) }
+    {
+        let mut all = Vec::with_capacity(alloc, self.new.len())?;
+        for i in 0..self.new.len() {
+            match self.names(alloc, outlines, self.new[i].module.module()) {
+                Ok(names) => pushed(&mut all, names)?,
+                Err(e) => return Err(e),
+            }
+        }
+        Ok(all)
+    }
+
+    /// Tries rules c to g over all the modules, and links the bundle's.
+    pub fn links(&self, alloc: Global) -> Result<Changes, Refusal>
+        requires room { length self.now.store.now + length self.now.new.now ≤ 65536 }
+        requires few { length (modules_in self.now) ≤ 65536 }
+        requires fits { IsFitting self.now }
+        ensures ok { OnOk result (Links (modules_in self.now)) }
+        ensures lowered { IfOk result (λ c. AreLowered (tables_in self.now.store.now) (offered self.now.new.now) (modules_in self.now) c.lowered.items) }
+        ensures dependencies { IfOk result (λ c. KeepsDependencies (tables_in self.now.store.now) (modules_in self.now) c.dependencies.items) }
+        ensures refused { IfErr result (IsRefusedIn 13 (Links (modules_in self.now))) }
+    {
+        let outlines = self.outlines(alloc)?;
+        let names = self.named(alloc, &outlines)?;
+        let needed = self.dependencies(alloc, &names)?;
+        if !self.is_ordered(alloc, &needed)? {
+            return Err(Refusal::Phase(13));
+        }
+        let sizes = self.sizes(alloc, &names)?;
+        let lowered = self.lowered(alloc, &names, &sizes, outlines)?;
+        let dependencies = placed(alloc, &self.places, needed)?;
+        Ok(Changes {
+            lowered,
+            dependencies,
+        })
+    }
+}

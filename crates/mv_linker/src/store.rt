@@ -1,0 +1,87 @@
+// The module store. Its readers are in stored.rt.
+ghost use Rattle.std.specs.Prelude.{◌≡◌, ◌≤◌, [], length};
+ghost use Rattle.mv_move_types.specs.Named.{module_place};
+ghost use Rattle.mv_linker.specs.Link.{IsStore, tables_in};
+
+pub mod adding;
+pub mod code;
+pub mod dependencies;
+pub mod entry;
+mod exports;
+pub mod indexed;
+pub mod places;
+mod stored;
+
+use code::Code;
+use dependencies::Dependencies;
+use entry::{Name, Texts};
+use indexmap::IndexMap;
+use std::alloc::Global;
+use std::borrow::CowSlice;
+use std::marker::Model;
+
+/// The published modules by their names, in order of publication, with their linked code and what each depends on. Its model is
+/// their list, with their texts.
+#[derive(Drop)]
+pub struct Store {
+    pub(crate) modules: IndexMap<Name<'static>, Texts>,
+    pub(crate) codes: Vec<Code>,
+    pub(crate) dependencies: Vec<Dependencies>,
+}
+
+impl Model for Store {
+    ghost use Rattle.std.specs.Prelude.{◌≤◌, List, length};
+    ghost use Rattle.mv_move_types.specs.Published.{PublishedModule};
+    ghost use Rattle.mv_linker.specs.Kept.{AreKeyed, published_under};
+    ghost use Rattle.mv_linker.specs.Link.{IsStore, tables_in};
+    ghost use Rattle.mv_linker.specs.Stored.{AreCodesOf, AreDependenciesOf};
+
+    ghost Value = { List PublishedModule };
+
+    ghost view = { λ s. published_under s.modules.entries };
+
+    ghost invariant = { λ s. IsStore (published_under s.modules.entries) × AreKeyed s.modules.entries
+        × AreCodesOf (tables_in (published_under s.modules.entries)) s.codes.items
+        × AreDependenciesOf (tables_in (published_under s.modules.entries)) s.dependencies.items
+        × length (published_under s.modules.entries) ≤ 65536 };
+}
+
+impl Store {
+    /// A store without modules.
+    pub fn new(alloc: Global) -> Self
+        ensures { result ≡ [] }
+    {
+        Store {
+            modules: IndexMap::new(alloc),
+            codes: Vec::new(alloc),
+            dependencies: Vec::new(alloc),
+        }
+    }
+
+    /// How many modules it has: at most 65,536, since code names a module by a place of 16 bits.
+    pub fn len(&self) -> usize
+        ensures count { result ≡ length self.now }
+        ensures few { length self.now ≤ 65536 }
+        ensures store { IsStore self.now }
+    {
+        self.modules.len()
+    }
+
+    /// The place of the module with this address and name in the order of publication.
+    pub fn find(&self, address: u128, name: &[u8]) -> Option<usize>
+        ensures { result ≡ module_place (tables_in self.now) (record { address = address; name = name.now }) }
+    {
+        let asked = Name {
+            address,
+            identifier: CowSlice::Borrowed(name),
+        };
+        self.modules.get_index_of(&asked)
+    }
+
+    // What it allocates with.
+    pub(crate) fn allocator(&self) -> Global
+        ensures { IsStore self.now }
+    {
+        *self.modules.allocator()
+    }
+}
