@@ -8,8 +8,8 @@ ghost use Rattle.mv_interface.specs.ByName.{IsByName, names_at};
 ghost use Rattle.mv_interface.specs.Outline.{IsOutline, are_names, IsStructNamed, IsFunctionNamed, identifier_at, struct_by, function_by, names_by};
 
 use crate::by_name::{ByName, by_name, find};
-use crate::lists::Lists;
 use crate::definitions::is_public;
+use crate::lists::Lists;
 use mv_binary_format::{FunctionDefinition, Module, StructDefinition};
 use mv_move_types::{Abilities, Field};
 use std::alloc::{AllocError, Global};

@@ -8,7 +8,7 @@ use Rattle.mv_move_types.specs.Module.{Module, StructDefinition, name_at, own_na
 use Rattle.mv_bounds.specs.{Bounds.InBounds, Definitions.WellDefined}
 use Rattle.mv_linker.specs.Link.{IsStore, IsPublishable, tables_in, have_one_name}
 use Rattle.mv_module_text.proofs.Texts.{on_bind}
-use Rattle.mv_linker.proofs.{Found.one_place, NameLemmas.same_module-same, OwnDefinitions.own-definition, OwnDefinitions.own_name-some}
+use Rattle.mv_interface.proofs.{Found.one_place, NameLemmas.same_module-same, OwnDefinitions.own-definition, OwnDefinitions.own_name-some}
 use Rattle.mv_interpreter.proofs.Owned.{IsOwn}
 use Rattle.mv_interpreter.proofs.Lists.{All-at}
 use Rattle.mv_bounds.proofs.Entries.{mapped-at}

@@ -21,10 +21,10 @@ mod small_structs;
 pub mod store_rules;
 mod upgrades;
 
-use crate::store::entry::Entry;
-use crate::store::indexed::put_name;
 use crate::rules::scope::Scope;
 use crate::rules::store_rules::Changes;
+use crate::store::entry::Entry;
+use crate::store::indexed::put_name;
 use crate::{New, Store};
 use indexmap::IndexMap;
 use mv_move_types::Refusal;

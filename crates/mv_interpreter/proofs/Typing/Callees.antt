@@ -6,9 +6,11 @@ use Rattle.mv_interpreter.proofs.Typing.Common.{function_in, instruction_in, loc
 use Rattle.mv_interpreter.proofs.Typing.Common.{same_module-same, structs_are_there, tokens_named, function_is_typed, StoreAccepted, ModuleAccepted, CallFacts}
 use Rattle.mv_interpreter.proofs.{Typing.Operands.tags_by, Typing.Advances.start_typed, Typing.Names.tag_is_found, Typing.OwnDefinitions.then_ok}
 use Rattle.mv_move_types.specs.{Names.same_module, Module.module_name, Tags.same_tags, Named.is_module, Named.have_one_name, Named.is_public}
-use Rattle.mv_linker.specs.{TypesByName.signature_named, TypesByName.same_signature, StoreRules.function_named, StoreRules.function_fits, StoreRules.function_is_there}
+use Rattle.mv_linker.specs.{StoreRules.function_named, StoreRules.function_fits, StoreRules.function_is_there}
+use Rattle.mv_interface.specs.{TypesByName.signature_named, TypesByName.same_signature}
 use Rattle.mv_machine.specs.{Step.signature_tags, StepControl.callee}
-use Rattle.mv_linker.proofs.{NameLemmas.same_module-is, TagTests.same_tags-is, TagTests.same_tags-same, Found.one_place}
+use Rattle.mv_linker.proofs.{TagTests.same_tags-is, TagTests.same_tags-same}
+use Rattle.mv_interface.proofs.{NameLemmas.same_module-is, Found.one_place}
 
 -- what a test that passed has found
 pub on_found : {A P : Type 0} (p : A → Bool) (r : Option A) → option_map_or p r false ≡ true → ((x : A) → r ≡ Some x → p x ≡ true → P) → P

@@ -9,9 +9,9 @@ ghost use Rattle.mv_linker.specs.Settled.{AreSettled, GainsNothing};
 ghost use Rattle.mv_linker.specs.Stored.{AreNamesOf};
 ghost use Rattle.mv_linker.specs.Targets.{modules_in};
 
-use crate::store::dependencies::Dependencies;
 use crate::rules::scope::Scope;
 use crate::rules::store_rules::Names;
+use crate::store::dependencies::Dependencies;
 use std::alloc::{AllocError, Global};
 
 impl<'a> Scope<'a> {

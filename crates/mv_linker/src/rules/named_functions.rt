@@ -23,13 +23,7 @@ use crate::rules::scope::{Scope, is_module};
 use mv_binary_format::{FunctionDefinition, Module};
 use mv_bounds::function_places;
 use mv_interface::{
-    Interface,
-    LinkedType,
-    function_handle,
-    is_public,
-    is_signature,
-    module_name,
-    name_of,
+    Interface, LinkedType, function_handle, is_public, is_signature, module_name, name_of,
     same_signature,
 };
 use mv_move_types::{Definition, FunctionHandle, Refusal};

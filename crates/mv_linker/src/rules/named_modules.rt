@@ -12,10 +12,10 @@ ghost use Rattle.mv_linker.specs.Scope.{offered};
 ghost use Rattle.mv_linker.specs.StoreRules.{module_is_there, modules_are_there};
 ghost use Rattle.mv_linker.specs.Targets.{modules_in};
 
-use crate::store::entry::Name;
-use crate::store::indexed::place_of;
 use crate::rules::pushed::pushed;
 use crate::rules::scope::Scope;
+use crate::store::entry::Name;
+use crate::store::indexed::place_of;
 use mv_binary_format::Module;
 use mv_interface::{Interface, Outline, module_name};
 use mv_move_types::Refusal;

@@ -9,9 +9,9 @@ ghost use Rattle.mv_linker.specs.Scope.{offered};
 ghost use Rattle.mv_linker.specs.Settled.{AreSettled, IsNext, IsSearched, IsSettled, LeadsToSettled};
 ghost use Rattle.mv_linker.specs.Targets.{modules_in};
 
+use crate::rules::scope::Scope;
 use crate::store::dependencies::Dependencies;
 use crate::store::places::Places;
-use crate::rules::scope::Scope;
 use std::alloc::{AllocError, Global};
 
 /// Whether a place is one of the first, or one that the search is done with.

@@ -11,11 +11,11 @@ ghost use Rattle.mv_linker.specs.Scope.{offered};
 ghost use Rattle.mv_linker.specs.Stored.{KeepsDependencies, AreLowered, AreNames, AreNamesOf};
 ghost use Rattle.mv_linker.specs.Targets.{modules_in};
 
-use crate::store::dependencies::{DependenciesAt, placed};
+use crate::lowering::to_link::Lowered;
 use crate::rules::named_modules::places_of;
 use crate::rules::pushed::pushed;
 use crate::rules::scope::Scope;
-use crate::lowering::to_link::Lowered;
+use crate::store::dependencies::{DependenciesAt, placed};
 use mv_binary_format::Module;
 use mv_interface::Outline;
 use mv_move_types::{Definition, Refusal};

@@ -19,7 +19,10 @@ ghost use Rattle.std.specs.List.{list_all};
 use crate::Store;
 use crate::rules::scope::Scope;
 use mv_binary_format::{FunctionDefinition, Module, StructDefinition};
-use mv_interface::{Interface, LinkedType, Part, are_same, function_handle, function_place, is_public, same_kind, struct_name};
+use mv_interface::{
+    Interface, LinkedType, Part, are_same, function_handle, function_place, is_public, same_kind,
+    struct_name,
+};
 use mv_move_types::{Abilities, Definition, Field, Token, ValueType};
 
 /// The abilities that a struct definition is declared with, if its handle is there.

@@ -80,7 +80,10 @@ impl Entry {
         ensures text { result.0.now ≡ self.now.published.text }
         ensures certificate { result.1.now ≡ self.now.published.certificate }
     {
-        (self.texts.module.as_slice(), self.texts.certificate.as_slice())
+        (
+            self.texts.module.as_slice(),
+            self.texts.certificate.as_slice(),
+        )
     }
 
     /// The name and the texts apart.

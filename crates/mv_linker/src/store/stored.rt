@@ -11,8 +11,8 @@ ghost use Rattle.mv_interface.specs.Shapes.{AreFieldsAt, is_keyed, structs_in};
 ghost use Rattle.mv_linker.specs.Stored.{IsSizeAt};
 
 use crate::Store;
-use crate::store::code::Code;
 use crate::rules::sizes::Size;
+use crate::store::code::Code;
 use mv_interface::{Interface, Part, Signature, StructName};
 use mv_move_types::Definition;
 
