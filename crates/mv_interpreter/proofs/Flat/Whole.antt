@@ -1,15 +1,16 @@
 -- The whole: a run of linked code over an accepted store agrees with the machine's run.
-use Rattle.mv_interpreter.proofs.Flat.Common.{◌≡◌, ℕ, ◌≤◌, List, map, length, sym, subst, [], ◌∷◌, ◌++◌, refl, Result, Ok, Option, Some, None, option_map_or, flat_map, replicate, Module}
+use Rattle.mv_interpreter.proofs.Flat.Common.{◌≡◌, ℕ, suc, ◌≤◌, List, map, length, sym, subst, [], ◌∷◌, ◌++◌, refl, Result, Ok, Option, Some, None, option_map_or, flat_map, replicate, Module}
 use Rattle.mv_interpreter.proofs.Flat.Common.{Tag, LeafTag, StructTag, ReferenceTag, Token, flat, FunctionCall, Storage, State, Failure, Value, Ref, IsLinked, Program, tokens_named}
 use Rattle.mv_interpreter.proofs.Flat.Common.{width_of_tokens, width_of_tags, FlatOutcome, FlatStuck, SameOutcome, flat_entry, History, ValueWords, LocalsWords, Represented, StoreAccepted}
 use Rattle.mv_interpreter.proofs.Flat.Common.{SoundStore, HaveTypes, HasType, Guides, StorageTyped}
 use Rattle.mv_interpreter.proofs.{Typing.Operands.on_names, Typing.Structs.names_length, Typing.Addresses.accepted_is_sound, Flat.Wide.Sized, Flat.Sizes.sizes}
-use Rattle.mv_interpreter.proofs.{Typing.Roots.tokens_have_tags, Flat.Slot.widths_named, Flat.Arguments.ListWords, Flat.Grow.entered_locals, Flat.Grow.all_named, Flat.Grow.named_split}
+use Rattle.mv_interpreter.proofs.{Typing.Roots.tokens_have_tags, Flat.Slot.widths_named, Flat.Arguments.ListWords, Flat.Grow.entered_locals, Flat.Grow.opened-long, Flat.Grow.all_named, Flat.Grow.named_split}
 use Rattle.mv_interpreter.proofs.{Flat.Calls.types_are, Flat.Run.turns_follow}
 use Rattle.mv_interpreter.proofs.Typing.First.{Nowhere, CallTyped, begun, first_typed, first_is}
 use Rattle.mv_machine.specs.Run.{outcome_from, run}
 use Rattle.mv_interpreter.specs.Typing.HasType.{fields_by_name}
 use Rattle.mv_interpreter.specs.Flat.FlatRun.{flat_turns, flat_first, flat_run, width_of_others}
+use Rattle.mv_interpreter.specs.Flat.FlatStep.{opened}
 use Rattle.std.proofs.lemmas.Option.{none-some}
 
 module _ (modules : List Module) (history : History) where
@@ -26,20 +27,21 @@ module _ (modules : List Module) (history : History) where
   arguments_words (v ∷ vs) (t ∷ ts) h = (flat v, flat_map flat vs, refl, argument_words v t h.0, arguments_words vs ts h.1)
 
 -- the first state of the flat run represents that of the run
-first_represented : (modules : List Module) (storage : Storage) (call : FunctionCall) (c : CallTyped modules call) → SoundStore modules → Sized modules → StorageTyped modules storage →
-    Represented modules (begun storage call (length c.others)) (flat_first (map flat_entry storage) call.function (flat_map flat call.arguments) (width_of_tokens modules c.home c.others))
-first_represented modules storage call c store sized stored =
+first_represented : (modules : List Module) (above : List ℕ) (storage : Storage) (call : FunctionCall) (c : CallTyped modules call) → SoundStore modules → Sized modules → StorageTyped modules storage →
+    Represented modules (begun storage call (length c.others)) (flat_first (map flat_entry storage) call.function (flat_map flat call.arguments) (opened (width_of_tokens modules c.home c.others) above))
+first_represented modules above storage call c store sized stored =
     let facts = store.facts c.home c.function (begun storage call (length c.others)) c.is_home c.is_function in
     let named = all_named c.home (c.parameters ++ c.others) (λ l t e. facts.local_names (c.parameters ++ c.others) l t c.are_tokens e) in
     let first = named_first c.home c.parameters c.others named.0 named.1 in
     let apart = named_split c.home c.parameters c.others first.0 named.0 named.1 first.1 in
     let history : History = record { base = 0; types = named.0 } ∷ [] in
     let typed = tokens_have_tags modules Nowhere c.home call.arguments c.parameters first.0 c.arguments first.1 in
-    let zeros : List ℕ = replicate (width_of_tags modules apart.0) 0 in
-    let locals : LocalsWords modules history (map Some call.arguments ++ replicate (length apart.0) None) (first.0 ++ apart.0) (flat_map flat call.arguments ++ zeros) =
-    entered_locals modules history sized Nowhere call.arguments first.0 apart.0 (flat_map flat call.arguments) typed (arguments_words modules history call.arguments first.0 typed) in
+    let more : List ℕ = opened (width_of_tags modules apart.0) above in
+    let locals : LocalsWords modules history (map Some call.arguments ++ replicate (length apart.0) None) (first.0 ++ apart.0) (flat_map flat call.arguments ++ more) =
+    entered_locals modules history sized Nowhere call.arguments first.0 apart.0 (flat_map flat call.arguments) more typed (arguments_words modules history call.arguments first.0 typed)
+    (opened-long (width_of_tags modules apart.0) above) in
     let long : length apart.0 ≡ length c.others = names_length c.home c.others apart.0 apart.1 in
-    subst (λ (n : ℕ). Represented modules (begun storage call (length c.others)) (flat_first (map flat_entry storage) call.function (flat_map flat call.arguments) n))
+    subst (λ (n : ℕ). Represented modules (begun storage call (length c.others)) (flat_first (map flat_entry storage) call.function (flat_map flat call.arguments) (opened n above)))
     (sym (widths_named modules c.home c.others apart.0 apart.1)) (
       history,
       record {
@@ -48,14 +50,14 @@ first_represented modules storage call c store sized stored =
           [],
           record {
             types = named.0;
-            area = flat_map flat call.arguments ++ zeros;
+            area = flat_map flat call.arguments ++ more;
             function = refl;
             at = refl;
             base = refl;
             are_types = types_are modules call.function c.home c.function (c.parameters ++ c.others) named.0 c.is_home c.is_function c.are_tokens named.1;
             is_known = refl;
-            locals = subst (λ (n : ℕ). LocalsWords modules history (map Some call.arguments ++ replicate n None) named.0 (flat_map flat call.arguments ++ zeros)) long
-                (subst (λ (ts : List Tag). LocalsWords modules history (map Some call.arguments ++ replicate (length apart.0) None) ts (flat_map flat call.arguments ++ zeros)) (sym apart.2) locals);
+            locals = subst (λ (n : ℕ). LocalsWords modules history (map Some call.arguments ++ replicate n None) named.0 (flat_map flat call.arguments ++ more)) long
+                (subst (λ (ts : List Tag). LocalsWords modules history (map Some call.arguments ++ replicate (length apart.0) None) ts (flat_map flat call.arguments ++ more)) (sym apart.2) locals);
             stack = refl;
           },
           refl,
@@ -77,18 +79,18 @@ pub others_are : (modules : List Module) (call : FunctionCall) (c : CallTyped mo
 others_are modules call c = rw (c.is_home, c.is_function, c.are_others) refl
 
 -- a run of linked code from a typed call over a typed storage ends as the machine's run does, wherever that meets no fault
-pub flat_run_follows : (modules : List Module) (program : Program) (P : State → Type 0) (storage : Storage) (call : FunctionCall) (budget : ℕ)
+pub flat_run_follows : (modules : List Module) (program : Program) (above : ℕ → List ℕ) (P : State → Type 0) (storage : Storage) (call : FunctionCall) (budget : ℕ)
     → StoreAccepted modules → length modules ≤ 65536 → IsLinked modules program → Guides modules P → (c : CallTyped modules call)
     → StorageTyped modules storage → P (begun storage call (length c.others))
-    → SameOutcome modules (run modules storage call budget) (flat_run modules program (map flat_entry storage) call.function (flat_map flat call.arguments) budget)
+    → SameOutcome modules (run modules storage call budget) (flat_run modules program above (map flat_entry storage) call.function (flat_map flat call.arguments) budget)
 unfolding run flat_run
-flat_run_follows modules program P storage call budget accepted few linked guides c stored p =
+flat_run_follows modules program above P storage call budget accepted few linked guides c stored p =
     let store : SoundStore modules = accepted_is_sound modules accepted in
     let sized : Sized modules = sizes modules accepted in
     let flat_ends : Option ℕ → FlatOutcome =
-    λ others. option_map_or (λ others. flat_turns program budget (flat_first (map flat_entry storage) call.function (flat_map flat call.arguments) others)) others FlatStuck in
+    λ others. option_map_or (λ others. flat_turns program (λ n. above (suc n)) budget (flat_first (map flat_entry storage) call.function (flat_map flat call.arguments) (opened others (above 0)))) others FlatStuck in
     subst (λ (r : Result State Failure). SameOutcome modules (outcome_from modules budget r) (flat_ends (width_of_others modules call.function))) (sym (first_is modules storage call c))
     (subst (λ (r : Option ℕ). SameOutcome modules (outcome_from modules budget (Ok (begun storage call (length c.others)))) (flat_ends r)) (sym (others_are modules call c))
-    (turns_follow modules program P budget (begun storage call (length c.others))
-    (flat_first (map flat_entry storage) call.function (flat_map flat call.arguments) (width_of_tokens modules c.home c.others)) store sized few linked guides
-    (first_typed modules storage call c stored) p (first_represented modules storage call c store sized stored)))
+    (turns_follow modules program (λ n. above (suc n)) P budget (begun storage call (length c.others))
+    (flat_first (map flat_entry storage) call.function (flat_map flat call.arguments) (opened (width_of_tokens modules c.home c.others) (above 0))) store sized few linked guides
+    (first_typed modules storage call c stored) p (first_represented modules (above 0) storage call c store sized stored)))

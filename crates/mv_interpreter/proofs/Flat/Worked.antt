@@ -2,7 +2,7 @@
 use Rattle.mv_interpreter.proofs.Flat.Common.{flat_map, Module, Call, Ret, Pop, LdU64, CopyLoc, MoveLoc, StLoc, MutBorrowLoc, MutBorrowField, Pack, Unpack, ReadRef, WriteRef, Add, Abort}
 use Rattle.mv_interpreter.proofs.Flat.Common.{Number, Plain, OfLeaf, OfStruct, U64, flat, FunctionCall, Aborted, AlreadyThere, Code, program_of, Push, Enter, Leave, PutStored, Discard}
 use Rattle.mv_interpreter.proofs.Flat.Common.{Load, Store, BorrowLocal, GiveUp, BorrowInside, Read, Write, Sum, Tally, Skip, FlatReturned, FlatAborted, flat_entry}
-use Rattle.std.specs.Prelude.{◌≡◌, refl, ℕ, true, false, [], ◌∷◌, map}
+use Rattle.std.specs.Prelude.{◌≡◌, refl, ℕ, List, true, false, [], ◌∷◌, map}
 use Rattle.mv_move_types.specs.{declared.tables.Visibility.TheVariants.Public, declared.tables.Visibility.TheVariants.Private, declared.token.Token.TheVariants.MutableReference}
 use Rattle.mv_machine.specs.{Run.run, Run.turns, StepLocals.pop, StepLocals.copy_local, StepLocals.store_local, StepStructs.unpack, StepGlobals.exists, StepGlobals.borrow_global}
 use Rattle.mv_machine.specs.{StepGlobals.move_from}
@@ -20,16 +20,20 @@ unfoldable computes : ℕ
 unfolding binary comparison shift cast logic negation constant pop equality held copy_local move_local store_local borrow_local own_struct pack unpack own_field borrow_field read_reference write_reference freeze keyed_struct exists borrow_global move_from move_to signature_tags callee call return_results branch_if abort rule step turns run types_after linked apply flat_turns flat_run
 computes = 0
 
+-- where nothing lies above the words, they are zeros
+abbrev nothing_above : ℕ → List ℕ
+nothing_above n = []
+
 coin_linked : program_of (coin_module ∷ []) ≡ ((BorrowLocal 0 ∷ Load 1 1 ∷ Tally true (record { place = 0; index = 0 }) ∷ PutStored (record { place = 0; index = 0 }) 1 ∷ Leave 0 ∷ []) ∷ []) ∷ []
 unfolding computes
 coin_linked = refl
 
-flat_mint : flat_run (coin_module ∷ []) (program_of (coin_module ∷ [])) [] mint.function (flat_map flat mint.arguments) 100 ≡ FlatReturned 5
+flat_mint : flat_run (coin_module ∷ []) (program_of (coin_module ∷ [])) nothing_above [] mint.function (flat_map flat mint.arguments) 100 ≡ FlatReturned 5
     (map flat_entry one_coin) (record { is_pack = true; definition = record { place = 0; index = 0 } } ∷ [])
 unfolding computes
 flat_mint = refl
 
-flat_mint_twice : flat_run (coin_module ∷ []) (program_of (coin_module ∷ [])) (map flat_entry one_coin) mint.function (flat_map flat mint.arguments) 100 ≡ FlatAborted AlreadyThere 0 4
+flat_mint_twice : flat_run (coin_module ∷ []) (program_of (coin_module ∷ [])) nothing_above (map flat_entry one_coin) mint.function (flat_map flat mint.arguments) 100 ≡ FlatAborted AlreadyThere 0 4
 unfolding computes
 flat_mint_twice = refl
 
@@ -59,7 +63,7 @@ pairs_aborts : run (pairs ∷ []) [] adds 100 ≡ Aborted Code 9 22
 unfolding computes
 pairs_aborts = refl
 
-flat_pairs_aborts : flat_run (pairs ∷ []) (program_of (pairs ∷ [])) [] adds.function (flat_map flat adds.arguments) 100 ≡ FlatAborted Code 9 22
+flat_pairs_aborts : flat_run (pairs ∷ []) (program_of (pairs ∷ [])) nothing_above [] adds.function (flat_map flat adds.arguments) 100 ≡ FlatAborted Code 9 22
 unfolding computes
 flat_pairs_aborts = refl
 

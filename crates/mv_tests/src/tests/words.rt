@@ -10,7 +10,7 @@ use std::test::Fail;
 fn words_of_two_frames(rt: HostRuntime) -> Result<(), Fail> {
     let mut words = Words::new(rt.alloc());
     assert!(rt; words.extend([1, 2].as_slice()).is_ok());
-    assert!(rt; words.zeros(2).is_ok());
+    assert!(rt; words.open(2).is_ok());
     assert!(rt; words.push(7).is_ok());
     assert_eq!(rt; words.as_slice(), [1, 2, 0, 0, 7].as_slice());
     assert!(rt; words.settle_word(2).is_ok());
@@ -44,13 +44,25 @@ fn words_that_are_not_there(rt: HostRuntime) -> Result<(), Fail> {
 }
 
 #[test]
+fn words_that_hold_what_they_held(rt: HostRuntime) -> Result<(), Fail> {
+    let mut words = Words::new(rt.alloc());
+    assert!(rt; words.extend([1, 2, 3].as_slice()).is_ok());
+    words.cut(1);
+    assert!(rt; words.open(0).is_ok());
+    assert_eq!(rt; words.as_slice(), [1].as_slice());
+    assert!(rt; words.open(2).is_ok());
+    assert_eq!(rt; words.as_slice(), [1, 2, 3].as_slice());
+    Ok(())
+}
+
+#[test]
 fn words_past_their_first_room(rt: HostRuntime) -> Result<(), Fail> {
     let mut words = Words::new(rt.alloc());
-    assert!(rt; words.zeros(31).is_ok());
+    assert!(rt; words.open(31).is_ok());
     assert!(rt; words.extend([1, 2].as_slice()).is_ok());
     assert!(rt; words.copy(1, 32).is_ok());
     assert!(rt; words.push(7).is_ok());
-    assert!(rt; words.zeros(100).is_ok());
+    assert!(rt; words.open(100).is_ok());
     assert_eq!(rt; words.len(), 166);
     words.cut(66);
     words.close(1, 33);
