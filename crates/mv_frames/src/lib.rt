@@ -20,7 +20,7 @@ mod frame;
 mod halt;
 mod words;
 
-pub use counters::{Count, Counters, StructTally};
+pub use counters::{Counters, StructTally};
 pub use frame::{Frame, Top};
 pub use halt::Halt;
 pub use words::Words;

@@ -1,6 +1,5 @@
 // The words of frames, and what runs count.
-ghost use Rattle.std.specs.Prelude.{◌<◌, length};
-ghost use Rattle.mv_frames.specs.Counters.{IsClear};
+ghost use Rattle.std.specs.Prelude.{◌≡◌, ◌<◌, [], length};
 
 use mv_frames::{Counters, Halt, StructTally, Words};
 use mv_move_types::Definition;
@@ -93,7 +92,7 @@ fn tally(place: u16, index: u16, packs: u64, unpacks: u64) -> StructTally {
 
 // Counts values made and taken apart.
 fn counted(counters: &mut Counters, values: &[(bool, Definition)]) -> Result<(), Halt>
-    requires clear { IsClear counters.old }
+    requires clear { counters.old ≡ [] }
     requires few { length values.now < 100 }
 {
     for value in values {
@@ -114,27 +113,47 @@ fn counts_of_several_structs(rt: HostRuntime) -> Result<(), Fail> {
         (apart, of(0, 0)),
         (apart, of(0, 0)),
     ];
-    let wanted = [tally(2, 3, 0, 1), tally(0, 0, 1, 2), tally(2, 5, 2, 1)];
+    let wanted = [tally(2, 5, 2, 1), tally(0, 0, 1, 2), tally(2, 3, 0, 1)];
     let mut counters = Counters::new(rt.alloc());
     assert!(rt; counted(&mut counters, values.as_slice()).is_ok());
-    assert_eq!(rt; counters.take(rt.alloc())?.as_slice(), wanted.as_slice());
-    assert!(rt; counters.take(rt.alloc())?.is_empty());
-    assert!(rt; counted(&mut counters, values.as_slice()).is_ok());
-    assert_eq!(rt; counters.take(rt.alloc())?.as_slice(), wanted.as_slice());
+    assert_eq!(rt; counters.into_tally().as_slice(), wanted.as_slice());
     Ok(())
 }
 
 #[test]
-fn counts_where_room_was_made(rt: HostRuntime) -> Result<(), Fail> {
-    let values = [(true, of(1, 1)), (false, of(0, 2)), (true, of(3, 0))];
-    let wanted = [tally(3, 0, 1, 0), tally(0, 2, 0, 1), tally(1, 1, 1, 0)];
+fn counts_of_many_structs(rt: HostRuntime) -> Result<(), Fail> {
+    let values = [
+        (true, of(1, 0)),
+        (true, of(1, 9)),
+        (true, of(1, 2)),
+        (true, of(1, 7)),
+        (true, of(1, 4)),
+        (true, of(1, 5)),
+        (true, of(1, 6)),
+        (true, of(1, 3)),
+        (true, of(1, 8)),
+        (true, of(1, 1)),
+        (true, of(0, 1)),
+        (false, of(1, 1)),
+        (true, of(0, 1)),
+        (false, of(1, 8)),
+        (true, of(1, 3)),
+    ];
+    let wanted = [
+        tally(1, 0, 1, 0),
+        tally(1, 9, 1, 0),
+        tally(1, 2, 1, 0),
+        tally(1, 7, 1, 0),
+        tally(1, 4, 1, 0),
+        tally(1, 5, 1, 0),
+        tally(1, 6, 1, 0),
+        tally(1, 3, 2, 0),
+        tally(1, 8, 1, 1),
+        tally(1, 1, 1, 1),
+        tally(0, 1, 2, 0),
+    ];
     let mut counters = Counters::new(rt.alloc());
-    assert!(rt; counters.make_room(1, 2).is_ok());
-    assert!(rt; counters.make_room(0, 3).is_ok());
-    assert!(rt; counters.make_room(1, 1).is_ok());
     assert!(rt; counted(&mut counters, values.as_slice()).is_ok());
-    assert!(rt; counters.make_room(3, 4).is_ok());
-    assert_eq!(rt; counters.take(rt.alloc())?.as_slice(), wanted.as_slice());
-    assert!(rt; counters.take(rt.alloc())?.is_empty());
+    assert_eq!(rt; counters.into_tally().as_slice(), wanted.as_slice());
     Ok(())
 }
