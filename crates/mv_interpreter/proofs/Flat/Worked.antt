@@ -1,7 +1,7 @@
 -- Worked runs of linked code, by computation.
 use Rattle.mv_interpreter.proofs.Flat.Common.{flat_map, Module, Call, Ret, Pop, LdU64, CopyLoc, MoveLoc, StLoc, MutBorrowLoc, MutBorrowField, Pack, Unpack, ReadRef, WriteRef, Add, Abort}
 use Rattle.mv_interpreter.proofs.Flat.Common.{Number, Plain, OfLeaf, OfStruct, U64, flat, FunctionCall, Aborted, AlreadyThere, Code, program_of, Push, Enter, Leave, PutStored, Discard}
-use Rattle.mv_interpreter.proofs.Flat.Common.{Load, Store, BorrowLocal, GiveUp, BorrowInside, Read, Write, Sum, Tally, Skip, FlatReturned, FlatAborted, flat_entry}
+use Rattle.mv_interpreter.proofs.Flat.Common.{Load, Store, BorrowLocal, GiveUp, BorrowInside, Read, Write, Sum, Tally, FlatReturned, FlatAborted, flat_entry}
 use Rattle.std.specs.Prelude.{◌≡◌, refl, ℕ, List, true, false, [], ◌∷◌, map}
 use Rattle.mv_move_types.specs.{declared.tables.Visibility.TheVariants.Public, declared.tables.Visibility.TheVariants.Private, declared.token.Token.TheVariants.MutableReference}
 use Rattle.mv_machine.specs.{Run.run, Run.turns, StepLocals.pop, StepLocals.copy_local, StepLocals.store_local, StepStructs.unpack, StepGlobals.exists, StepGlobals.borrow_global}
@@ -67,8 +67,8 @@ flat_pairs_aborts : flat_run (pairs ∷ []) (program_of (pairs ∷ [])) nothing_
 unfolding computes
 flat_pairs_aborts = refl
 
-pairs_linked : program_of (pairs ∷ []) ≡ ((Push 3 ∷ Push 4 ∷ Skip ∷ Store 1 2 ∷ BorrowLocal 1 ∷ Enter
-    (record { place = 0; index = 1 }) 2 2 ∷ Load 1 2 ∷ Skip ∷ Store 0 1 ∷ Discard 1 ∷ Load 0 1 ∷ GiveUp ∷ [])
+pairs_linked : program_of (pairs ∷ []) ≡ ((Push 3 ∷ Push 4 ∷ Tally true (record { place = 0; index = 0 }) ∷ Store 1 2 ∷ BorrowLocal 1 ∷ Enter
+    (record { place = 0; index = 1 }) 2 2 ∷ Load 1 2 ∷ Tally false (record { place = 0; index = 0 }) ∷ Store 0 1 ∷ Discard 1 ∷ Load 0 1 ∷ GiveUp ∷ [])
     ∷ (Load 0 2 ∷ BorrowInside 1 ∷ Store 2 2 ∷ Load 2 2 ∷ Read 1 ∷ Push 5 ∷ Sum U64 ∷ Load 2 2 ∷ Write 1 ∷ Leave 0 ∷ []) ∷ []) ∷ []
 unfolding computes
 pairs_linked = refl
