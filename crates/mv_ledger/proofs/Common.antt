@@ -162,7 +162,6 @@ pub use Rattle.mv_ledger.proofs.Counting.Fine.{Balances, FrameIsKept, FramesAreK
 pub use Rattle.mv_ledger.proofs.Counting.Held.{held, held_in_frame, held_in_frames, held_in_local, held_in_locals, held_in_stack, made, unmade}
 pub use Rattle.mv_ledger.specs.Counting.Kept.{Allows, AreAbove, AreKept, IsAscending, IsKept, IsScarce, StorageIsKept}
 pub use Rattle.mv_ledger.specs.Exact.{IsAccepted, IsRefused, failing, no_bundle}
-pub use Rattle.mv_ledger.specs.Groups.{HandleHolds, HandlesHold, IsGroup, IsNeeded, NameThemselves, with_next}
 pub use Rattle.mv_ledger.specs.Inside.{structs_in_fields, structs_in_part, structs_in_parts, structs_in_token, structs_under, structs_within}
 pub use Rattle.mv_ledger.specs.Judging.{IsAcceptedBy, IsRefusedBy}
 pub use Rattle.mv_ledger.specs.Layouts.{AreLeaves, coded, is_keyed, kinds_of_fields, kinds_of_token, kinds_under, kinds_within, leaf_kinds}
@@ -171,7 +170,7 @@ pub use Rattle.mv_ledger.specs.Parts.BodyParts.{count_from, counts_of, entry_fro
 pub use Rattle.mv_ledger.specs.Parts.BodyParts.{with_entry}
 pub use Rattle.mv_ledger.specs.Parts.CountRows.{Adds, AreAll, AreStored, HasRows, IsTallied, capped, count_at, no_counts, row_at, with_count}
 pub use Rattle.mv_ledger.specs.Parts.LayoutParts.{IsOfStore, PutsKinds, keyed_at, kinds_at, kinds_of_part, kinds_of_parts}
-pub use Rattle.mv_ledger.specs.Parts.LoadedParts.{AreCounted, AreJoined, AreNotJoined, BeginsWith, IsNoBody, SavedHead, body_from, form_by}
+pub use Rattle.mv_ledger.specs.Parts.LoadedParts.{AreCounted, AreJoined, AreNotJoined, BeginsWith, IsGathered, IsNoBody, IsOffered, IsPassed, MayFollow, SavedHead, body_from, form_by}
 pub use Rattle.mv_ledger.proofs.Loads.Bodies.{EachBodyIsRead, EachReadIsBody, IsBody, counted_by}
 pub use Rattle.mv_ledger.specs.Parts.LoadedParts.{form_from, head_from, head_of, marks_from, reason_of}
 pub use Rattle.mv_ledger.specs.Parts.Saving.{AddsValue, AreSections, HasOneMore, IsAdded, IsEmpty, IsSection, IsWritable, KnowsKinds, counts_text, definition_at, section_at}

@@ -1,8 +1,8 @@
--- The proofs of loading: the head, the modules group by group, what follows them, and the tallies against what is stored.
+-- The proofs of loading: the head, the modules, what follows them, and the tallies against what is stored.
 --   Bodies          What follows the modules, as a definition of the text, and that it is read exactly where it stands.
 --   LoadedHead      A head is read exactly where the text of one stands.
---   Grouping        Which of the next modules name none that comes later.
---   LoadedModules   Modules of a saved ledger join one group after the other exactly where all of them are linked together.
+--   LoadedModules   Modules of a saved ledger that are published: what is kept of them, and that they are linked where they are those of the offers.
+--   Offering        Offered modules that are published one by one: that they pass, and that the published ones are those.
 --   BodyReading     Reading what stands after the modules of a saved ledger: how far it has come.
 --   BodyTallies     Reading the tallies of all modules: how far it has come, and what stays.
 --   BodyEntries     The text of a stored value is read as its key and leaves, and what is read is such a text.
@@ -22,8 +22,8 @@
 --   Loaded          From its parts, which ledger bytes are loaded as, and why they are not.
 pub mod Bodies
 pub mod LoadedHead
-pub mod Grouping
 pub mod LoadedModules
+pub mod Offering
 pub mod BodyReading
 pub mod BodyTallies
 pub mod BodyEntries

@@ -22,7 +22,6 @@ pub mod SavedText
 pub mod Loading
 pub mod SavedLaws
 pub mod Layouts
-pub mod Groups
 pub mod Inside
 pub mod Parts
 pub mod ParameterTypes

@@ -9,9 +9,11 @@ ghost use Rattle.mv_ledger.specs.View.{all_of, state_of, view_of, IsLedger};
 
 mod body;
 pub(crate) mod counts;
-mod groups;
 pub(crate) mod head;
 mod modules;
+mod order;
+mod singly;
+mod stubs;
 pub(crate) mod tallies;
 mod values;
 

@@ -65,7 +65,7 @@ fn certified<'a>(
 }
 
 /// An offered module with what it passed: phases 2 to 12 in order.
-fn verified<'a>(alloc: Global, offer: &Offered<'a>) -> Result<New<'a>, Refusal>
+pub fn verified<'a>(alloc: Global, offer: &Offered<'a>) -> Result<New<'a>, Refusal>
     ensures text { IfOk result (λ n. n.text.now ≡ offer.now.text.now) }
     ensures certificate { IfOk result (λ n. n.certificate.now ≡ offer.now.certificate.now) }
     ensures passes { IfOk result (λ n. (c : Certificate) × Passes (offer_of offer.now) n.module c) }

@@ -112,13 +112,31 @@ fn is_chained(rt: &impl Abort, alloc: Global, row: &Chain) -> Result<(), Fail> {
     says(rt, alloc, &text, wanted, row.shows)
 }
 
-// Modules are linked in groups: none of that is seen.
+// Modules are published one by one, some of them first as stubs: none of that is seen.
 #[test]
 fn ledgers_of_many_modules_are_loaded_or_refused(rt: HostRuntime) -> Result<(), Fail> {
     for row in &CHAINS {
         is_chained(&rt, rt.alloc(), row)?;
     }
     Ok(())
+}
+
+// The text of a ledger of 200 modules. Each names the one behind it, the last one none.
+fn text_of_reverse(alloc: Global) -> Result<Vec<u8>, Fail> {
+    let mut text = hex::decode(alloc, "4d564c3200c801")?;
+    for place in 0..200u8 {
+        let named = if place < 199 { Some(place + 1) } else { None };
+        text.extend_from_slice(&module(alloc, place, named)?)?;
+    }
+    Ok(text)
+}
+
+// Modules of which each waits for the one behind it.
+#[test]
+fn ledgers_of_modules_that_name_later_ones_are_loaded(rt: HostRuntime) -> Result<(), Fail> {
+    let text = text_of_reverse(rt.alloc())?;
+    let wanted = hex::encode(rt.alloc(), &text)?;
+    says(&rt, rt.alloc(), &text, wanted.as_str(), "each may name the next one")
 }
 
 // What a ledger of this text answers to records.
@@ -145,7 +163,7 @@ fn goes_on(rt: &impl Abort, alloc: Global, row: &Row) -> Result<(), Fail> {
 #[test]
 fn loaded_ledgers_go_on(rt: HostRuntime) -> Result<(), Fail> {
     let rows = rows_of(rt.alloc(), ledgers_and_records())?;
-    assert_eq!(rt; rows.len(), 3);
+    assert_eq!(rt; rows.len(), 4);
     for row in &rows {
         goes_on(&rt, rt.alloc(), row)?;
     }
@@ -166,7 +184,7 @@ struct Chain {
     refused: Option<&'static str>,
 }
 
-const CHAINS: [Chain; 8] = [
+const CHAINS: [Chain; 9] = [
     Chain {
         shows: "each module may name the one before it",
         others: &[],
@@ -180,6 +198,11 @@ const CHAINS: [Chain; 8] = [
     Chain {
         shows: "it may come much later",
         others: &[(70, 70, Some(199)), (199, 199, None)],
+        refused: None,
+    },
+    Chain {
+        shows: "the first one, which each other leads to, may name the last one",
+        others: &[(0, 0, Some(199)), (199, 199, None)],
         refused: None,
     },
     Chain {
@@ -326,4 +349,7 @@ const LOADED: &str = r"
 # the form of today: coins are counted and shown
 4d564c32010163a11ceb0b0500000008010002020204030605050b04070f0e081d100a2d050c320f000000010c00000301000000020c03014d04436f696e0176046d696e740000000000000000000000000000000100020102030001040000050e000b0112002d0002000401010100010001000000000000000000000000000000010700000000000000 04000300
 1 count 00000000000000000000000000000001::M::Coin stored 1 packed 1 unpacked 0; 1 end 1; 2 at 00000000000000000000000000000001 00000000000000000000000000000001::M::Coin {7}; 2 end 1
+# a function of a module that stands behind its caller is called
+4d564c32000360a11ceb0b050000000601000403040a050e0607140c0820100c30140000000101020001000003020100020c0300010c014e014d046d696e7402676f000000000000000000000000000000010101040001040b00060300000000000000110002000301010027a11ceb0b05000000030100020702020804100000014100000000000000000000000000000001000063a11ceb0b0500000008010002020204030605050b04070f0e081d100a2d050c320f000000010c00000301000000020c03014d04436f696e0176046d696e740000000000000000000000000000000100020102030001040000050e000b0112002d0002000401010100000000 02270000000000000000000000000000000100000000000000000000000000000001014e02676f64000300
+1 returned 9; 2 at 00000000000000000000000000000001 00000000000000000000000000000001::M::Coin {3}; 2 end 1
 ";

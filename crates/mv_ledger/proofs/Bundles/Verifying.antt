@@ -4,7 +4,7 @@ use Rattle.mv_ledger.proofs.Common.{take_all, All-append, All-cons, All-nil, Pub
 use Rattle.mv_ledger.proofs.Common.{offer_of, offers_of, AllPass, IsRefusedAmong, IsRefusedOffer, Passes, Offered}
 
 -- one more that passes
-pass-more : (os : List Offer) (ps : List PublishedModule) (o : Offer) (p : PublishedModule) → AllPass os ps → p.text ≡ o.text → p.certificate ≡ o.certificate → (c : Certificate) × Passes o p.tables c
+pub pass-more : (os : List Offer) (ps : List PublishedModule) (o : Offer) (p : PublishedModule) → AllPass os ps → p.text ≡ o.text → p.certificate ≡ o.certificate → (c : Certificate) × Passes o p.tables c
     → AllPass (os ++ o ∷ []) (ps ++ p ∷ [])
 pass-more [] [] o p all text certificate passes = (text, certificate, passes, tt)
 pass-more (x ∷ os) (q ∷ qs) o p all text certificate passes = (all.0, all.1, all.2, pass-more os qs o p all.3 text certificate passes)
@@ -40,18 +40,23 @@ verifying-more offers i news after d n h lt pushed text certificate passes texts
 pub verified-all : (offers : List Offered) (i : ℕ) (news : List New) → IsVerifying offers i news → length offers ≤ i → AllPass (offers_of offers) (published_of news)
 verified-all offers i news h past = subst (λ (xs : List Offered). AllPass (offers_of xs) (published_of news)) (take_all i offers past) h.passed
 
--- the next one fails
-pub verifying-fails : (offers : List Offered) (i : ℕ) (news : List New) (d : Offered) (e : Refusal) → IsVerifying offers i news → i < length offers → IsRefusedOffer (offer_of (get_or offers i d)) e
-    → IsRefusedAmong (offers_of offers) e
-verifying-fails offers i news d Memory h lt refused = tt
-verifying-fails offers i news d (Phase p) h lt refused = record {
+-- those before one pass, and that one fails
+pub stopped-at : (offers : List Offered) (i : ℕ) (ps : List PublishedModule) (d : Offered) (e : Refusal) → AllPass (offers_of (take i offers)) ps → i < length offers
+    → IsRefusedOffer (offer_of (get_or offers i d)) e → IsRefusedAmong (offers_of offers) e
+stopped-at offers i ps d Memory passed lt refused = tt
+stopped-at offers i ps d (Phase p) passed lt refused = record {
   before = offers_of (take i offers);
   offer = offer_of (get_or offers i d);
   after = offers_of (drop (i + 1) offers);
-  bundle = published_of news;
+  bundle = ps;
   are =
       ap offers_of (sym (take-append-drop i offers) ∙ ap (λ (xs : List Offered). take i offers ++ xs) (drop_more offers i d lt))
       ∙ map-append offer_of (take i offers) (get_or offers i d ∷ drop (i + 1) offers);
-  passed = h.passed;
+  passed = passed;
   fails = refused;
 }
+
+-- the next one fails
+pub verifying-fails : (offers : List Offered) (i : ℕ) (news : List New) (d : Offered) (e : Refusal) → IsVerifying offers i news → i < length offers → IsRefusedOffer (offer_of (get_or offers i d)) e
+    → IsRefusedAmong (offers_of offers) e
+verifying-fails offers i news d e h lt refused = stopped-at offers i (published_of news) d e h.passed lt refused

@@ -2,8 +2,9 @@
 --   head_from       how a text begins. read_head reads it
 --   BeginsWith      the bytes begin with this head
 --   AreJoined       what a ledger has of its modules before its tallies are read. Joined::join_offers gives it
---   IsJoined        the same of modules that join one group after the other
 --   AreNotJoined    why it has none
+--   IsGathered      the same of modules on the way there, with stubs among them. Joined::publish keeps it
+--   IsOffered       a published module is the one that was offered. is_offered is the test
 --   body_from       what follows the modules: the tallies, which Tallies::read reads, and the values, which read_storage does
 --   IsNoBody        the bytes are no such thing with nothing after it
 --   AreCounted      the tallies are those of what is stored. are_tallied is the test
@@ -15,7 +16,7 @@ use Rattle.mv_move_types.specs.declared.refusal.Refusal.{Refusal}
 use Rattle.mv_move_types.specs.declared.refusal.Refusal.TheVariants.{Phase, Memory as NoMemory}
 use Rattle.mv_move_types.specs.Options.{◌>>=◌}
 use Rattle.mv_move_types.specs.Module.{Module}
-use Rattle.mv_move_types.specs.Published.{PublishedModule}
+use Rattle.mv_move_types.specs.Published.{PublishedModule, with_modules}
 use Rattle.mv_module_text.specs.Laws.{AreBytes}
 use Rattle.mv_module_text.specs.Parsing.{Read, byte_from, mark_from, entries_from, counted_from}
 use Rattle.mv_machine.specs.Count.{count}
@@ -25,7 +26,8 @@ use Rattle.mv_machine.specs.State.{Storage}
 use Rattle.mv_storage.specs.FlatStorage.{FlatStorage}
 use Rattle.mv_frames.specs.Counters.{IsClear}
 use Rattle.mv_frames.specs.declared.counters.Count.{Count}
-use Rattle.mv_linker.specs.Link.{IsStore, tables_in}
+use Rattle.mv_certificate.specs.Certificate.{Certificate}
+use Rattle.mv_linker.specs.Link.{IsStore, MayJoin, tables_in}
 use Rattle.mv_ledger.specs.declared.loading.LoadError.{LoadError}
 use Rattle.mv_ledger.specs.declared.loading.LoadError.TheVariants.{Head as NoHead, Module as NoModule, Link as NoLink, Body as NoBody, Tally as NoTally, Memory}
 use Rattle.mv_ledger.specs.declared.loading.head.Head.{Head}
@@ -34,7 +36,7 @@ use Rattle.mv_ledger.specs.Asking.{offers_of}
 use Rattle.mv_ledger.specs.Parts.BodyParts.{form_of, tally_from, storage_into}
 use Rattle.mv_ledger.specs.Loading.{AreLinked}
 use Rattle.mv_ledger.specs.Payloads.{offer_from}
-use Rattle.mv_ledger.specs.Publishing.{AllPass, FailsAmong}
+use Rattle.mv_ledger.specs.Publishing.{AllPass, FailsAmong, Passes}
 use Rattle.mv_ledger.specs.SavedText.{Form, First, Second}
 use Rattle.mv_ledger.specs.View.{AreCountable, all_of, tallied, AreScarce, IsNamed}
 
@@ -99,9 +101,28 @@ pub record AreJoined (offers : List Offer) (published : List PublishedModule) (t
   pub clear : IsClear counters
   pub countable : AreCountable counters tallies
 
--- what modules have that joined so far
-abbrev pub IsJoined : List PublishedModule → List (List Tally) → List (List Count) → Type 0
-IsJoined published tallies counters = (offers : List Offer) × AreJoined offers published tallies counters
+-- What published modules have, whichever they are: they are linked, there is a tally of each of their structs with neither copy nor
+-- drop, and nothing is counted in the counters, which have room for each of those structs.
+pub record IsGathered (published : List PublishedModule) (tallies : List (List Tally)) (counters : List (List Count)) : Type 0 where
+  pub store : IsStore published
+  pub placed : length tallies ≡ length published
+  pub scarce : AreScarce (tables_in published) tallies
+  pub named : All (IsNamed (tables_in published)) (all_of tallies)
+  pub tallied : map (λ t. t.struct) (map (tallied (tables_in published)) (all_of tallies)) ≡ scarce_structs (tables_in published)
+  pub clear : IsClear counters
+  pub countable : AreCountable counters tallies
+
+-- more modules may join those that are there, whoever sends them
+abbrev pub MayFollow : List PublishedModule → List PublishedModule → Type 0
+MayFollow old new = MayJoin None (tables_in old) (tables_in new) (tables_in (with_modules old new))
+
+-- a published module is the one that was offered, which passes
+abbrev pub IsOffered : Offer → PublishedModule → Type 0
+IsOffered o p = (p.text ≡ o.text) × (p.certificate ≡ o.certificate) × ((c : Certificate) × Passes o p.tables c)
+
+-- an offer passes phases 2 to 12
+abbrev pub IsPassed : Offer → Type 0
+IsPassed o = (p : PublishedModule) × IsOffered o p
 
 -- one of the offers fails a phase, or they pass and are not linked
 abbrev pub AreNotJoined : List Offer → LoadError → Type 0

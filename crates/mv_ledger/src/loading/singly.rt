@@ -1,0 +1,229 @@
+// The modules of a saved ledger join one by one, so that no more than one is held decoded: in their order, with a stub in place of
+// each that names one which isn't there yet; then each such module takes the place of its stub.
+ghost use Rattle.std.specs.Prelude.{◌≡◌, ◌<◌, ◌≤◌, [], true, length, slice_get, IfOk, IfErr, IfSome, OnOk};
+ghost use Rattle.std.specs.Str.{bytes_eq};
+ghost use Rattle.mv_move_types.specs.Limits.{most_modules};
+ghost use Rattle.mv_module_text.specs.Laws.{AreBytes};
+ghost use Rattle.mv_linker.specs.News.{HasItsTexts};
+ghost use Rattle.mv_ledger.specs.Asking.{offer_of, offers_of};
+ghost use Rattle.mv_ledger.specs.Parts.LoadedParts.{AreJoined, AreNotJoined, IsGathered, IsOffered, IsPassed};
+ghost use Rattle.mv_ledger.specs.Publishing.{AllPass, IsRefusedAmong, IsRefusedOffer};
+
+use crate::loading::modules::Joined;
+use crate::loading::order::order;
+use crate::loading::stubs::{Stub, Stubs};
+use crate::loading::{LoadError, because};
+use crate::payload::Offered;
+use crate::publishing::verified;
+use mv_linker::{New, Store};
+use mv_move_types::Refusal;
+use std::alloc::{AllocError, Global};
+
+// How many modules a ledger has at most.
+const MOST_MODULES: usize = 4096;
+
+/// Bytes are bytes.
+fn are_bytes(bytes: &[u8])
+    ensures { AreBytes bytes.now }
+{}
+
+/// Whether they are the same bytes.
+fn are_same(a: &[u8], b: &[u8]) -> bool
+    ensures { result ≡ bytes_eq a.now b.now }
+{
+    a == b
+}
+
+/// Whether the module at a place is this offered one.
+fn is_offered(store: &Store, place: usize, offer: &Offered<'_>) -> bool
+    requires { place < length store.now }
+    ensures { result ≡ true → IfSome (slice_get store.now place) (IsOffered (offer_of offer.now)) }
+{
+    // For the prover: the store's modules passed their phases, and their texts spell them.
+    let _modules = store.len();
+    mv_binary_format::modules_are_read_by_text();
+    are_bytes(offer.text);
+    let (text, certificate) = store.texts(place);
+    are_same(text, offer.text) && are_same(certificate, offer.certificate)
+}
+
+/// Whether the modules of a store are these offered ones.
+fn are_offered(store: &Store, offers: &[Offered<'_>]) -> bool
+    ensures { result ≡ true → AllPass (offers_of offers.now) store.now }
+{
+    if store.len() != offers.len() {
+        return false;
+    }
+    'each: for place in 0..offers.len() {
+        if !is_offered(store, place, &offers[place]) {
+            return false;
+        }
+    }
+    true
+}
+
+impl Joined {
+    /// Publishes a module, and says whether it could be. It can't be, where it may not join those that are there, or where there
+    /// are too many.
+    fn publish_one(&mut self, alloc: Global, new: New<'_>) -> Result<bool, AllocError>
+        requires texts { HasItsTexts new }
+        requires gathered { IsGathered self.old.store self.old.tallies self.old.counters }
+        ensures { IfOk result (λ done. done ≡ true → IsGathered self.new.store self.new.tallies self.new.counters) }
+    {
+        if self.store.len() > MOST_MODULES {
+            return Ok(false);
+        }
+        let news = vec![in alloc; new]?;
+        match self.publish(alloc, news) {
+            Ok(()) => Ok(true),
+            Err(Refusal::Phase(_)) => Ok(false),
+            Err(Refusal::Memory) => Err(AllocError),
+        }
+    }
+
+    /// Publishes an offered module, and says whether it could be.
+    fn publish_offer(&mut self, alloc: Global, offer: &Offered<'_>) -> Result<bool, AllocError>
+        requires { IsGathered self.old.store self.old.tallies self.old.counters }
+        ensures { IfOk result (λ done. done ≡ true → IsGathered self.new.store self.new.tallies self.new.counters) }
+    {
+        match verified(alloc, offer) {
+            Ok(new) => self.publish_one(alloc, new),
+            Err(Refusal::Phase(_)) => Ok(false),
+            Err(Refusal::Memory) => Err(AllocError),
+        }
+    }
+
+    /// Publishes a stub of this name, and says whether it could be.
+    fn publish_stub(
+        &mut self,
+        alloc: Global,
+        address: u128,
+        name: &[u8],
+    ) -> Result<bool, AllocError>
+        requires { IsGathered self.old.store self.old.tallies self.old.counters }
+        ensures { IfOk result (λ done. done ≡ true → IsGathered self.new.store self.new.tallies self.new.counters) }
+    {
+        let stub = Stub::new(alloc, address, name)?;
+        let offer = stub.offer();
+        self.publish_offer(alloc, &offer)
+    }
+
+    /// Publishes a module, or the stub of this name in its place; and says whether it could be.
+    fn publish_as(
+        &mut self,
+        alloc: Global,
+        new: New<'_>,
+        stub: Option<(u128, &[u8])>,
+    ) -> Result<bool, AllocError>
+        requires texts { HasItsTexts new }
+        requires gathered { IsGathered self.old.store self.old.tallies self.old.counters }
+        ensures { IfOk result (λ done. done ≡ true → IsGathered self.new.store self.new.tallies self.new.counters) }
+    {
+        match stub {
+            None => self.publish_one(alloc, new),
+            Some((address, name)) => {
+                drop(new);
+                self.publish_stub(alloc, address, name)
+            }
+        }
+    }
+
+    /// Publishes the next offered module, or a stub of its name where not all that it names is there; and says whether it could
+    /// be.
+    ///
+    /// # Errors
+    ///
+    /// The first phase that the module fails; `Memory`, where a growth was refused.
+    fn publish_next(
+        &mut self,
+        alloc: Global,
+        offer: &Offered<'_>,
+        stubs: &mut Stubs,
+    ) -> Result<bool, Refusal>
+        requires { IsGathered self.old.store self.old.tallies self.old.counters }
+        ensures gathered { IfOk result (λ done. done ≡ true → IsGathered self.new.store self.new.tallies self.new.counters) }
+        ensures passed { OnOk result (IsPassed (offer_of offer.now)) }
+        ensures refused { IfErr result (IsRefusedOffer (offer_of offer.now)) }
+    {
+        let new = verified(alloc, offer)?;
+        let stub = stubs.needed_for(&self.store, new.module.module());
+        stubs.put(stub.is_some())?;
+        let done = self.publish_as(alloc, new, stub)?;
+        Ok(done)
+    }
+
+    /// Publishes these offered modules in their order, each itself or as a stub, and says whether they could be.
+    ///
+    /// # Errors
+    ///
+    /// The first phase that the first of them fails that fails one; `Memory`, where a growth was refused.
+    fn publish_each(
+        &mut self,
+        alloc: Global,
+        offers: &[Offered<'_>],
+        stubs: &mut Stubs,
+    ) -> Result<bool, Refusal>
+        requires { IsGathered self.old.store self.old.tallies self.old.counters }
+        ensures gathered { IfOk result (λ done. done ≡ true → IsGathered self.new.store self.new.tallies self.new.counters) }
+        ensures refused { IfErr result (IsRefusedAmong (offers_of offers.now)) }
+    {
+        'each: for offer in offers {
+            if !self.publish_next(alloc, offer, stubs)? {
+                return Ok(false);
+            }
+        }
+        Ok(true)
+    }
+
+    /// Publishes the module of each stub in its place, and says whether they could be.
+    fn replace_stubs(
+        &mut self,
+        alloc: Global,
+        offers: &[Offered<'_>],
+        stubs: &Stubs,
+    ) -> Result<bool, AllocError>
+        requires few { length offers.now ≤ most_modules }
+        requires gathered { IsGathered self.old.store self.old.tallies self.old.counters }
+        ensures { IfOk result (λ done. done ≡ true → IsGathered self.new.store self.new.tallies self.new.counters) }
+    {
+        let order = match order(alloc, &self.store, stubs, offers) {
+            Ok(order) => order,
+            Err(Refusal::Phase(_)) => return Ok(false),
+            Err(Refusal::Memory) => return Err(AllocError),
+        };
+        'each: for place in &order {
+            let Some(offer) = offers.get(usize::from(*place)) else {
+                return Ok(false);
+            };
+            if !self.publish_offer(alloc, offer)? {
+                return Ok(false);
+            }
+        }
+        Ok(true)
+    }
+
+    /// Joins these offered modules one by one, where none is there, and says whether they could be joined so.
+    ///
+    /// # Errors
+    ///
+    /// `Module`, where one of them fails one of phases 2 to 12; `Memory`, where a growth was refused.
+    pub fn join_singly(&mut self, alloc: Global, offers: &[Offered<'_>]) -> Result<bool, LoadError>
+        requires few { length offers.now ≤ most_modules }
+        requires empty { AreJoined [] self.old.store self.old.tallies self.old.counters }
+        ensures joined { IfOk result (λ done. done ≡ true → AreJoined (offers_of offers.now) self.new.store self.new.tallies self.new.counters) }
+        ensures refused { IfErr result (AreNotJoined (offers_of offers.now)) }
+    {
+        let mut stubs = Stubs::new(alloc);
+        let published = match self.publish_each(alloc, offers, &mut stubs) {
+            Ok(published) => published,
+            Err(refusal) => return Err(because(refusal, LoadError::Module)),
+        };
+        if !published {
+            return Ok(false);
+        }
+        if !self.replace_stubs(alloc, offers, &stubs)? {
+            return Ok(false);
+        }
+        Ok(are_offered(&self.store, offers))
+    }
+}
