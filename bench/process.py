@@ -5,10 +5,18 @@ import re
 import resource
 import shutil
 import subprocess
+import sys
 from pathlib import Path
 from typing import IO, Optional, Sequence, Union
 
 Word = Union[str, Path]
+
+# What a small process does that starts a program: it says how many KB that one held at most.
+STARTS = """import os, resource, sys
+nowhere = os.open(os.devnull, os.O_WRONLY)
+started = os.posix_spawn(sys.argv[1], sys.argv[1:], os.environ, file_actions=[(os.POSIX_SPAWN_DUP2, nowhere, 1)])
+_, status, counted = os.wait4(started, 0)
+sys.exit(status != 0) if status else print(counted.ru_maxrss)"""
 
 
 def used(words: Sequence[Word], folder: Path, out: Union[int, IO[bytes]] = subprocess.DEVNULL) -> resource.struct_rusage:
@@ -24,6 +32,18 @@ def used(words: Sequence[Word], folder: Path, out: Union[int, IO[bytes]] = subpr
 def seconds_of(counted: resource.struct_rusage) -> float:
     """The processor's seconds."""
     return counted.ru_utime + counted.ru_stime
+
+
+def printed(words: Sequence[Word], folder: Path) -> str:
+    """What a program prints, which has to end well."""
+    return subprocess.run(words, check=True, stdout=subprocess.PIPE, cwd=folder, text=True).stdout
+
+
+def memory(words: Sequence[Word], folder: Path) -> int:
+    """The most KB of memory that a program held, which has to end well. A process of some 8 MB starts it: the system counts what the
+    one that starts a program held as that program's, and this one may hold much."""
+    starts: Sequence[Word] = [sys.executable, "-I", "-S", "-c", STARTS, *words]
+    return int(subprocess.run(starts, check=True, stdout=subprocess.PIPE, cwd=folder).stdout)
 
 
 def instructions(words: Sequence[Word], folder: Path) -> Optional[int]:
