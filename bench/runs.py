@@ -9,6 +9,7 @@ machine instructions are counted where there is a valgrind"""
 import os
 import random
 import sys
+from dataclasses import replace
 from pathlib import Path
 from typing import Dict, Iterator, List, NamedTuple, Optional, Sequence, Tuple
 
@@ -21,9 +22,9 @@ from process import difference
 TRIES = 2
 STEPS = 10_000_000
 # A first try has so many steps; and where it says that all would take longer than this, so many more are made and no others.
-FIRST, PATIENCE = 200_000, 3.0
+FIRST, PATIENCE = 100_000, 3.0
 # As many steps are counted as take so many seconds, at least the first number of them and at most the last.
-COUNTED, COUNTED_SECONDS = (2_000, 60_000), 0.01
+COUNTED, COUNTED_SECONDS = (500, 50_000), 0.005
 SECONDS, MEGABYTES = 2.0, 300.0
 # What a record with a small budget may take beside a large store, in times what it takes beside a small one.
 BESIDE = 1.1
@@ -31,6 +32,7 @@ BESIDE = 1.1
 # A struct of 256 leaves, and how a function with a local of each kind makes one: in the local after the last one of a number.
 LEAVES = 256
 ROW, WIDE = "; ".join(f"a{n}: u64" for n in range(8)), "; ".join(f"r{n}: Row" for n in range(32))
+HOPPED = 200
 FRAMES, LOCALS, OPERANDS, PARAMETERS, RESULTS = 256, 64, 128, 16, 8
 LONG = 4_000
 OWNER = 7
@@ -49,9 +51,11 @@ def made(row: int, wide: int) -> str:
     return "LdU64 7;" * 8 + f"Pack Row; StLoc {row};" + f"CopyLoc {row};" * 32 + f"Pack Wide; StLoc {wide};"
 
 
-def again(code: str, begin: str = "", most: int = LONG) -> str:
-    """Code that is repeated without an end, as often as a function has it."""
-    return begin + "again: " + code * max(1, (most - begin.count(";")) // code.count(";")) + "Branch again"
+def again(code: str, begin: str = "", most: int = LONG, first: str = "", last: str = "") -> str:
+    """Code that is repeated without an end, as often as a function has it: behind what begins the function, and each time round between
+    what comes first and last, since nothing stays on the stack where control goes elsewhere."""
+    often = max(1, (most - (begin + first + last).count(";")) // code.count(";"))
+    return f"{begin} again: {first} {code * often} {last} Branch again"
 
 
 class Row(NamedTuple):
@@ -63,6 +67,15 @@ class Row(NamedTuple):
     stored: Sequence[model.Stored] = ()
 
 
+def called(m: Module, own: str) -> Module:
+    """The same module under another name."""
+    other, tables = Module(own), m.tables()
+    names = list(tables.identifiers)
+    names[tables.module_handles[tables.own].name] = own
+    other.assembled = replace(tables, identifiers=names)
+    return other
+
+
 def one(code: str, locals_: str = "", modules: Sequence[Module] = (), m: Optional[Module] = None, parameters: str = "", acquires: str = "") -> List[Module]:
     """Modules, of which the last one has the function that is run."""
     m = m or Module()
@@ -70,7 +83,7 @@ def one(code: str, locals_: str = "", modules: Sequence[Module] = (), m: Optiona
     return [*modules, m]
 
 
-def chain(m: Module, count: int, parameters: str, results: str, locals_: str, begin: str, end: str, last: str, module: str = "") -> None:
+def chain(m: Module, count: int, parameters: str, results: str, locals_: str, begin: str, end: str, last: str) -> None:
     """So many functions of which each calls the next one, and the last one does something else."""
     for n in range(count):
         code = f"{begin} Call g{n + 1}; {end}" if n + 1 < count else last
@@ -101,19 +114,20 @@ def of_locals() -> Iterator[Row]:
     yield Row("254 returns of 8 results of 256 leaves, which stay where they are", one(again("Call g0;" + "Pop;" * RESULTS), m=m))
     m = wide_module()
     m.function("g", results, results, "", "".join(f"MoveLoc {n};" for n in range(RESULTS)) + "Ret", entry=False)
-    yield Row("calls that hand back 8 arguments of 256 leaves", one(again("Call g;", made(0, 1) + "CopyLoc 1;" * RESULTS), "Row; Wide", m=m))
+    yield Row("calls that hand back 8 arguments of 256 leaves", one(again("Call g;", made(0, 1), first="CopyLoc 1;" * RESULTS, last="Pop;" * RESULTS), "Row; Wide", m=m))
     m = wide_module()
     taken = "; ".join(["Wide"] * PARAMETERS)
     m.function("g", taken, "", "", "Ret", entry=False)
     yield Row("calls with 16 arguments of 256 leaves", one(again("CopyLoc 1;" * PARAMETERS + "Call g;", made(0, 1)), "Row; Wide", m=m))
     m = wide_module()
     m.function("g", "u64", "u64", "", "MoveLoc 0; Ret", entry=False)
-    yield Row("calls that hand a number back", one(again("Call g;", "LdU64 1;"), m=m))
+    yield Row("calls that hand a number back", one(again("Call g;", first="LdU64 1;", last="Pop;"), m=m))
     yield Row("copies and pops of 256 leaves", one(again("CopyLoc 1; Pop;", made(0, 1)), "Row; Wide", m=wide_module()))
     yield Row("127 copies of 256 leaves, one on top of the other", one(again("CopyLoc 1;" * (OPERANDS - 1) + "Pop;" * (OPERANDS - 1), made(0, 1)), "Row; Wide", m=wide_module()))
     m = wide_module()
-    chain(m, FRAMES - 2, "Wide", "", "", "CopyLoc 0;" * OPERANDS, "Pop;" * (OPERANDS - 1) + "Ret", "Ret")
-    yield Row("127 copies of 256 leaves in each of 254 frames", one(again("CopyLoc 1; Call g0;", made(0, 1)), "Row; Wide", m=m))
+    m.function("g", "Wide; u64", "", "", "CopyLoc 1; LdU64 0; Eq; BrTrue done;" + "CopyLoc 0;" * (OPERANDS - 2) + "CopyLoc 1; LdU64 1; Sub; Call g;"
+               + "Pop;" * (OPERANDS - 3) + "Ret; done: Ret", entry=False)
+    yield Row("125 copies of 256 leaves in each of 254 frames", one(again(f"CopyLoc 1; LdU64 {FRAMES - 3}; Call g;", made(0, 1)), "Row; Wide", m=m))
     yield Row("moves of 256 leaves", one(again("MoveLoc 1; StLoc 1;", made(0, 1)), "Row; Wide", m=wide_module()))
     spread = "".join(f"CopyLoc {n}; StLoc {n + 1};" for n in range(1, LOCALS - 1)) + f"CopyLoc {LOCALS - 1}; StLoc 1;"
     yield Row("copies of 256 leaves from local to local", one(again(spread, made(0, 1)), "; ".join(["Row"] + ["Wide"] * (LOCALS - 1)), m=wide_module()))
@@ -124,21 +138,22 @@ def of_structs() -> Iterator[Row]:
     yield Row("comparisons of 256 leaves", one(again("CopyLoc 1; CopyLoc 1; Eq; Pop;", made(0, 1)), "Row; Wide", m=wide_module()))
     compared = "CopyLoc 1;" * (OPERANDS - 1) + "Eq; Pop;" * (OPERANDS // 2 - 1) + "Pop;"
     yield Row("comparisons of 126 copies of 256 leaves", one(again(compared, made(0, 1)), "Row; Wide", m=wide_module()))
-    yield Row("values of 256 leaves packed and unpacked", one(again("Unpack Wide; Pack Wide;", made(0, 1) + "CopyLoc 1;"), "Row; Wide", m=wide_module()))
+    yield Row("values of 256 leaves packed and unpacked", one(again("Unpack Wide; Pack Wide;", made(0, 1), first="CopyLoc 1;", last="Pop;"), "Row; Wide", m=wide_module()))
     m = wide_module()
     m.struct("Asset", "", "w: Wide")
-    yield Row("assets of 256 leaves packed and unpacked, which is counted", one(again("Pack Asset; Unpack Asset;", made(0, 1) + "CopyLoc 1;"), "Row; Wide", m=m))
+    yield Row("assets of 256 leaves packed and unpacked, which is counted", one(again("Pack Asset; Unpack Asset;", made(0, 1), first="CopyLoc 1;", last="Pop;"), "Row; Wide", m=m))
     m = Module()
     m.struct("Coin", ASSET, "v: bool")
-    yield Row("assets of one leaf packed and unpacked, which is counted", one(again("Pack Coin; Unpack Coin;", "LdTrue;"), m=m))
+    yield Row("assets of one leaf packed and unpacked, which is counted", one(again("Pack Coin; Unpack Coin;", first="LdTrue;", last="Pop;"), m=m))
+    packs = packing("P", 2_000)
     for count in 1, 10, 40:
-        modules = [packing(f"P{k}", 2_000) for k in range(count)]
+        modules = [called(packs, f"P{k}") for k in range(count)]
         m = Module()
         calls = ""
         for k in range(count):
             m.foreign_function(f"P{k}", "pack", "bool", "bool")
             calls += f"Call P{k}::pack;"
-        yield Row(f"assets of {count * 2_000:,} structs of {count} modules packed and unpacked in turn", one(again(calls, "LdTrue;", 40), modules=modules, m=m))
+        yield Row(f"assets of {count * 2_000:,} structs of {count} modules packed and unpacked in turn", one(again(calls, most=40, first="LdTrue;", last="Pop;"), modules=modules, m=m))
     begin = made(0, 1) + "ImmBorrowLoc 1; StLoc 2;"
     yield Row("reads of 256 leaves through a reference", one(again("CopyLoc 2; ReadRef; Pop;", begin), "Row; Wide; &Wide", m=wide_module()))
     begin = made(0, 1) + "CopyLoc 1; StLoc 2; MutBorrowLoc 1; StLoc 3;"
@@ -170,16 +185,16 @@ def of_numbers() -> Iterator[Row]:
         ("remainders of numbers of 128 bits by 3", "Mod", large, 3), ("sums of numbers of 128 bits", "Add", large, small),
     ):
         yield Row(what, one(again(f"CopyLoc 0; CopyLoc 1; {name}; Pop;", f"LdU128 {left}; StLoc 0; LdU128 {right}; StLoc 1;"), "u128; u128"))
-    stacked = "CopyLoc 0;" + "CopyLoc 1;" * (OPERANDS - 1)
-    for name, right in ("Div", 1), ("Mod", large), ("Mul", 1):
-        yield Row(f"{name} of 128 bits, 127 times for as many copies", one(again(f"{stacked} {f'{name};' * (OPERANDS - 1)} Pop;", f"LdU128 {large}; StLoc 0; LdU128 {right}; StLoc 1;"), "u128; u128"))
+    for what, name, left, right in ("126 quotients of numbers of 128 bits", "Div", large, small), ("126 products of numbers of 128 bits", "Mul", 1, large):
+        stacked = "CopyLoc 0;" * (OPERANDS - 2) + "CopyLoc 1;" + f"{name};" * (OPERANDS - 2) + "Pop;"
+        yield Row(f"{what}, each the operand of the next", one(again(stacked, f"LdU128 {left}; StLoc 0; LdU128 {right}; StLoc 1;"), "u128; u128"))
     for name in "Shl", "Shr":
         yield Row(f"{name} of numbers of 128 bits", one(again(f"CopyLoc 0; LdU8 77; {name}; Pop;", f"LdU128 {large}; StLoc 0;"), "u128"))
     m = Module("M", 6)
-    yield Row("casts", one(again("CastU128; CastU8; CastU32; CastU16; CastU64;", "LdU64 200;"), m=m))
+    yield Row("casts", one(again("CastU128; CastU8; CastU32; CastU16; CastU64;", first="LdU64 200;", last="Pop;"), m=m))
     m = Module()
     yield Row("loads of constants", one(again("LdConst @0x1234567890abcdef1234567890abcdef; Pop; LdU128 5; Pop;"), m=m))
-    yield Row("tests of bools", one(again("Not; LdTrue; And; LdFalse; Or;", "LdTrue;")))
+    yield Row("tests of bools", one(again("Not; LdTrue; And; LdFalse; Or;", first="LdTrue;", last="Pop;")))
     yield Row("Nops", one(again("Nop;")))
     hops = 1_021
     order = [(n * 389) % hops for n in range(hops)]
@@ -187,10 +202,11 @@ def of_numbers() -> Iterator[Row]:
     code = "".join(f"h{place}: Branch h{labels[place]}; Nop; Nop; Nop;" for place in range(hops)).replace("Nop; Nop; Nop;", "Nop; Nop; Branch h0;")
     yield Row("jumps from line to line of a function", one(code))
     yield Row("jumps on a condition", one("LdTrue; StLoc 0;" + "".join(f"j{n}: CopyLoc 0; BrTrue j{(n + 389) % 1_021}; " for n in range(1_021)) + "Branch j0", "bool"))
-    for count in 1, 100:
+    hop = hopping("H")
+    for count in 1, HOPPED:
         modules, m, calls = [], Module(), ""
         for k in range(count):
-            modules.append(hopping(f"H{k}"))
+            modules.append(called(hop, f"H{k}"))
             m.foreign_function(f"H{k}", "g0", "", "")
             calls += f"Call H{k}::g0;"
         yield Row(f"jumps and calls through all code of {count} modules of 60 KB", one(again(calls), modules=modules, m=m))
@@ -199,7 +215,7 @@ def of_numbers() -> Iterator[Row]:
 def hopping(own: str) -> Module:
     """A module of 60 KB of functions that jump from line to line in an order that isn't theirs, and call the next one."""
     m = Module(own)
-    hops, functions = 400, 36
+    hops, functions = 400, 25
     for k in range(functions):
         at = [(n * 149) % hops for n in range(hops)]
         after = {place: f"h{at[n + 1]}" if n + 1 < hops else "done" for n, place in enumerate(at)}
@@ -242,6 +258,14 @@ def of_storage() -> Iterator[Row]:
     m.struct("Coin", ASSET, "v: u64")
     m.function("f", "signer", "", "Coin", again("LdConst @0x7; MoveFrom Coin; StLoc 1; ImmBorrowLoc 0; MoveLoc 1; MoveTo Coin;", "ImmBorrowLoc 0; LdU64 1; Pack Coin; MoveTo Coin;"), "Coin")
     yield Row("values of one leaf taken out and stored", [m])
+    m = wide_module()
+    count = 400
+    for n in range(count):
+        m.struct(f"K{n}", ASSET, "w: Wide")
+    stores = "".join(f"ImmBorrowLoc 0; CopyLoc 1; Pack K{n}; MoveTo K{n};" for n in range(count))
+    takes = "".join(f"LdConst @0x7; MoveFrom K{n}; Unpack K{n}; Pop;" for n in range(count))
+    m.function("f", "signer", "", "Wide; Row", again(stores + takes, made(2, 1)), ", ".join(f"K{n}" for n in range(count)))
+    yield Row(f"values of 256 leaves of {count} structs stored and then taken out", [m])
     shuffled = random.Random(5).sample(range(KEYS), HELD * LEAVES)
     coins = [model.Stored(scattered(n), 0, 3, [u64(7)]) for n in range(KEYS)]
     tables = [model.Stored(inputs.address(k + 1), 0, 2, [leaf(scattered(n)) for n in shuffled[k * LEAVES:(k + 1) * LEAVES]]) for k in range(HELD)]
@@ -283,12 +307,12 @@ def visiting(use: str, acquires: str) -> Module:
 
 
 def of_memory() -> Iterator[Row]:
-    """The deepest run."""
-    for what, others in (f"{LOCALS} locals and {OPERANDS} operands", "Wide"), (f"{OPERANDS} operands", ""):
+    """The deepest runs, which end for their frames."""
+    for what, others in (f"{LOCALS} locals and {OPERANDS} operands", LOCALS - 1), (f"{OPERANDS} operands", 0):
         m = wide_module()
-        locals_ = "; ".join([others] * (LOCALS - 1)) if others else ""
-        chain(m, FRAMES - 2, "Wide", "", locals_, "CopyLoc 0;" * OPERANDS, "Pop;" * (OPERANDS - 1) + "Ret", "CopyLoc 0;" * OPERANDS + "Pop;" * OPERANDS + "Ret")
-        yield Row(f"256 frames, each with {what} of 256 leaves", one(again("CopyLoc 1; Call g0;", made(0, 1)), "Row; Wide", m=m))
+        m.function("g", "Wide", "", "; ".join(["Wide"] * others), "CopyLoc 0;" * OPERANDS + "Call g;" + "Pop;" * (OPERANDS - 1) + "Ret", entry=False)
+        m.function("f", "", "", "Row; Wide", made(0, 1) + "MoveLoc 1; Call g; Ret")
+        yield Row(f"256 frames, each with {what} of 256 leaves", [m])
 
 
 ROWS = of_locals, of_structs, of_numbers, of_storage, of_memory
@@ -341,23 +365,25 @@ class Runs:
         """Prints a line for a run."""
         (self.program.folder / "runs.ledger").write_bytes(ledger_bytes(self.program, row))
         self.write(row, FIRST)
-        answer = process.printed(self.words("runs.stream"), self.program.folder)
-        assert answer.split()[1:3] == ["exhausted", "steps"], (row.what, answer)
+        answer = process.printed(self.words("runs.stream"), self.program.folder).split()
+        assert answer[1] == "exhausted", (row.what, answer)
         base = self.seconds(row, None)
-        spent, made_steps = self.seconds(row, FIRST) - base, FIRST
-        if spent * STEPS / FIRST <= PATIENCE:
-            spent, made_steps = self.seconds(row, STEPS) - base, STEPS
-        elif spent < 0.2:
-            spent, made_steps = self.seconds(row, FIRST * 5) - base, FIRST * 5
-        seconds = spent * STEPS / made_steps
-        count = max(COUNTED[0], min(COUNTED[1], int(COUNTED_SECONDS * STEPS / max(seconds, 0.01))))
+        spent, steps = self.seconds(row, FIRST) - base, int(answer[3])
+        is_short = answer[2] == "frames"
+        if not is_short and spent * STEPS / FIRST <= PATIENCE:
+            spent, steps = self.seconds(row, STEPS) - base, STEPS
+        elif not is_short and spent < 0.2:
+            spent, steps = self.seconds(row, FIRST * 5) - base, FIRST * 5
+        seconds = spent if is_short else spent * STEPS / steps
+        how = f"({steps:,} steps)" if is_short else "(scaled)" if steps != STEPS else ""
+        count = steps // 4 if is_short else max(COUNTED[0], min(COUNTED[1], int(COUNTED_SECONDS * steps / max(spent, 0.01))))
         each = difference(self.counted(row, 2 * count), self.counted(row, count))
         counted = "" if each is None else f"{each / count:10.1f} instructions a step"
-        least, most = self.memory(row, None), self.memory(row, made_steps)
+        least, most = self.memory(row, None), self.memory(row, steps)
         held = (most - least) / 1024
         is_above = seconds > SECONDS or held > MEGABYTES
         self.above += is_above
-        print(f"runs: {row.what:72}{seconds:8.2f} s {'(scaled)' if made_steps != STEPS else '':8}{counted}{held:8.1f} MB beside "
+        print(f"runs: {row.what:72}{seconds:8.2f} s {how:16}{counted}{held:8.1f} MB beside "
               f"{least / 1024:.0f}{'  ABOVE' if is_above else ''}", flush=True)
 
 
