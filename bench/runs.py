@@ -25,9 +25,11 @@ STEPS = 10_000_000
 FIRST, PATIENCE = 100_000, 3.0
 # As many steps are counted as take so many seconds, at least the first number of them and at most the last.
 COUNTED, COUNTED_SECONDS = (500, 50_000), 0.005
+# Nothing is counted where it takes longer to load the ledger.
+LOADED = 0.15
 SECONDS, MEGABYTES = 2.0, 300.0
-# What a record with a small budget may take beside a large store, in times what it takes beside a small one.
-BESIDE = 1.1
+# What a record with a small budget may take: in times what it takes beside a small store, and seconds besides those of its steps.
+BESIDE, RECORD_SECONDS = 1.1, 5e-6
 
 # A struct of 256 leaves, and how a function with a local of each kind makes one: in the local after the last one of a number.
 LEAVES = 256
@@ -112,6 +114,14 @@ def of_locals() -> Iterator[Row]:
     m.function("last", "", results, "Row; Wide", made(0, 1) + "CopyLoc 1;" * RESULTS + "Ret", entry=False)
     chain(m, FRAMES - 3, "", results, "", "", "Ret", "Call last; Ret")
     yield Row("254 returns of 8 results of 256 leaves, which stay where they are", one(again("Call g0;" + "Pop;" * RESULTS), m=m))
+    m = wide_module()
+    m.function("last", "", results, "Row; Wide", made(0, 1) + "CopyLoc 1;" * RESULTS + "Ret", entry=False)
+    chain(m, FRAMES - 3, "", results, "; ".join(["Wide"] * LOCALS), "", "Ret", "Call last; Ret")
+    yield Row("254 returns of 8 results of 256 leaves, each past 64 locals of 256", one(again("Call g0;" + "Pop;" * RESULTS), m=m))
+    m = wide_module()
+    m.function("last", "", results, "Row; Wide", made(0, 1) + "CopyLoc 1;" * RESULTS + "Ret", entry=False)
+    chain(m, FRAMES - 3, "", results, "u64", "", "Nop; Ret", "Call last; Ret")
+    yield Row("254 returns of 8 results, moved by one word, with a Nop before each", one(again("Call g0;" + "Pop;" * RESULTS), m=m))
     m = wide_module()
     m.function("g", results, results, "", "".join(f"MoveLoc {n};" for n in range(RESULTS)) + "Ret", entry=False)
     yield Row("calls that hand back 8 arguments of 256 leaves", one(again("Call g;", made(0, 1), first="CopyLoc 1;" * RESULTS, last="Pop;" * RESULTS), "Row; Wide", m=m))
@@ -377,7 +387,7 @@ class Runs:
         seconds = spent if is_short else spent * STEPS / steps
         how = f"({steps:,} steps)" if is_short else "(scaled)" if steps != STEPS else ""
         count = steps // 4 if is_short else max(COUNTED[0], min(COUNTED[1], int(COUNTED_SECONDS * steps / max(spent, 0.01))))
-        each = difference(self.counted(row, 2 * count), self.counted(row, count))
+        each = None if base > LOADED else difference(self.counted(row, 2 * count), self.counted(row, count))
         counted = "" if each is None else f"{each / count:10.1f} instructions a step"
         least, most = self.memory(row, None), self.memory(row, steps)
         held = (most - least) / 1024
@@ -387,17 +397,135 @@ class Runs:
               f"{least / 1024:.0f}{'  ABOVE' if is_above else ''}", flush=True)
 
 
+class Small(NamedTuple):
+    """A record with a small budget: what it does, the ledger that it meets, the records before it, and itself."""
+
+    what: str
+    modules: Sequence[Module]
+    before: Sequence[bytes]
+    offered: bytes
+
+
+def idle_module() -> Module:
+    """The module of the small runs, which has as many functions as can be, with long names that are nearly alike."""
+    m = Module("Z")
+    m.struct("Coin", ASSET, "v: u64")
+    m.function("idle", "", "", "", "Ret")
+    m.function("coin", "u64", "", "", "MoveLoc 0; Pack Coin; Unpack Coin; Pop; Ret")
+    m.function("many", "; ".join(["u128"] * PARAMETERS), "", "", "Ret")
+    m.function("churn", "signer", "", "", "ImmBorrowLoc 0; LdU64 7; Pack Coin; MoveTo Coin; LdConst @0x7; MoveFrom Coin; Unpack Coin; Pop; Ret", "Coin")
+    for n in range(250):
+        m.function("x" * 120 + f"{n:08}", "", "", "", "Ret", entry=False)
+    return m
+
+
+def large_store() -> List[Module]:
+    """Many modules of all kinds, the last of which is that of the small runs."""
+    assets = Module("Q")
+    assets.add_names(["v"])
+    for n in range(1_900):
+        assets.struct(f"A{n:x}", ASSET, "v: u64")
+    family, empty = inputs.all_families(inputs.LARGE, 5), Module("E")
+    others = [called(assets, f"Q{k}") for k in range(16)] + [called(family, f"L{k}") for k in range(10)] + [called(empty, f"E{k}") for k in range(3_000)]
+    return [inputs.helping(), *others, idle_module()]
+
+
+def small_runs() -> Iterator[List[Small]]:
+    """Records with small budgets: each beside a small store, and where it says more beside a large one or behind a dear run, which have to
+    cost as much."""
+    def of(function: str, budget: int, *arguments: model.Value, module: str = "Z") -> bytes:
+        return record(2, run(function, budget, *arguments, sender=OWNER, module=module))
+
+    m = wide_module()
+    m.function("last", "", "", "", "Ret", entry=False)
+    chain(m, FRAMES - 3, "", "", "; ".join(["Wide"] * LOCALS), "", "Ret", "Call last; Ret")
+    m.function("f", "", "", "", "Call g0; Ret")
+    few, many, deep = [idle_module()], large_store(), [m, idle_module()]
+    packs = [called(packing("P", 2_000), f"P{k}") for k in range(16)]
+    user = Module("U")
+    for k in range(16):
+        user.foreign_function(f"P{k}", "pack", "bool", "bool")
+    user.function("f", "", "", "", "LdTrue;" + "".join(f"Call P{k}::pack;" for k in range(16)) + "Pop; Ret")
+    first, packed = of("f", 1_000_000, module="M"), of("f", 1_000_000, module="U")
+    kinds = (
+        ("a run of no step", of("idle", 0)), ("a run of one step", of("idle", 10)), ("an asset packed and unpacked", of("coin", 10, u64(7))),
+        ("an asset stored and taken out", of("churn", 20)), ("a run with 16 arguments", of("many", 10, *[model.Value(model.U128, 7)] * PARAMETERS)),
+        ("a run of a function that isn't there", of("x" * 128, 10)), ("a run of a module that isn't there", of("idle", 10, module="Nowhere")),
+    )
+    for what, offered in kinds:
+        yield [Small(what, few, [], offered), Small(f"{what}, in the last of {len(many):,} modules", many, [], offered),
+               Small(f"{what}, behind a run 254 calls deep", deep, [first], offered),
+               Small(f"{what}, behind a run that packed of 32,000 structs", [*packs, user, *few], [packed], offered)]
+    yield [Small("a run 254 calls deep, each with 64 locals of 256 leaves", deep, [], first)]
+    yield [Small("a run that packs and unpacks of 32,000 structs", [*packs, user], [], packed)]
+
+
+class SmallRuns:
+    """Measures records with small budgets over the ledgers that they meet."""
+
+    def __init__(self, program: Program):
+        self.program, self.above = program, 0
+        self.ledgers: Dict[int, bytes] = {}
+
+    def ledger(self, modules: Sequence[Module]) -> bytes:
+        if id(modules) not in self.ledgers:
+            self.ledgers[id(modules)] = ledger_bytes(self.program, Row("", modules))
+        return self.ledgers[id(modules)]
+
+    def words(self, one: Small, times: int) -> List[process.Word]:
+        (self.program.folder / "runs.stream").write_bytes(b"".join([*one.before, *[one.offered] * times]))
+        return [self.program.path, "apply", "--load", "runs.ledger", "runs.stream"]
+
+    def seconds(self, one: Small, times: int) -> float:
+        return min(process.seconds_of(process.used(self.words(one, times), self.program.folder)) for _ in range(TRIES))
+
+    def tell(self, ones: Sequence[Small]) -> None:
+        """Prints a line for each record, and how many times the first one's machine instructions it takes."""
+        least = None
+        for one in ones:
+            (self.program.folder / "runs.ledger").write_bytes(self.ledger(one.modules))
+            words = self.words(one, 1)
+            line = process.printed(words, self.program.folder).splitlines()[-1].split()
+            steps = int(line[-1]) if line[1] in ("returned", "exhausted") else 0
+            less, times = self.seconds(one, 0), 100
+            spent = self.seconds(one, times) - less
+            if spent < 0.02:
+                times = 20_000
+                spent = self.seconds(one, times) - less
+            count = 50 if spent / times < 1e-4 else 2
+            more = difference(*(process.instructions(self.words(one, n * count), self.program.folder) for n in (2, 1)))
+            each = None if more is None else more / count
+            least = least or each
+            ratio = each / least if each is not None and least else 1.0
+            bound = SECONDS / STEPS * steps + RECORD_SECONDS
+            is_above = spent / times > bound or ratio > BESIDE
+            self.above += is_above
+            counted = "" if each is None else f"{each:14,.0f} instructions, {ratio:.2f} times the first one's (bound: {BESIDE})"
+            print(f"runs: {one.what:80}{line[1]:10}{steps:6} steps{spent / times * 1e6:12.2f} us (bound: {bound * 1e6:.1f}){counted}"
+                  f"{'  ABOVE' if is_above else ''}", flush=True)
+
+
 def tell(program: Path, folder: Path, *words: str) -> int:
     """Prints a line for each run, and answers how many are above a bound."""
     os.makedirs(folder, exist_ok=True)
-    runs = Runs(Program(Path(program), Path(folder)))
+    measured = Program(Path(program), Path(folder))
+    runs, small = Runs(measured), SmallRuns(measured)
+
+    def is_asked(what: str) -> bool:
+        return not words or any(word in what for word in words)
+
     print(f"runs: seconds for {STEPS:,} steps (bound: {SECONDS}), memory of a run (bound: {MEGABYTES} MB)")
     for rows in ROWS:
         for row in rows():
-            if not words or any(word in row.what for word in words):
+            if is_asked(row.what):
                 runs.tell(row)
-    print(f"runs: {runs.above} above a bound")
-    return runs.above
+    print(f"runs: records with small budgets, each (bound: that of its steps and {RECORD_SECONDS * 1e6:.0f} us)")
+    for ones in small_runs():
+        if is_asked(ones[0].what):
+            small.tell(ones)
+    above = runs.above + small.above
+    print(f"runs: {above} above a bound")
+    return above
 
 
 if __name__ == "__main__":

@@ -46,22 +46,32 @@ class Function:
 
 
 def functions_of(text: str) -> List[Function]:
-    """The functions of a file in their order; a function's lines begin behind the one before it."""
+    """The functions of a file in their order; a function's lines begin behind the one before it. One of a trait may have no body: it ends
+    with the first line that ends in a semicolon before a body begins."""
     found: List[Function] = []
     lines, at = text.split("\n"), 0
     while at < len(lines):
         match = FUNCTION.match(lines[at])
         if match:
             start = found[-1].last + 1 if found else 0
-            ends = (match[1] + "}", match[1] + "};")
-            first, at = at, at if lines[at].rstrip().endswith((";", "}")) else at + 1
-            while at > first and at < len(lines) - 1 and lines[at].rstrip() not in ends and not lines[at].endswith(";;"):
-                if lines[at].startswith(match[1] + ";") or (at == first + 1 and lines[at].strip() == ";"):
-                    break
-                at += 1
+            at = end_of(lines, at, match[1])
             found.append(Function(match[2], start, at))
         at += 1
     return found
+
+
+def end_of(lines: List[str], first: int, indent: str) -> int:
+    """The last line of the function that begins at a line, which is indented so."""
+    begun = lines[first].rstrip()
+    if begun.endswith((";", "}")):
+        return first
+    has_body = begun.endswith("{")
+    for at in range(first + 1, len(lines)):
+        line = lines[at].rstrip()
+        if line in (indent + "{}", indent + "}", indent + "};") or (not has_body and line.endswith(";")) or line.endswith(";;"):
+            return at
+        has_body = has_body or line == indent + "{" or (line.startswith(indent + ")") and line.endswith("{"))
+    return len(lines) - 1
 
 
 def parsed(crate: str, name: str, lines: List[str]) -> Edit:

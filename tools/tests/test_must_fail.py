@@ -1,0 +1,88 @@
+"""The functions of a file, as the scripts find them for the must-fail edits."""
+
+import sys
+import unittest
+
+from . import TOP
+
+sys.path.insert(0, str(TOP / "scripts"))
+
+from must_fail import functions_of  # noqa: E402
+
+TRAIT = """/// What is known.
+pub trait Domain {
+    type State;
+
+    /// An equal state.
+    fn copy(&self, s: &Self::State) -> Self::State
+        requires { is_state self.now s.now }
+        ensures { result ≡ s.now };
+
+    fn join(
+        &self,
+        a: &Self::State,
+    ) -> Self::State
+        ensures { below self.now a.now result };
+
+    fn small(&self) -> bool;
+
+    fn given(&self) -> bool {
+        true
+    }
+}
+
+/// Goes on.
+fn pass<D: Domain>(
+    d: &D,
+    first: usize,
+) -> usize
+    requires { first ≤ 1 }
+{
+    let step = || {
+        first
+    };
+    d.copy(step());
+}
+
+pub fn law()
+    ensures { IsLaw }
+{}
+
+pub(crate) fn none() {}
+
+fn last(
+    n: u64,
+) -> u64 {
+    n
+}
+"""
+
+
+class Functions(unittest.TestCase):
+    """Each line of a file belongs to the function that it is read with."""
+
+    def test_functions_of_a_trait_may_have_no_body(self) -> None:
+        names = [function.name for function in functions_of(TRAIT)]
+        self.assertEqual(names, ["copy", "join", "small", "given", "pass", "law", "none", "last"])
+
+    def test_a_line_is_of_the_function_that_it_stands_in(self) -> None:
+        lines = TRAIT.split("\n")
+        for text, name in (
+            ("    fn copy(&self, s: &Self::State) -> Self::State", "copy"), ("        ensures { result ≡ s.now };", "copy"),
+            ("        ensures { below self.now a.now result };", "join"), ("    fn small(&self) -> bool;", "small"), ("        true", "given"),
+            ("    requires { first ≤ 1 }", "pass"), ("        first", "pass"), ("    d.copy(step());", "pass"), ("    ensures { IsLaw }", "law"),
+            ("pub(crate) fn none() {}", "none"), ("    n", "last"),
+        ):
+            with self.subTest(text):
+                at = lines.index(text)
+                self.assertEqual([function.name for function in functions_of(TRAIT) if function.first <= at <= function.last], [name])
+
+    def test_what_stands_before_a_function_is_its_own(self) -> None:
+        functions = functions_of(TRAIT)
+        self.assertEqual(functions[0].first, 0)
+        for one, after in zip(functions, functions[1:]):
+            self.assertEqual(after.first, one.last + 1)
+
+
+if __name__ == "__main__":
+    unittest.main()
