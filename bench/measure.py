@@ -8,6 +8,8 @@ import beside
 import costs
 import growth
 import files
+import memory
+import runs
 import saved
 from clock import ASCENDING, SCATTERED, STEPS, Best, Clock
 from files import (BLOCKS, CHAIN, CHAINED, FUNCTIONS, LARGE_FEW, LARGE_MANY, ROUNDS_OF_A_LOOP, STRUCTS, UPGRADED_AMONG,
@@ -167,8 +169,10 @@ def main() -> None:
     saved.tell(clock.program, folder)
     costs.tell(clock.program, folder)
     growth.tell(clock.program, folder)
+    above = runs.tell(clock.program, folder) + memory.tell(clock.program, folder)
     if (folder / beside.PLAIN).exists():
         beside.tell(folder, clock.program)
+    sys.exit(1 if above else 0)
 
 
 if __name__ == "__main__":

@@ -147,10 +147,9 @@ def tell_growth(memory: Memory, what: str, counts: Sequence[int], made: Made) ->
     memory.tell(f"modules {what}: {bytes_times:.2f} times the bytes take {times:.2f} times the time (bound: {bound:.2f})", times > bound)
 
 
-def tell_loads(memory: Memory, more: bool) -> None:
-    """Loads of ledgers whose modules name each other."""
+def tell_loads(memory: Memory, counts: Sequence[int]) -> None:
+    """Loads of ledgers whose modules name each other, of so many that name all before and of chains."""
     small = Naming(memory.program)
-    counts = MORE_NAMING if more else NAMING
 
     def dense(n: int) -> List[model.Offer]:
         return [small.offer(k, range(k)) for k in range(n)]
@@ -180,22 +179,27 @@ def tell_shows(memory: Memory) -> None:
             memory.tell(f"{what} as {form}: {beside:,} KB beside {alone:,} (bound: {BESIDE:,})", beside > BESIDE)
 
 
+def tell(program: Path, folder: Path, more: bool = False) -> int:
+    """Prints a line for each measurement, and answers how many are above a bound."""
+    os.makedirs(folder, exist_ok=True)
+    memory = Memory(Program(program, folder.resolve()))
+    tell_shows(memory)
+    tell_loads(memory, NAMING)
+    tell_large(memory, LARGE)
+    if more:
+        tell_loads(memory, MORE_NAMING)
+        tell_large(memory, MORE_LARGE)
+    print(f"memory: {memory.above} above a bound", flush=True)
+    return memory.above
+
+
 def main() -> int:
     words = argparse.ArgumentParser(description=__doc__, formatter_class=argparse.RawDescriptionHelpFormatter)
     words.add_argument("program", type=Path)
     words.add_argument("folder", type=Path)
     words.add_argument("--more", action="store_true")
     asked = words.parse_args()
-    os.makedirs(asked.folder, exist_ok=True)
-    memory = Memory(Program(asked.program, asked.folder.resolve()))
-    tell_shows(memory)
-    tell_loads(memory, False)
-    tell_large(memory, LARGE)
-    if asked.more:
-        tell_loads(memory, True)
-        tell_large(memory, MORE_LARGE)
-    print(f"memory: {memory.above} above a bound")
-    return 1 if memory.above else 0
+    return 1 if tell(asked.program, asked.folder, asked.more) else 0
 
 
 if __name__ == "__main__":

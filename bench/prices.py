@@ -14,7 +14,7 @@ import inputs
 import process
 from costs import Program, many_foreign, many_own
 from inputs import ASSET, PLAIN, Module, model, publish, record, run, u64
-from runs import OPERANDS, ROW, WIDE, made
+from runs import ROW, WIDE, made
 
 STORED, COINS, OWNER = 2_000, 100_000, 7
 NO_STATE = b""

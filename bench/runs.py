@@ -426,7 +426,7 @@ def large_store() -> List[Module]:
     for n in range(1_900):
         assets.struct(f"A{n:x}", ASSET, "v: u64")
     family, empty = inputs.all_families(inputs.LARGE, 5), Module("E")
-    others = [called(assets, f"Q{k}") for k in range(16)] + [called(family, f"L{k}") for k in range(10)] + [called(empty, f"E{k}") for k in range(3_000)]
+    others = [called(assets, f"Q{k}") for k in range(4)] + [called(family, f"L{k}") for k in range(2)] + [called(empty, f"E{k}") for k in range(1_000)]
     return [inputs.helping(), *others, idle_module()]
 
 
@@ -441,11 +441,12 @@ def small_runs() -> Iterator[List[Small]]:
     chain(m, FRAMES - 3, "", "", "; ".join(["Wide"] * LOCALS), "", "Ret", "Call last; Ret")
     m.function("f", "", "", "", "Call g0; Ret")
     few, many, deep = [idle_module()], large_store(), [m, idle_module()]
-    packs = [called(packing("P", 2_000), f"P{k}") for k in range(16)]
+    packs = [called(packing("P", 2_000), f"P{k}") for k in range(4)]
     user = Module("U")
-    for k in range(16):
+    for k in range(len(packs)):
         user.foreign_function(f"P{k}", "pack", "bool", "bool")
-    user.function("f", "", "", "", "LdTrue;" + "".join(f"Call P{k}::pack;" for k in range(16)) + "Pop; Ret")
+    user.function("f", "", "", "", "LdTrue;" + "".join(f"Call P{k}::pack;" for k in range(len(packs))) + "Pop; Ret")
+    packing_store = [*packs, user, *few]
     first, packed = of("f", 1_000_000, module="M"), of("f", 1_000_000, module="U")
     kinds = (
         ("a run of no step", of("idle", 0)), ("a run of one step", of("idle", 10)), ("an asset packed and unpacked", of("coin", 10, u64(7))),
@@ -455,9 +456,9 @@ def small_runs() -> Iterator[List[Small]]:
     for what, offered in kinds:
         yield [Small(what, few, [], offered), Small(f"{what}, in the last of {len(many):,} modules", many, [], offered),
                Small(f"{what}, behind a run 254 calls deep", deep, [first], offered),
-               Small(f"{what}, behind a run that packed of 32,000 structs", [*packs, user, *few], [packed], offered)]
+               Small(f"{what}, behind a run that packed of 8,000 structs", packing_store, [packed], offered)]
     yield [Small("a run 254 calls deep, each with 64 locals of 256 leaves", deep, [], first)]
-    yield [Small("a run that packs and unpacks of 32,000 structs", [*packs, user], [], packed)]
+    yield [Small("a run that packs and unpacks of 8,000 structs", packing_store, [], packed)]
 
 
 class SmallRuns:
