@@ -1,6 +1,7 @@
 """What records store, answer and need at most for their bytes and their steps, by small streams: for docs/EMBEDDING.md, from which a
-chain can price them. Memory is the most that the program held, less what it held for the records before; the saved ledger is longer by
-what a record stores. Nothing is held to a bound.
+chain can price them. Memory is the most that the program held, less what it held for the records before, and so with what it needed for a
+while; where there are many records it is told for each of the second half, which is what stays. The saved ledger is longer by what a
+record stores. Nothing is held to a bound.
 
 usage: python3 bench/prices.py PROGRAM FOLDER    FOLDER is kept; it gets each stream as a file"""
 
@@ -14,10 +15,17 @@ import inputs
 import process
 from costs import Program, many_foreign, many_own
 from inputs import ASSET, PLAIN, Module, model, publish, record, run, u64
-from runs import ROW, WIDE, made
+from runs import WIDE
 
 STORED, COINS, OWNER = 2_000, 100_000, 7
+# The fields of a struct of eight leaves of 128 bits, of which 32 make one of 256.
+ROW = "; ".join(f"a{n}: u128" for n in range(8))
 NO_STATE = b""
+
+
+def made(row: int, wide: int) -> str:
+    """Makes a value of 256 leaves in a local, over another one that holds a part of it."""
+    return "LdU128 7;" * 8 + f"Pack Row; StLoc {row};" + f"CopyLoc {row};" * 32 + f"Pack Wide; StLoc {wide};"
 
 
 class Stream(NamedTuple):
@@ -58,7 +66,7 @@ def changing(count: int) -> bytes:
         m.struct(name, "has key", "w: Wide")
     stores = "".join(f"ImmBorrowLoc 0; CopyLoc 1; Pack {name}; MoveTo {name};" for name in names)
     m.function("store", "signer", "", "Wide; Row", made(2, 1) + stores + "Ret")
-    writes = "".join(f"LdU64 9; CopyLoc 0; MutBorrowGlobal {name}; MutBorrowField {name}.w; MutBorrowField Wide.r0; MutBorrowField Row.a0; WriteRef;" for name in names)
+    writes = "".join(f"LdU128 9; CopyLoc 0; MutBorrowGlobal {name}; MutBorrowField {name}.w; MutBorrowField Wide.r0; MutBorrowField Row.a0; WriteRef;" for name in names)
     m.function("write", "address", "", "", writes + "Ret", ", ".join(names))
     m.function("take", "address", "", "", "".join(f"CopyLoc 0; MoveFrom {name}; Unpack {name}; Pop;" for name in names) + "LdU64 1; Abort", ", ".join(names))
     return m.bytes()
@@ -161,17 +169,19 @@ def saved(program: Program, records: Sequence[bytes], name: str) -> int:
 
 def tell(program: Program, stream: Stream) -> None:
     """Prints a line for a stream."""
-    records = [*stream.before, *stream.offered]
-    name, before = f"{stream.name}.stream", f"{stream.name}-before.stream"
-    longer = saved(program, records, name) - saved(program, stream.before, before)
+    records, half = [*stream.before, *stream.offered], len(stream.offered) // 2
+    names = [f"{stream.name}{part}.stream" for part in ("", "-half", "-before")]
+    longer = saved(program, records, names[0]) - saved(program, stream.before, names[2])
+    (program.folder / names[1]).write_bytes(b"".join([*stream.before, *stream.offered[:half]]))
     words = [program.path, "apply"]
-    beside = 1024 * (process.memory([*words, name], program.folder) - process.memory([*words, before], program.folder))
-    report = process.printed([*words, name], program.folder)
-    answered = len(report) - len(process.printed([*words, before], program.folder))
+    whole, less, least = (1024 * process.memory([*words, name], program.folder) for name in names)
+    report = process.printed([*words, names[0]], program.folder)
+    answered = len(report) - len(process.printed([*words, names[2]], program.folder))
     last, size = report.splitlines()[-1].split(), sum(map(len, stream.offered))
+    each = f"{(whole - less) / (stream.times - stream.times // 2):,.0f} each behind the first half" if half else f"{(whole - least) / stream.times:,.0f} each"
     steps = f", {int(last[-1]):,} steps in the last" if last[1] in ("returned", "aborted") else ""
-    print(f"prices: {stream.name}: {stream.times:,} {stream.what}: {size:,} bytes of records{steps}; memory {beside:,} bytes, {beside / stream.times:,.0f} each, "
-          f"{beside / size:,.1f} for each byte; saved {longer:,} bytes, {longer / stream.times:,.0f} each; answered {answered:,} bytes", flush=True)
+    print(f"prices: {stream.name}: {stream.times:,} {stream.what}: {size:,} bytes of records{steps}; memory {whole - least:,} bytes, {each}; "
+          f"saved {longer:,} bytes, {longer / stream.times:,.0f} each; answered {answered:,} bytes", flush=True)
 
 
 def main() -> None:

@@ -40,8 +40,12 @@ def printed(words: Sequence[Word], folder: Path) -> str:
 
 
 def memory(words: Sequence[Word], folder: Path) -> int:
-    """The most KB of memory that a program held, which has to end well. A process of some 8 MB starts it: the system counts what the
-    one that starts a program held as that program's, and this one may hold much."""
+    """The most KB of memory that a program held, which has to end well. Another process starts it, since the system counts what the one
+    that starts a program held as that program's, and this one may hold much: GNU's `time` of 1 MB, if it is there, otherwise one of 8."""
+    if shutil.which("time"):
+        told = folder / "memory.told"
+        subprocess.run(["time", "-f", "%M", "-o", told, *words], check=True, stdout=subprocess.DEVNULL, cwd=folder)
+        return int(told.read_text().split()[-1])
     starts: Sequence[Word] = [sys.executable, "-I", "-S", "-c", STARTS, *words]
     return int(subprocess.run(starts, check=True, stdout=subprocess.PIPE, cwd=folder).stdout)
 
