@@ -15,9 +15,10 @@ import inputs
 import process
 from costs import Program, many_foreign, many_own
 from inputs import ASSET, PLAIN, Module, model, publish, record, run, u64
+from movetext.reader import read_module
 from runs import WIDE
 
-STORED, COINS, OWNER = 2_000, 100_000, 7
+STORED, SENDERS, COINS, OWNER = 2_000, 6, 100_000, 7
 # The fields of a struct of eight leaves of 128 bits, of which 32 make one of 256.
 ROW = "; ".join(f"a{n}: u128" for n in range(8))
 NO_STATE = b""
@@ -110,7 +111,9 @@ def streams(program: Program) -> Iterator[Stream]:
     at = model.Value(model.ADDRESS, inputs.address(OWNER))
     stores = program.published(storing())
     store = record(2, run("store", 10_000_000, sender=OWNER))
-    yield Stream("stored-256", "values of 256 leaves stored by one run", [stores], [store], STORED)
+    senders = range(OWNER, OWNER + SENDERS)
+    yield Stream("stored-256", "values of 256 leaves stored, 2,000 by each run", [stores],
+                 [record(2, run("store", 10_000_000, sender=sender)) for sender in senders], STORED * SENDERS)
     coin = program.published(inputs.working().bytes())
     mints = [record(2, run("mint", 100, u64(7), sender=(n * 0x9E3779B97F4A7C15 % 2**64) << 64)) for n in range(COINS)]
     yield Stream("stored-1", "values of one leaf stored, a run each", [coin], mints, COINS)
@@ -138,7 +141,10 @@ def streams(program: Program) -> Iterator[Stream]:
     yield Stream("public", "modules of 256 public functions of 16 parameters", [], [record(1, publish((listed(f"P{n}"), public))) for n in range(40)], 40)
     stated = growth.stating(126, growth.MOST_EDGES)
     yield Stream("stated", "the same module of a certificate of 1 MB, replaced", [record(1, publish(stated))], [record(1, publish(stated))] * 3, 3)
-    yield Stream("stated-once", "a module of a certificate of 1 MB", [], [record(1, publish(stated))], 1)
+    yield Stream("stated-once", "module of a certificate of 1 MB", [], [record(1, publish(stated))], 1)
+    named = Module("M")
+    named.assembled = read_module(stated[0]).module
+    yield Stream("stated-bundle", "such modules in one bundle", [], [record(1, publish(*((named.renamed(f"T{n}"), stated[1]) for n in range(16))))], 16)
 
 
 def packed(program: Program) -> Tuple[List[bytes], List[bytes], int]:
