@@ -244,7 +244,7 @@ def leaf(value: bytes) -> model.Value:
 
 
 AT = leaf(inputs.address(OWNER))
-# How many values are stored, how many addresses a value of 256 leaves holds, and how many of these a function holds.
+# How many values are stored, and how many values of 256 addresses a function holds.
 KEYS, HELD = 200_000, 60
 
 
@@ -289,6 +289,11 @@ def of_storage() -> Iterator[Row]:
     )
     for what, use, acquires in uses:
         yield Row(what, [visiting(use, acquires)], stored=stored)
+    bigs = [model.Stored(scattered(n), 0, 5, [u64(7)] * LEAVES) for n in shuffled]
+    stored = sorted(tables + bigs, key=lambda one: (one.struct, one.address))
+    yield Row(f"reads of all 256 leaves of {HELD * LEAVES:,} stored values", [visiting("ImmBorrowGlobal Big; ReadRef; Pop;", "Big")], stored=stored)
+    written = "StLoc {r}; CopyLoc {w}; MoveLoc {r}; MutBorrowGlobal Big; WriteRef;"
+    yield Row(f"writes of all 256 leaves of {HELD * LEAVES:,} stored values", [visiting(written, "Big")], stored=stored)
     m = wide_module()
     m.struct("Node", ASSET, "next: address; w: Part")
     m.struct("Part", PLAIN, "; ".join(f"r{n}: Row" for n in range(31)))
@@ -300,19 +305,24 @@ def of_storage() -> Iterator[Row]:
 
 
 def visiting(use: str, acquires: str) -> Module:
-    """A module whose function has many addresses at hand, and uses each."""
+    """A module whose function has many addresses at hand, and uses each: with a local {r}, of a reference or an address, and one {w} that
+    holds a value of 256 leaves."""
     m = Module()
     m.struct("Eight", PLAIN, "; ".join(f"a{n}: address" for n in range(8)))
     m.struct("Many", PLAIN, "; ".join(f"e{n}: Eight" for n in range(32)))
     m.struct("Table", "has store, key", "m: Many")
     m.struct("Coin", "has store, drop, key", "v: u64")
-    reference = HELD
-    each = use.format(r=reference) * 8
+    m.struct("Row", PLAIN, ROW)
+    m.struct("Big", "has copy, drop, store, key", WIDE)
+    is_big = "{w}" in use
+    each = use.format(r=2, w=1) * 8
     first = "".join(f"LdConst @{k + 1:#x}; ImmBorrowGlobal Table; ImmBorrowField Table.m; ReadRef; StLoc {k};" for k in range(HELD))
-    body = "Unpack Many;" + ("Unpack Eight;" + each) * 32 + "Ret"
-    m.function("g", "Many", "", "; ".join(["u64"] * (reference - 1) + ["&mut Coin"]), "MoveLoc 0;" + body, acquires, entry=False)
-    rest = "".join(f"CopyLoc {k}; Call g;" for k in range(HELD))
-    m.function("f", "", "", "; ".join(["Many"] * HELD), first + "again: " + rest + "Branch again", "Table" + (f", {acquires}" if acquires else ""))
+    body = "MoveLoc 0; Unpack Many;" + ("Unpack Eight;" + each) * 32 + "Ret"
+    m.function("g", "Many; Big" if is_big else "Many; u64", "", "address" if is_big else "&mut Coin", body, acquires, entry=False)
+    begin = "LdU64 7;" * 8 + f"Pack Row; StLoc {HELD};" + f"CopyLoc {HELD};" * 32 + f"Pack Big; StLoc {HELD + 1};"
+    given = f"CopyLoc {HELD + 1}" if is_big else "LdU64 0"
+    rest = "".join(f"CopyLoc {k}; {given}; Call g;" for k in range(HELD))
+    m.function("f", "", "", "; ".join(["Many"] * HELD + ["Row; Big"]), f"{begin} {first} again: {rest} Branch again", "Table" + (f", {acquires}" if acquires else ""))
     return m
 
 
