@@ -232,7 +232,8 @@ fn keys_are_used_again(rt: HostRuntime) -> Result<(), Fail> {
     // The second goes, and its place is given to another key.
     overlay.commit()?;
     assert!(rt; !overlay.exists(&SECOND));
-    assert!(rt; put(&mut overlay, THIRD, Value::leaf(12))?);
+    assert!(rt; overlay.put_new(THIRD, Value::leaf(12))?);
+    assert!(rt; !overlay.put_new(THIRD, Value::leaf(13))?);
     assert_eq!(rt; word(&mut overlay, &SECOND), None);
     assert_eq!(rt; word(&mut overlay, &FIRST), Some(8));
     assert_eq!(rt; word(&mut overlay, &THIRD), Some(12));
