@@ -17,10 +17,13 @@
 //! ) -> Result<Option<usize>, AllocError> {
 //!     let outline = Outline::of(alloc, m)?;
 //!     let interface = Interface::of(alloc, outline, m, structs)?;
-//!     Ok(interface.outline.find_function(name).and_then(|index| {
-//!         let types = interface.parameters.get(index)?;
-//!         Some(types.len())
-//!     }))
+//!     let Some(index) = interface.outline.find_function(name) else {
+//!         return Ok(None);
+//!     };
+//!     match interface.parameters.get(index) {
+//!         Some(types) => Ok(Some(types.len())),
+//!         None => Ok(None),
+//!     }
 //! }
 //! ```
 #![tactic(auto)]
@@ -39,7 +42,15 @@ pub use by_definition::is_signature;
 pub use definitions::{function_handle, is_public};
 pub use interface::{Interface, LinkedType, Signature};
 pub use lists::Lists;
-pub use names::{StructName, function_place, module_name, name_of, struct_name};
+pub use names::{
+    StructName,
+    function_place,
+    have_one_name,
+    module_name,
+    name_of,
+    names_own,
+    struct_name,
+};
 pub use outline::Outline;
 pub use shapes::Part;
 pub use types::{are_same, same_kind, same_signature};

@@ -1,10 +1,11 @@
 // What a module's handles and definitions name.
 ghost use Rattle.std.specs.Prelude.{◌≡◌, false, option_map, position};
 ghost use Rattle.std.specs.Option.{option_map_or};
-ghost use Rattle.mv_move_types.specs.Names.{same_struct};
+ghost use Rattle.mv_move_types.specs.Names.{same_module, same_struct};
 ghost use Rattle.std.specs.Str.{bytes_eq};
 ghost use Rattle.mv_move_types.specs.Module.{module_name as name_of_module, own_name, struct_name as name_at_handle, name_of_function};
-ghost use Rattle.mv_move_types.specs.Named.{function_place as place_of_function};
+ghost use Rattle.mv_move_types.specs.Named.{function_place as place_of_function, have_one_name as are_of_one_name, is_module as has_this_name};
+ghost use Rattle.mv_interface.specs.TypesByName.{both_there};
 
 use mv_binary_format::{FunctionDefinition, Module};
 use std::marker::Model;
@@ -90,6 +91,38 @@ pub fn name_of<'a>(m: &Module<'a>) -> Option<(u128, &'a [u8])>
     ensures { option_map (λ p. record { address = p.0; name = p.1.now }) result ≡ own_name m.now }
 {
     module_name(m, m.own() as usize)
+}
+
+/// Whether it is the module of this address and identifier.
+fn is_module(m: &Module<'_>, address: u128, name: &[u8]) -> bool
+    ensures { result ≡ has_this_name (record { address = address; name = name.now }) m.now }
+{
+    match name_of(m) {
+        Some((own_address, own)) => own_address == address && own == name,
+        None => false,
+    }
+}
+
+/// Whether two modules have one name.
+pub fn have_one_name(m: &Module<'_>, n: &Module<'_>) -> bool
+    ensures { result ≡ are_of_one_name m.now n.now }
+{
+    match name_of(m) {
+        Some((address, name)) => is_module(n, address, name),
+        None => false,
+    }
+}
+
+/// Whether a module handle names its own module.
+pub fn names_own(m: &Module<'_>, h: usize) -> bool
+    ensures { result ≡ both_there same_module (name_of_module m.now h) (own_name m.now) }
+{
+    match (module_name(m, h), name_of(m)) {
+        (Some((address, name)), Some((own_address, own))) => {
+            address == own_address && name == own
+        }
+        _ => false,
+    }
 }
 
 /// The struct that a handle names, if its parts are there.

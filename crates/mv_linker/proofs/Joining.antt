@@ -9,6 +9,7 @@
 --   KeptFits       `kept-fits`: whether a function fits a handle, by the interface that is kept of its module
 --   Empty          `store_of_nothing`: no modules are a store
 --   Bundled        `bundle-at`, `old-at`: where the modules of a bundle stand once it joins
+--   PlacedApart    `first-placed`: modules of a bundle stand at different places, so that a place leads to one of them
 --   Replaced       `replaced-low`, `replaced-none`: the place that a module of a bundle takes tells what it replaces
 --   Compatible     `follow-compatible`, `compatible-follow`: what a bundle replaces, module by module
 --   KeptTypes      `struct-is`, `function-is`: what is kept of an old module tells whether a new one may take its place, by names
@@ -28,6 +29,7 @@ pub mod TypesCompared
 pub mod NamedThere
 pub mod KeptFits
 pub mod Bundled
+pub mod PlacedApart
 pub mod Replaced
 pub mod Compatible
 pub mod KeptTypes

@@ -5,7 +5,6 @@ ghost use Rattle.std.specs.List.{list_all};
 ghost use Rattle.std.specs.Option.{option_map_or};
 ghost use Rattle.mv_move_types.specs.Module.{Module as Tables, FunctionDefinition as FunctionTable, module_name as name_of_module, own_name};
 ghost use Rattle.mv_move_types.specs.Names.{ModuleName, same_module};
-ghost use Rattle.mv_move_types.specs.Named.{have_one_name as are_of_one_name};
 ghost use Rattle.mv_move_types.specs.Refusals.{IsRefusedIn};
 ghost use Rattle.mv_linker.specs.Found.{AreTargets, IsFound};
 ghost use Rattle.mv_interface.specs.Handles.{AreFunctionsAt, AreStructsAt, IsFunctionAt, IsFunctionIn};
@@ -19,25 +18,15 @@ ghost use Rattle.mv_interface.specs.TypesByName.{both_there};
 use crate::rules::named_modules::{Found, Target};
 use crate::rules::named_structs::{definition, target_at};
 use crate::rules::pushed::pushed;
-use crate::rules::scope::{Scope, is_module};
+use crate::rules::scope::Scope;
 use mv_binary_format::{FunctionDefinition, Module};
 use mv_bounds::function_places;
 use mv_interface::{
-    Interface, LinkedType, function_handle, is_public, is_signature, module_name, name_of,
+    Interface, LinkedType, function_handle, have_one_name, is_public, is_signature, names_own,
     same_signature,
 };
 use mv_move_types::{Definition, FunctionHandle, Refusal};
 use std::alloc::Global;
-
-/// Whether two modules have one name.
-fn have_one_name(m: &Module<'_>, n: &Module<'_>) -> bool
-    ensures { result ≡ are_of_one_name m.now n.now }
-{
-    match name_of(m) {
-        Some((address, name)) => is_module(n, address, name),
-        None => false,
-    }
-}
 
 /// Whether a function definition has the types that a handle says, and may be called from the handle's module.
 fn fits(m: &Module<'_>, handle: FunctionHandle, n: &Module<'_>, d: &FunctionDefinition) -> bool
@@ -51,18 +40,6 @@ fn fits(m: &Module<'_>, handle: FunctionHandle, n: &Module<'_>, d: &FunctionDefi
                     && same_signature(m, handle.results as usize, n, own.results as usize))
         }
         None => false,
-    }
-}
-
-/// Whether a module handle names its own module.
-fn names_own(m: &Module<'_>, h: usize) -> bool
-    ensures { result ≡ both_there same_module (name_of_module m.now h) (own_name m.now) }
-{
-    match (module_name(m, h), name_of(m)) {
-        (Some((address, name)), Some((own_address, own))) => {
-            address == own_address && name == own
-        }
-        _ => false,
     }
 }
 

@@ -1,7 +1,6 @@
 // A store and a bundle that is to join it, with the place of each module of the bundle.
-ghost use Rattle.std.specs.Prelude.{◌≡◌, ◌+◌, ◌≤◌, ◌==◌, Some, IsTrue, length, position, IfOk, OnOk};
+ghost use Rattle.std.specs.Prelude.{◌≡◌, ◌+◌, ◌≤◌, ◌==◌, Some, IsTrue, length, position, slice_get, IfOk, OnOk};
 ghost use Rattle.mv_move_types.specs.Module.{own_name as name_of_module};
-ghost use Rattle.mv_move_types.specs.Named.{is_module as has_this_name};
 ghost use Rattle.mv_bounds.specs.Definitions.{all_differ};
 ghost use Rattle.mv_linker.specs.Indexed.{ArePlacesOf};
 ghost use Rattle.mv_linker.specs.Kept.{name_in};
@@ -11,7 +10,6 @@ ghost use Rattle.mv_linker.specs.Scope.{offered, places_in, all_named};
 use crate::store::entry::Name;
 use crate::store::indexed::{PlacesByName, place_of};
 use crate::{New, Store};
-use mv_binary_format::Module;
 use mv_interface::name_of;
 use std::alloc::{AllocError, Global};
 use std::borrow::CowSlice;
@@ -32,16 +30,6 @@ pub struct Scope<'a> {
     ghost named: { IsTrue (all_named (offered new.now)) },
     ghost once: { IsTrue (all_differ have_one_name (offered new.now)) },
     ghost found: { ArePlacesOf names (offered new.now) places.items },
-}
-
-/// Whether it is the module of this address and identifier.
-pub fn is_module(m: &Module<'_>, address: u128, name: &[u8]) -> bool
-    ensures { result ≡ has_this_name (record { address = address; name = name.now }) m.now }
-{
-    match name_of(m) {
-        Some((own_address, own)) => own_address == address && own == name,
-        None => false,
-    }
 }
 
 /// The name of a module that passed its phases.
@@ -111,6 +99,21 @@ impl<'a> Scope<'a> {
     pub fn bundled(&self, place: usize) -> Option<usize>
         ensures { result ≡ position (λ p. p == place) self.now.places.items }
     {
+        // Where no module of the bundle replaces one, each stands at its own index behind the store's.
+        let count = self.store.len();
+        if place >= count && self.stands_at(place - count, place) {
+            return Some(place - count);
+        }
         self.places.iter().position(|p| *p == place)
+    }
+
+    /// Whether the module of the bundle at an index is there, and is to stand at a place.
+    fn stands_at(&self, index: usize, place: usize) -> bool
+        ensures { IsTrue result → slice_get self.now.places.items index ≡ Some place }
+    {
+        match self.places.get(index) {
+            Some(own) => *own == place,
+            None => false,
+        }
     }
 }
