@@ -42,7 +42,7 @@ pub use Rattle.mv_move_types.specs.Options.{◌>>=◌, find_index}
 pub use Rattle.mv_move_types.specs.Published.{PublishedModule, has_name_of, with_module, with_modules}
 pub use Rattle.mv_move_types.specs.Refusals.{IsRefusedIn}
 pub use Rattle.mv_move_types.specs.Results.{◌>>◌, for_each, need}
-pub use Rattle.mv_move_types.specs.Scarce.{is_scarce_at, is_scarce_in, is_scarce_struct}
+pub use Rattle.mv_move_types.specs.Scarce.{is_scarce_struct}
 pub use Rattle.mv_move_types.specs.Tags.{LeafTag, ReferenceTag, StructTag, Tag, same_tag}
 pub use Rattle.mv_move_types.specs.Tokens.{same_kind, width_bits}
 pub use Rattle.mv_move_types.specs.declared.instruction.Instruction.TheVariants.{CopyLoc, ImmBorrowGlobal, ImmBorrowLoc, MoveFrom, MoveLoc, MoveTo, Pack, Pop, Ret, StLoc, Unpack}
@@ -84,8 +84,7 @@ pub use Rattle.mv_module_text.specs.Fits.{address_fits, identifier_fits, is_byte
 pub use Rattle.mv_module_text.specs.Laws.{AreBytes}
 pub use Rattle.mv_module_text.specs.Parsing.{Read, address_from, byte_from, bytes_from, counted_from, entries_from, identifier_from, index_from, kind_of, mark_from, number_of_from}
 pub use Rattle.mv_module_text.specs.Reads.{Marks, Reads, ReadsAs}
-pub use Rattle.mv_frames.specs.Counters.{AreSameCounts, HasCounts, IsClear, KeepsCounts, is_tally_at, packs_at, unpacks_at, is_same_definition}
-pub use Rattle.mv_frames.specs.declared.counters.Count.{Count}
+pub use Rattle.mv_frames.specs.Counters.{Count, is_tally_at, packs_at, unpacks_at, is_same_definition}
 pub use Rattle.mv_frames.specs.declared.counters.StructTally.{StructTally}
 pub use Rattle.mv_storage.proofs.Keys.{before-apart, before-trans, keys_compare, same_key-refl, same_key-symm, same_key-to}
 pub use Rattle.mv_storage.proofs.Maps.{Ascends-with_words, entries_from_words, words_under-same, words_under-with_words}
@@ -190,7 +189,7 @@ pub use Rattle.mv_ledger.specs.Showing.{PutsText, fields_text, key_name_text, ke
 pub use Rattle.mv_ledger.specs.Tallying.{AddsTallies, AreInOrder, ArePlacedFor, AreWithin, HasRoomFor, HasRoomLeft, IsRoomFor, fresh_tally, is_published, place_for, tallies_at, tally_after}
 pub use Rattle.mv_ledger.specs.Tallying.{with_placed}
 pub use Rattle.mv_ledger.specs.ValueParts.{Extends, part_from, parts_from}
-pub use Rattle.mv_ledger.specs.View.{AreCountable, ArePlaced, AreScarce, AreSized, IsLedger, IsNamed, IsSmall, LedgerView, all_of, scarce_indices, state_of, tallied, view_of}
+pub use Rattle.mv_ledger.specs.View.{ArePlaced, AreScarce, AreSized, IsLedger, IsNamed, IsSmall, LedgerView, all_of, scarce_indices, state_of, tallied, view_of}
 pub use Rattle.mv_ledger.specs.declared.executing.Barred.{Barred}
 pub use Rattle.mv_ledger.specs.declared.executing.Barred.TheVariants.{Rejected, Rejected as BarredRejected}
 pub use Rattle.mv_ledger.specs.declared.executing.Call.{Call}

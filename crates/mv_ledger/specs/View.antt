@@ -9,8 +9,6 @@ use Rattle.mv_machine.specs.Lines.{Tallied}
 use Rattle.mv_machine.specs.Ledger.{LedgerState}
 use Rattle.mv_linker.specs.Link.{tables_in}
 use Rattle.mv_move_types.specs.Scarce.{is_scarce_struct}
-use Rattle.mv_frames.specs.Counters.{IsClear, HasCounts}
-use Rattle.mv_frames.specs.declared.counters.Count.{Count}
 use Rattle.mv_interpreter.specs.Runs.{IsFineWords}
 use Rattle.mv_interpreter.specs.Flat.Agreement.{nameless}
 use Rattle.mv_ledger.specs.declared.tallies.Tally.{Tally}
@@ -75,18 +73,14 @@ AreScarce [] (ts ∷ tss) = ⊥
 AreScarce (m ∷ ms) [] = ⊥
 AreScarce (m ∷ ms) (ts ∷ tss) = (map (λ t. t.index) ts ≡ scarce_indices m) × AreScarce ms tss
 
--- there is room to count values of the struct of each tally
-abbrev pub AreCountable : List (List Count) → List (List Tally) → Type 0
-AreCountable counters = All (All (λ t. HasCounts t.place (t.index + 1) counters))
-
 -- the texts and the certificates that modules came in are bytes, and no longer than those of a bundle
 abbrev pub AreSized : List PublishedModule → Type 0
 AreSized published = IsTrue (list_all offer_fits (map offered published))
 
 -- A ledger's modules, their texts and its runs are within their limits, each stored value is one of its key's struct, and each
--- tally one of a struct in its range; each module has the tallies of its structs with neither copy nor drop; the counters that
--- runs count in are zero, and have room for each of those structs; and the machine's ledger that it stands for is sound.
-pub record IsLedger (published : List PublishedModule) (stored : List FlatEntry) (tallies : List (List Tally)) (counters : List (List Count)) (runs : ℕ) : Type 0 where
+-- tally one of a struct in its range; each module has the tallies of its structs with neither copy nor drop; and the machine's
+-- ledger that it stands for is sound.
+pub record IsLedger (published : List PublishedModule) (stored : List FlatEntry) (tallies : List (List Tally)) (runs : ℕ) : Type 0 where
   pub few : length published ≤ most_modules
   pub sized : AreSized published
   pub fine : All (IsFineWords (tables_in published)) stored
@@ -94,7 +88,5 @@ pub record IsLedger (published : List PublishedModule) (stored : List FlatEntry)
   pub scarce : AreScarce (tables_in published) tallies
   pub named : All (IsNamed (tables_in published)) (all_of tallies)
   pub small : All (IsSmall runs) (all_of tallies)
-  pub clear : IsClear counters
-  pub countable : AreCountable counters tallies
   pub counted : runs ≤ most_runs
   pub sound : IsSoundLedger (state_of (view_of published stored (all_of tallies) runs))

@@ -4,7 +4,6 @@ ghost use Rattle.std.specs.List.{list_all};
 ghost use Rattle.mv_move_types.specs.Limits.{most_modules, most_runs, most_steps};
 ghost use Rattle.mv_machine.specs.Ledger.{is_argument, are_arguments, with_signer as with_sender};
 ghost use Rattle.mv_linker.specs.Link.{IsStore, tables_in};
-ghost use Rattle.mv_frames.specs.Counters.{IsClear, KeepsCounts};
 ghost use Rattle.mv_interpreter.specs.declared.Arg.{Arg as Argument};
 ghost use Rattle.mv_interpreter.specs.Runs.{IsCall, IsFineWords, Agrees, HasEnded, AtMost, number_fits, arg_value};
 ghost use Rattle.mv_ledger.specs.Changes.{RunsTo};
@@ -13,12 +12,11 @@ ghost use Rattle.mv_ledger.specs.Asking.{request_of};
 ghost use Rattle.mv_ledger.specs.ParameterTypes.{asked_type};
 ghost use Rattle.mv_ledger.specs.Running.{IsAdmitted, IsSettled, left_by, run_of};
 ghost use Rattle.mv_ledger.specs.Tallying.{HasRoomLeft};
-ghost use Rattle.mv_ledger.specs.View.{all_of, IsNamed, IsSmall, AreScarce, AreCountable};
+ghost use Rattle.mv_ledger.specs.View.{all_of, IsNamed, IsSmall, AreScarce};
 
 use crate::Reply;
 use crate::payload::RunRecord;
 use crate::tallies::Tallies;
-use mv_frames::Counters;
 use mv_interpreter::{Arg, FuncId, RunError, Tally, run};
 use mv_linker::{LinkedType, Part, Store};
 use mv_machine::{Ending, Outcome};
@@ -165,30 +163,21 @@ fn keep_returned(overlay: &mut Overlay<'_>, ending: Ending) -> Result<(), AllocE
 
 /// Runs a call over the storage, which keeps what a run that returns has made of it; any other run leaves it, and so does an
 /// error.
-fn run_over(
-    store: &Store,
-    storage: &mut Storage,
-    counters: &mut Counters,
-    call: &Call,
-) -> Result<(Outcome, Tally), RunError>
+fn run_over(store: &Store, storage: &mut Storage, call: &Call) -> Result<(Outcome, Tally), RunError>
     requires call { IsCall (tables_in store.now) call.now.function call.now.arguments.items }
     requires few { length store.now ≤ most_modules }
     requires stored { All (IsFineWords (tables_in store.now)) storage.old.committed }
-    requires clear { IsClear counters.old }
     ensures machine { IfOk result (λ r. Agrees (tables_in store.now) (run_of store.now storage.old.committed call.now) r.0 r.1.items
         (record { committed = storage.old.committed; current = storage.new.committed })) }
     ensures fine { IfOk result (λ r. All (IsFineWords (tables_in store.now)) storage.new.committed) }
     ensures few { IfOk result (λ r. AtMost call.now.budget r.1.items) }
     ensures other { IfOk result (λ r. (HasEnded r.0 → ⊥) → storage.new.committed ≡ storage.old.committed) }
     ensures err { OnErr result (storage.new.committed ≡ storage.old.committed) }
-    ensures clear { IsClear counters.new }
-    ensures kept { KeepsCounts counters.old counters.new }
 {
     let mut overlay = storage.overlay();
     let ended = run(
         store,
         &mut overlay,
-        counters,
         call.function,
         &call.arguments,
         call.budget,
@@ -197,15 +186,8 @@ fn run_over(
     Ok(ended)
 }
 
-/// Runs a call. A run that returns keeps what it made of the storage, and its tally is added; any other leaves both. The
-/// counters are zero again after each, and have the room that they had.
-pub fn execute(
-    store: &Store,
-    storage: &mut Storage,
-    tallies: &mut Tallies,
-    counters: &mut Counters,
-    call: &Call,
-) -> Reply
+/// Runs a call. A run that returns keeps what it made of the storage, and its tally is added; any other leaves both.
+pub fn execute(store: &Store, storage: &mut Storage, tallies: &mut Tallies, call: &Call) -> Reply
     requires store { IsStore store.now }
     requires few { length store.now ≤ most_modules }
     requires call { IsCall (tables_in store.now) call.now.function call.now.arguments.items }
@@ -214,10 +196,6 @@ pub fn execute(
     requires room { All HasRoomLeft (all_of tallies.old) }
     requires budget { call.now.budget ≤ most_steps }
     requires scarce { AreScarce (tables_in store.now) tallies.old }
-    requires clear { IsClear counters.old }
-    requires countable { AreCountable counters.old tallies.old }
-    ensures clear { IsClear counters.new }
-    ensures countable { AreCountable counters.new tallies.new }
     ensures scarce { AreScarce (tables_in store.now) tallies.new }
     ensures stored { All (IsFineWords (tables_in store.now)) storage.new.committed }
     ensures placed { length tallies.new ≡ length tallies.old }
@@ -226,9 +204,7 @@ pub fn execute(
     ensures settled { IsSettled store.now call.now (told result) storage.old.committed storage.new.committed (all_of tallies.old) (all_of tallies.new) }
     ensures kept { RunsTo (told result) storage.old.committed storage.new.committed (all_of tallies.old) (all_of tallies.new) }
 {
-    // For the prover: each tally stands with its module.
-    let _modules = tallies.len();
-    match run_over(store, storage, counters, call) {
+    match run_over(store, storage, call) {
         Ok((outcome, tally)) => {
             if outcome.ending == Ending::Returned {
                 tallies.add_run(&tally);

@@ -48,7 +48,6 @@ pub use laws::{
 };
 pub use lines::Lines;
 pub use loading::{LoadError, migrate};
-use mv_frames::Counters;
 use mv_linker::Store;
 use mv_machine::Outcome;
 use mv_move_types::Refusal;
@@ -83,15 +82,14 @@ impl Reply {
 }
 
 /// The published modules, the stored values, the tallies of the structs with neither copy nor drop, and the number of runs
-/// had; and the counters that each run counts in, which are zero between runs. Its model is what it holds, with values as their
-/// words; `state_of` is the state of the machine's ledger that it stands for, which is sound.
+/// had. Its model is what it holds, with values as their words; `state_of` is the state of the machine's ledger that it stands
+/// for, which is sound.
 #[derive(Drop)]
 pub struct Ledger {
     alloc: Global,
     store: Store,
     storage: Storage,
     tallies: Tallies,
-    counters: Counters,
     runs: u64,
 }
 
@@ -102,7 +100,7 @@ impl Model for Ledger {
 
     ghost view = { λ l. view_of l.store l.storage.committed (all_of l.tallies) l.runs };
 
-    ghost invariant = { λ l. IsLedger l.store l.storage.committed l.tallies l.counters l.runs };
+    ghost invariant = { λ l. IsLedger l.store l.storage.committed l.tallies l.runs };
 }
 
 impl Ledger {
@@ -115,7 +113,6 @@ impl Ledger {
             store: Store::new(alloc),
             storage: Storage::new(alloc),
             tallies: Tallies::new(alloc),
-            counters: Counters::new(alloc),
             runs: 0,
         }
     }
@@ -145,13 +142,7 @@ impl Ledger {
     pub fn publish(&mut self, payload: &[u8]) -> Reply
         ensures { Replies 1 payload.now (told result) self.old self.new }
     {
-        match publishing::publish(
-            self.alloc,
-            &mut self.store,
-            &mut self.tallies,
-            &mut self.counters,
-            payload,
-        ) {
+        match publishing::publish(self.alloc, &mut self.store, &mut self.tallies, payload) {
             Ok(count) => Reply::Published(count),
             Err(Refusal::Phase(phase)) => Reply::Refused(phase),
             Err(Refusal::Memory) => Reply::Memory,
@@ -173,7 +164,6 @@ impl Ledger {
                     &self.store,
                     &mut self.storage,
                     &mut self.tallies,
-                    &mut self.counters,
                     &call,
                 );
                 if reply.is_told() {

@@ -10,19 +10,17 @@ ghost use Rattle.mv_certificate.specs.Verified.{IsCertifiedBy};
 ghost use Rattle.mv_machine.specs.Ledger.{Publish};
 ghost use Rattle.mv_linker.specs.Link.{IsStore, tables_in};
 ghost use Rattle.mv_linker.specs.News.{AreTexts, HasItsTexts, published_of};
-ghost use Rattle.mv_frames.specs.Counters.{AreSameCounts, KeepsCounts};
 ghost use Rattle.mv_ledger.specs.Asking.{offer_of, offers_of};
 ghost use Rattle.mv_ledger.specs.RecordText.{IsShaped};
 ghost use Rattle.mv_ledger.specs.Publishing.{Spells, Passes, AllPass, IsRefusedOffer, IsRefusedAmong};
 ghost use Rattle.mv_ledger.specs.Judging.{IsAcceptedBy, IsRefusedBy};
 ghost use Rattle.mv_ledger.specs.Tallying.{AddsTallies, ArePlacedFor};
-ghost use Rattle.mv_ledger.specs.View.{all_of, ArePlaced, IsNamed, IsSmall, AreScarce, AreCountable};
+ghost use Rattle.mv_ledger.specs.View.{all_of, ArePlaced, IsNamed, IsSmall, AreScarce};
 
 use crate::payload::{Bundle, Offered, read_bundle};
 use crate::tallies::{Placed, Tallies, scarce_structs};
 use mv_binary_format::Module;
 use mv_certificate::Verified;
-use mv_frames::Counters;
 use mv_linker::{New, Store, link, name_of};
 use mv_move_types::Refusal;
 use mv_type_states::Typed;
@@ -94,35 +92,18 @@ pub fn all_verified<'a>(alloc: Global, offers: &[Offered<'a>]) -> Result<Vec<New
     Ok(all)
 }
 
-/// How many of a module's structs have to have a count, where these are to be counted: all up to the last of them.
-fn counted_structs(structs: &[u16]) -> usize
-    ensures all { All (λ i. i < result) structs.now }
-    ensures least { (n : ℕ) → All (λ i. i < n) structs.now → result ≤ n }
-{
-    let mut most = 0;
-    for index in structs {
-        most = most.max(usize::from(*index) + 1);
-    }
-    most
-}
-
 /// Where each of these modules is to stand, with its tallies: in the place of the published one of its name, whose tallies it
-/// keeps, or in the next place. The counters get room for its structs, up to the last one with neither copy nor drop.
+/// keeps, or in the next place.
 pub fn placed(
     alloc: Global,
     store: &Store,
     tallies: &Tallies,
-    counters: &mut Counters,
     news: &[New<'_>],
 ) -> Result<Vec<Placed>, AllocError>
     requires few { length store.now + length news.now < 65536 }
     requires all { length tallies.now ≡ length store.now }
-    requires countable { AreCountable counters.old tallies.now }
     ensures placed { IfOk result (λ v. ArePlacedFor (tables_in store.now) tallies.now (length store.now) (tables_in (published_of news.now)) v.items) }
     ensures theirs { ArePlaced 0 tallies.now }
-    ensures counts { AreSameCounts counters.old counters.new }
-    ensures kept { KeepsCounts counters.old counters.new }
-    ensures countable { IfOk result (λ v. AreCountable counters.new (map (λ p. p.tallies.items) v.items)) }
 {
     let mut next = tallies.len();
     let mut all = Vec::with_capacity(alloc, news.len())?;
@@ -131,7 +112,6 @@ pub fn placed(
         let found = place_of(store, module);
         let place = found.unwrap_or(next);
         let structs = scarce_structs(alloc, module)?;
-        counters.make_room(place as u16, counted_structs(&structs))?;
         all.push(Placed {
             place,
             tallies: tallies.extended(alloc, place, &structs)?,
@@ -167,12 +147,11 @@ fn is_too_much(placed: &[Placed], count: usize) -> bool
     count + count_behind(placed, count) > MOST_MODULES
 }
 
-/// Publishes a bundle, and says how many modules it has. Nothing but the counters' room changes where it is refused.
+/// Publishes a bundle, and says how many modules it has. Nothing changes where it is refused.
 fn join_bundle(
     alloc: Global,
     store: &mut Store,
     tallies: &mut Tallies,
-    counters: &mut Counters,
     bundle: &Bundle<'_>,
 ) -> Result<u64, Refusal>
     requires few { length store.old ≤ most_modules }
@@ -180,14 +159,11 @@ fn join_bundle(
     requires placed { length tallies.old ≡ length store.old }
     requires named { All (IsNamed (tables_in store.old)) (all_of tallies.old) }
     requires scarce { AreScarce (tables_in store.old) tallies.old }
-    requires countable { AreCountable counters.old tallies.old }
     ensures store { OnOk result (IsStore store.old) }
     ensures whole { OnOk result (IsStore store.new) }
     ensures room { OnOk result (length store.new ≤ most_modules) }
     ensures err { OnErr result (store.new ≡ store.old) }
     ensures kept { OnErr result (tallies.new ≡ tallies.old) }
-    ensures counts { AreSameCounts counters.old counters.new }
-    ensures countable { AreCountable counters.new tallies.new }
     ensures accepted { (payload : List ℕ) → IsShaped 1 payload (Publish bundle.now.sender (offers_of bundle.now.offers.items)) → IfOk result (λ n. IsAcceptedBy n store.old payload store.new) }
     ensures refused { (payload : List ℕ) → IsShaped 1 payload (Publish bundle.now.sender (offers_of bundle.now.offers.items)) → IfErr result (IsRefusedBy store.old payload) }
     ensures placed { length tallies.new ≡ length store.new }
@@ -198,7 +174,7 @@ fn join_bundle(
 {
     let news = all_verified(alloc, &bundle.offers)?;
     let published = store.len();
-    let placed = placed(alloc, store, tallies, counters, &news)?;
+    let placed = placed(alloc, store, tallies, &news)?;
     let count = news.len();
     let linked = link(store, Some(bundle.sender), news)?;
     if is_too_much(&placed, published) {
@@ -209,7 +185,7 @@ fn join_bundle(
 }
 
 /// Publishes the bundle that a payload has, and says how many modules it has: they join the store, and each of their structs
-/// with neither copy nor drop has the tally that it had, or an empty one, and room in the counters. What is counted stays.
+/// with neither copy nor drop has the tally that it had, or an empty one.
 ///
 /// # Errors
 ///
@@ -219,21 +195,17 @@ pub fn publish(
     alloc: Global,
     store: &mut Store,
     tallies: &mut Tallies,
-    counters: &mut Counters,
     payload: &[u8],
 ) -> Result<u64, Refusal>
     requires few { length store.old ≤ most_modules }
     requires placed { length tallies.old ≡ length store.old }
     requires named { All (IsNamed (tables_in store.old)) (all_of tallies.old) }
     requires scarce { AreScarce (tables_in store.old) tallies.old }
-    requires countable { AreCountable counters.old tallies.old }
     ensures store { OnOk result (IsStore store.old) }
     ensures whole { OnOk result (IsStore store.new) }
     ensures room { OnOk result (length store.new ≤ most_modules) }
     ensures err { OnErr result (store.new ≡ store.old) }
     ensures kept { OnErr result (tallies.new ≡ tallies.old) }
-    ensures counts { AreSameCounts counters.old counters.new }
-    ensures countable { AreCountable counters.new tallies.new }
     ensures accepted { IfOk result (λ n. IsAcceptedBy n store.old payload.now store.new) }
     ensures refused { IfErr result (IsRefusedBy store.old payload.now) }
     ensures placed { length tallies.new ≡ length store.new }
@@ -243,7 +215,7 @@ pub fn publish(
     ensures tallied { OnOk result (AddsTallies store.old store.new (all_of tallies.old) (all_of tallies.new)) }
 {
     match read_bundle(alloc, payload) {
-        Ok(bundle) => join_bundle(alloc, store, tallies, counters, &bundle),
+        Ok(bundle) => join_bundle(alloc, store, tallies, &bundle),
         Err(Refusal::Memory) => Err(Refusal::Memory),
         Err(Refusal::Phase(_)) => Err(Refusal::Phase(1)),
     }

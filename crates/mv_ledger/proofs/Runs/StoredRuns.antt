@@ -1,5 +1,5 @@
 -- What a run leaves is what the machine's run asks for.
-use Rattle.mv_ledger.proofs.Common.{◌+◌, ◌∙◌, ◌≡◌, List, Option, Some, ap, ap₂, arith, map, sym, true, ℕ, All-weaker, All, Module, PublishedModule, is_scarce_in, StructTally, Layers, FlatEntry}
+use Rattle.mv_ledger.proofs.Common.{◌+◌, ◌∙◌, ◌≡◌, List, Option, Some, ap, ap₂, arith, map, sym, ℕ, All-weaker, All, Module, PublishedModule, StructTally, Layers, FlatEntry}
 use Rattle.mv_ledger.proofs.Common.{storage_of, LedgerState, settled, Told, Tallied, Aborted, Exhausted, Faulted, Returned, RunOutcome, run, Storage, HasAborted, HasExhausted, HasReturned}
 use Rattle.mv_ledger.proofs.Common.{tables_in, Agrees, call_of, Arg, told, told_ending, IsSettled, run_of, tally_after, IsNamed, IsSmall, all_of, state_of, tallied, view_of, Call, Tally}
 use Rattle.std.proofs.Common.{refl, subst}
@@ -37,16 +37,15 @@ module _ (published : List PublishedModule) (call : Call) (stored new : List Fla
   told_as t u s x p q = ap₂ telling (sym p) (sym q)
 
   -- a run that returned leaves its storage, and the tallies with its own
-  pub settled-returned : (outcome : Outcome) (tally : List StructTally) (layers : Layers) → All (IsNamed modules) before → All (λ t. is_scarce_in modules t.place t.index ≡ true) before
-      → Agrees modules (run_of published stored call) outcome tally layers → outcome.ending ≡ HasReturned
+  pub settled-returned : (outcome : Outcome) (tally : List StructTally) (layers : Layers) → All (IsNamed modules) before → Agrees modules (run_of published stored call) outcome tally layers → outcome.ending ≡ HasReturned
       → new ≡ layers.current → after ≡ map (tally_after tally) before → IsSettled published call (told (Ran outcome)) stored new before after
-  settled-returned outcome tally layers named scarce agrees ended new_is after_is = λ runs. by_outcome runs (run_of published stored call) agrees
+  settled-returned outcome tally layers named agrees ended new_is after_is = λ runs. by_outcome runs (run_of published stored call) agrees
     where
       by_outcome : (runs : ℕ) (o : RunOutcome) → Agrees modules o outcome tally layers
           → settled (state_of (view_of published stored before runs)) o ≡ Some (told_ending outcome.ending outcome.steps, state_of (view_of published new after (runs + 1)))
       by_outcome runs (Returned steps storage events) h =
           told_as _ _ _ _ (ap (λ (x : Outcome). told_ending x.ending x.steps) h.0)
-          (ap₂ (after_runs runs) (ap (storage_of modules) new_is ∙ sym h.1) (ap (map (tallied modules)) after_is ∙ tallies-after published tally events before named scarce h.2))
+          (ap₂ (after_runs runs) (ap (storage_of modules) new_is ∙ sym h.1) (ap (map (tallied modules)) after_is ∙ tallies-after published tally events before named h.2))
       by_outcome runs (Aborted kind n steps) h = let clash : HasAborted kind n ≡ HasReturned = sym (ap (λ (x : Outcome). x.ending) h) ∙ ended in absurd cc
       by_outcome runs (Exhausted stop steps) h = let clash : HasExhausted stop ≡ HasReturned = sym (ap (λ (x : Outcome). x.ending) h) ∙ ended in absurd cc
       by_outcome runs (Faulted fault steps) h = absurd h

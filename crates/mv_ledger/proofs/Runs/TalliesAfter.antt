@@ -1,6 +1,6 @@
 -- Tallies after a run.
-use Rattle.mv_ledger.proofs.Common.{[], ◌+◌, ◌-◌, ◌^◌, ◌∙◌, ◌∷◌, ◌≡◌, ◌≤◌, List, Option, ap, ap₂, arith, map, refl, sym, true, ℕ, All-head, All-map, All-tail, All-weaker, All, unwrap_or, Module}
-use Rattle.mv_ledger.proofs.Common.{name_at, StructName, PublishedModule, is_scarce_in, Definition, packs_at, unpacks_at, Count, StructTally, tally_with, Tallied, packs, unpacks, Event, some-of}
+use Rattle.mv_ledger.proofs.Common.{[], ◌+◌, ◌-◌, ◌^◌, ◌∙◌, ◌∷◌, ◌≡◌, ◌≤◌, List, Option, ap, ap₂, arith, map, refl, sym, ℕ, All-head, All-map, All-tail, All-weaker, All, unwrap_or, Module}
+use Rattle.mv_ledger.proofs.Common.{name_at, StructName, PublishedModule, Definition, packs_at, unpacks_at, Count, StructTally, tally_with, Tallied, packs, unpacks, Event, some-of}
 use Rattle.mv_ledger.proofs.Common.{tables_in, nameless, AtMost, Tallies, tally_after, AreScarce, IsNamed, IsSmall, tallied, Tally}
 use Rattle.mv_frames.proofs.Tallied.{tallied-packs, tallied-unpacks}
 
@@ -17,16 +17,16 @@ map-then f g (x ∷ xs) = ap (λ ys. g (f x) ∷ ys) (map-then f g xs)
 module _ (published : List PublishedModule) where
   -- a struct's tally after a run
   tally-after : (run : List StructTally) (events : List Event) → Tallies (tables_in published) run events → (t : Tally)
-      → IsNamed (tables_in published) t × (is_scarce_in (tables_in published) t.place t.index ≡ true)
+      → IsNamed (tables_in published) t
       → tallied (tables_in published) (tally_after run t) ≡ tally_with events (tallied (tables_in published) t)
-  tally-after run events counted t (named, scarce) =
+  tally-after run events counted t named =
       let name = some-of (name_at (tables_in published) t.place t.index) named in
       let d : Definition = record { place = t.place; index = t.index } in
       let struct : name.0 ≡ unwrap_or (name_at (tables_in published) t.place t.index) nameless = ap (λ (o : Option StructName). unwrap_or o nameless) (sym name.1) in
       let made : packs_at t.place t.index run ≡ packs (unwrap_or (name_at (tables_in published) t.place t.index) nameless) events =
-      tallied-packs run d (did name.0) (counted.scarce t.place t.index name.0 name.1 scarce) ∙ ap (λ (s : StructName). packs s events) struct in
+      tallied-packs run d (did name.0) (counted.named t.place t.index name.0 name.1) ∙ ap (λ (s : StructName). packs s events) struct in
       let taken : unpacks_at t.place t.index run ≡ unpacks (unwrap_or (name_at (tables_in published) t.place t.index) nameless) events =
-      tallied-unpacks run d (did name.0) (counted.scarce t.place t.index name.0 name.1 scarce) ∙ ap (λ (s : StructName). unpacks s events) struct in
+      tallied-unpacks run d (did name.0) (counted.named t.place t.index name.0 name.1) ∙ ap (λ (s : StructName). unpacks s events) struct in
       ap₂ (λ (m n : ℕ). grown (unwrap_or (name_at (tables_in published) t.place t.index) nameless) (t.packs + m) (t.unpacks + n)) made taken
     where
       did : StructName → Count
@@ -37,13 +37,13 @@ module _ (published : List PublishedModule) where
 
 -- the tallies after a run
 pub tallies-after : (published : List PublishedModule) (run : List StructTally) (events : List Event) (ts : List Tally) → All (IsNamed (tables_in published)) ts
-    → All (λ t. is_scarce_in (tables_in published) t.place t.index ≡ true) ts → Tallies (tables_in published) run events
+    → Tallies (tables_in published) run events
     → map (tallied (tables_in published)) (map (tally_after run) ts) ≡ map (tally_with events) (map (tallied (tables_in published)) ts)
-tallies-after published run events ts named scarce counted =
+tallies-after published run events ts named counted =
     map-then (tally_after run) (tallied (tables_in published)) ts
-    ∙ map-where (λ t. IsNamed (tables_in published) t × (is_scarce_in (tables_in published) t.place t.index ≡ true)) (λ t. tallied (tables_in published) (tally_after run t))
+    ∙ map-where (IsNamed (tables_in published)) (λ t. tallied (tables_in published) (tally_after run t))
     (λ t. tally_with events (tallied (tables_in published) t))
-    (tally-after published run events counted) ts (λ k d lt. (named k d lt, scarce k d lt))
+    (tally-after published run events counted) ts named
     ∙ sym (map-then (tallied (tables_in published)) (tally_with events) ts)
 
 -- what a run with an admitted budget did is at most what a run may do, and fits in 64 bits

@@ -140,9 +140,9 @@ few_made modules runs (t ∷ ts) all =
     (omega (arith, small), few_made modules runs ts (All-tail (IsSmall runs) t ts all))
 
 -- a ledger with few stored values is
-pub ledger-savable : IsReadByText → (published : List PublishedModule) (stored : List FlatEntry) (tallies : List (List Tally)) (counters : List (List Count)) (runs : ℕ) → length stored < 2 ^ 63
-    → IsLedger published stored tallies counters runs → IsSavable (state_of (view_of published stored (all_of tallies) runs))
-ledger-savable reads published stored tallies counters runs few is =
+pub ledger-savable : IsReadByText → (published : List PublishedModule) (stored : List FlatEntry) (tallies : List (List Tally)) (runs : ℕ) → length stored < 2 ^ 63
+    → IsLedger published stored tallies runs → IsSavable (state_of (view_of published stored (all_of tallies) runs))
+ledger-savable reads published stored tallies runs few is =
     let as_many : length (map offered published) ≡ length published = length-map published offered in
     let room : length published ≤ 4096 = is.few in
     let values : length (storage_of (tables_in published) stored) ≡ length stored = length-map stored _ in

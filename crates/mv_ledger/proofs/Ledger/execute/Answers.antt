@@ -8,19 +8,19 @@ use Rattle.mv_ledger.proofs.Phases.{phase-no-memory}
 
 pub invariant_of-self : goal.invariant_of-self
 invariant_of-self c =
-    ledger-run c.self.inside.store c.self.inside.storage.committed c.execute-reply.new.storage.committed c.self.inside.tallies c.execute-reply.new.tallies c.self.inside.counters c.execute-reply.new.counters
+    ledger-run c.self.inside.store c.self.inside.storage.committed c.execute-reply.new.storage.committed c.self.inside.tallies c.execute-reply.new.tallies
     c.self.inside.runs c.execute-reply.ensures.stored c.execute-reply.ensures.placed c.execute-reply.ensures.scarce c.execute-reply.ensures.named (c.execute-reply.ensures.small c.self.inside.runs)
     c.in-Ok-admitted.ensures.runs
     (had_sound c.self.inside.store c.args.payload.now c.self.inside.storage.committed (all_of c.self.inside.tallies) c.self.inside.runs (request_of c.in-Ok.asked) c.in-Ok.ensures.ok c.self.invariant.sound
     c.in-Ok-admitted.call c.in-Ok-admitted.ensures.admitted c.execute-reply.new.storage.committed (all_of c.execute-reply.new.tallies) (told c.execute-reply.result)
-    (sym c.is_told.ensures ∙ c.if-is_told.true) c.execute-reply.ensures.settled) c.execute-reply.ensures.clear c.execute-reply.ensures.countable c.self.invariant
+    (sym c.is_told.ensures ∙ c.if-is_told.true) c.execute-reply.ensures.settled) c.self.invariant
 
 pub invariant_of-self-else-is_told : goal.invariant_of-self-else-is_told
 invariant_of-self-else-is_told c =
     let kept : IsKept c.self.inside.storage.committed c.execute-reply.new.storage.committed (all_of c.self.inside.tallies) (all_of c.execute-reply.new.tallies) =
     unchanged (told c.execute-reply.result) _ _ _ _ (sym c.is_told.ensures ∙ c.if-is_told.false) c.execute-reply.ensures.kept in
-    ledger-kept c.self.inside.store c.self.inside.storage.committed c.execute-reply.new.storage.committed c.self.inside.tallies c.execute-reply.new.tallies c.self.inside.counters c.execute-reply.new.counters
-    c.self.inside.runs kept.0 c.execute-reply.ensures.placed c.execute-reply.ensures.scarce kept.1 c.execute-reply.ensures.clear c.execute-reply.ensures.countable c.self.invariant
+    ledger-kept c.self.inside.store c.self.inside.storage.committed c.execute-reply.new.storage.committed c.self.inside.tallies c.execute-reply.new.tallies
+    c.self.inside.runs kept.0 c.execute-reply.ensures.placed c.execute-reply.ensures.scarce kept.1 c.self.invariant
 
 pub returns-after-is_told : goal.returns-after-is_told
 returns-after-is_told c =

@@ -5,5 +5,5 @@ use Rattle.mv_ledger.proofs.Ledger.is_savable.Goals as goal
 pub returns : goal.returns
 returns c =
     subst (λ (v : LedgerView). IsSavable (state_of v)) c.self.view_is
-    (ledger-savable c.modules_are_read_by_text.ensures c.self.inside.store c.self.inside.storage.committed c.self.inside.tallies c.self.inside.counters c.self.inside.runs c.iter-entries.ensures.few
+    (ledger-savable c.modules_are_read_by_text.ensures c.self.inside.store c.self.inside.storage.committed c.self.inside.tallies c.self.inside.runs c.iter-entries.ensures.few
     c.self.invariant)

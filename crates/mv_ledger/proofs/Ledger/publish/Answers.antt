@@ -8,12 +8,12 @@ use Rattle.mv_ledger.proofs.Ledger.publish.Goals.{in-Ok, in-Err-Phase, in-Err-Me
 
 pub invariant_of-self : goal.invariant_of-self
 invariant_of-self c =
-    ledger-published c.publish.result c.self.inside.store c.publish.new.store c.self.inside.storage.committed c.self.inside.tallies c.publish.new.tallies c.self.inside.counters c.publish.new.counters
+    ledger-published c.publish.result c.self.inside.store c.publish.new.store c.self.inside.storage.committed c.self.inside.tallies c.publish.new.tallies
     c.self.inside.runs c.publish.ensures.room (sized_published c.publish.result c.self.inside.store c.publish.new.store c.args.payload.now c.publish.ensures.accepted c.self.invariant.sized)
     (stays-fine c.publish.result c.self.inside.store c.publish.new.store c.args.payload.now c.self.inside.storage.committed c.publish.ensures.store c.publish.ensures.whole c.publish.ensures.accepted)
     c.publish.ensures.err c.publish.ensures.kept c.publish.ensures.placed c.publish.ensures.scarce c.publish.ensures.named (c.publish.ensures.small c.self.inside.runs c.self.invariant.small)
     (sound-published c.publish.result c.self.inside.store c.publish.new.store c.args.payload.now c.self.inside.storage.committed (all_of c.self.inside.tallies) (all_of c.publish.new.tallies) c.self.inside.runs
-    c.publish.ensures.whole c.publish.ensures.accepted c.publish.ensures.tallied c.self.invariant.fine c.self.invariant.sound) c.publish.ensures.counts c.publish.ensures.countable c.self.invariant
+    c.publish.ensures.whole c.publish.ensures.accepted c.publish.ensures.tallied c.self.invariant.fine c.self.invariant.sound) c.self.invariant
 
 pub returns : goal.returns
 returns c =

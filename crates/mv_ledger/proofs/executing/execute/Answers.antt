@@ -1,9 +1,8 @@
 use Rattle.mv_ledger.proofs.Common.{◌+◌, ◌-◌, ◌^◌, ◌∙◌, ◌≡◌, List, ap, map, refl, rules, subst, sym, All, StructTally, Layers, FlatEntry, tables_in, AtMost, IsFineWords, tally_after}
-use Rattle.mv_ledger.proofs.Common.{AreCountable, AreScarce, IsNamed, IsSmall, all_of, Tally}
+use Rattle.mv_ledger.proofs.Common.{AreScarce, IsNamed, IsSmall, all_of, Tally}
 use Rattle.mv_machine.specs.declared.Ending.TheVariants.{Returned}
-use Rattle.mv_ledger.proofs.Runs.Countable.{all-countable-kept, run-countable}
 use Rattle.mv_ledger.proofs.Runs.StoredRuns.{tallied-after, settled-returned, settled-kept, small-kept, runs-to}
-use Rattle.mv_ledger.proofs.Runs.ScarceTallies.{all-scarce, scarce-ordered}
+use Rattle.mv_ledger.proofs.Runs.ScarceTallies.{scarce-ordered}
 use Rattle.mv_ledger.proofs.Runs.TalliesAfter.{named-after, most-after, small-after, scarce-after}
 use Rattle.mv_ledger.proofs.executing.execute.Goals as goal
 use Rattle.mv_ledger.proofs.executing.execute.Goals.{then-eq, else-eq}
@@ -60,17 +59,6 @@ returns-after-eq-clause-scarce c =
       | else-eq w ↦ rw w.tallies-is c.requires.scarce
     ]
 
-pub returns-after-eq-clause-countable : goal.returns-after-eq-clause-countable
-returns-after-eq-clause-countable c =
-    let had = all-countable-kept c.args.counters.now c.run_over.new.counters c.args.tallies.now c.run_over.ensures.kept c.requires.countable in
-    elim c.if-eq.branch [
-      | then-eq w ↦ subst (AreCountable c.run_over.new.counters) (sym (w.tallies-is ∙ w.add_run.ensures)) (run-countable c.run_over.new.counters w.deref.result.now c.args.tallies.now had)
-      | else-eq w ↦ rw w.tallies-is had
-    ]
-
-pub returns-in-Err-Memory-clause-countable : goal.returns-in-Err-Memory-clause-countable
-returns-in-Err-Memory-clause-countable c = all-countable-kept c.args.counters.now c.run_over.new.counters c.args.tallies.now c.run_over.ensures.kept c.requires.countable
-
 pub returns-after-eq-clause-settled : goal.returns-after-eq-clause-settled
 returns-after-eq-clause-settled c =
     let layers : Layers = record { committed = c.args.storage.now.committed; current = c.run_over.new.storage.committed } in
@@ -80,8 +68,7 @@ returns-after-eq-clause-settled c =
           ap all_of w.tallies-is ∙ tallied-after c.in-Ok.tally.items w.deref.result.now c.args.tallies.now w.add_run.new.self w.add_run.ensures w.deref.ensures.value in
           let ended : c.in-Ok.outcome.ending ≡ Returned = search rules in
           settled-returned c.args.store.now c.args.call.now c.args.storage.now.committed c.run_over.new.storage.committed (all_of c.args.tallies.now) (all_of c.if-eq.tallies) c.in-Ok.outcome c.in-Ok.tally.items layers
-          c.requires.named
-          (all-scarce (tables_in c.args.store.now) c.args.tallies.now c.requires.scarce c.len-modules.ensures.placed) c.in-Ok.ensures.machine ended refl after
+          c.requires.named c.in-Ok.ensures.machine ended refl after
       | else-eq w ↦
           let other : c.in-Ok.outcome.ending ≡ Returned → ⊥ = search rules in
           settled-kept c.args.store.now c.args.call.now c.args.storage.now.committed c.run_over.new.storage.committed (all_of c.args.tallies.now) (all_of c.if-eq.tallies) c.in-Ok.outcome c.in-Ok.tally.items layers

@@ -1,6 +1,5 @@
 use Rattle.mv_ledger.proofs.Common.{◌∙◌, ◌≤◌, List, Some, ap, arith, length, subst, sym, length-map, err_from_is_err_and, PublishedModule, with_modules, IsStore, tables_in, published_of}
-use Rattle.mv_ledger.proofs.Common.{published_one, New, offers_of, AllPass, IsRefusedAmong, ArePlacedFor, AreCountable, Offered}
-use Rattle.mv_ledger.proofs.Runs.Countable.{all-countable-kept, with-placed-countable}
+use Rattle.mv_ledger.proofs.Common.{published_one, New, offers_of, AllPass, IsRefusedAmong, ArePlacedFor, Offered}
 use Rattle.mv_ledger.proofs.Bundles.Verifying.{as-many}
 use Rattle.mv_ledger.proofs.Phases.{refused_among, refused_link, refused_room, accepted}
 use Rattle.mv_ledger.proofs.Bundles.Joining.{IsPlacedBundle, few-offers, placed-length, joined-within, room-for, no-room-for, after-length, after-scarce, after-named, after-small, after-tallied}
@@ -105,9 +104,3 @@ returns-then-is_too_much-clause-refused c = λ payload asked.
     (subst (λ (xs : List Offered). AllPass (offers_of xs) (published_of c.in_ok-news.news.items)) c.deref.ensures.value c.in_ok-news.ensures.passed) c.in_ok-linked.ensures.joins
     (no-room-for _ _ _ _ _ (bundle-of (goal.at.returns-then-is_too_much-clause-refused c).In_ok-linked)
     c.len-published.result c.deref-3.result.now c.len-published.ensures.count c.deref-3.ensures.value (sym c.is_too_much.ensures ∙ c.if-is_too_much.true))
-
-pub returns-clause-countable : goal.returns-clause-countable
-returns-clause-countable c =
-    let counters = c.placed.new.counters in
-    let had = all-countable-kept c.args.counters.now counters c.args.tallies.now c.in_ok-placed.ensures.kept c.requires.countable in
-    subst (AreCountable counters) (sym c.in_ok-join.ensures.tallied) (with-placed-countable counters c.args.tallies.now c.in_ok-placed.placed.items had c.in_ok-placed.ensures.countable)
