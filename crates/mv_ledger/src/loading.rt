@@ -96,8 +96,8 @@ fn read_stored(
     joined: &mut Joined,
 ) -> Result<Storage, LoadError>
     requires begun { (bytes : List ℕ) × BeginsWith bytes (head_of head.now) reader.old }
-    requires joined { AreJoined (offers_of head.now.offers.items) joined.old.store joined.old.tallies joined.old.counters }
-    ensures whole { IfOk result (λ s. IsLedger joined.new.store s.committed joined.new.tallies joined.new.counters head.now.runs) }
+    requires joined { AreJoined (offers_of head.now.offers.items) joined.old.store joined.old.tallies }
+    ensures whole { IfOk result (λ s. IsLedger joined.new.store s.committed joined.new.tallies head.now.runs) }
     ensures loaded { (bytes : List ℕ) → BeginsWith bytes (head_of head.now) reader.old
         → IfOk result (λ s. IsLoaded bytes (state_of (view_of joined.new.store s.committed (all_of joined.new.tallies) head.now.runs))) }
     ensures refused { (bytes : List ℕ) → BeginsWith bytes (head_of head.now) reader.old → IfErr result (IsLoadRefusal bytes) }
@@ -126,7 +126,6 @@ fn load_after(alloc: Global, reader: &mut Reader<'_>, head: &Head<'_>) -> Result
         store: joined.store,
         storage,
         tallies: joined.tallies,
-        counters: joined.counters,
         runs: head.runs,
     })
 }

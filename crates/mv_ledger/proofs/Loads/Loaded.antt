@@ -12,7 +12,6 @@ use Rattle.mv_ledger.specs.declared.loading.LoadError.{LoadError}
 use Rattle.mv_ledger.specs.declared.loading.LoadError.TheVariants.{Memory}
 use Rattle.mv_ledger.proofs.Accepted.Stores.{accepted_store}
 use Rattle.mv_ledger.proofs.Loads.LoadedHead.{head-parts, head-whole, head-had}
-use Rattle.mv_ledger.proofs.Runs.Countable.{still-countable}
 use Rattle.mv_ledger.proofs.Loads.LoadedTallies.{counts-are, still-long, still-many, still-scarce, still-named, still-tallied}
 use Rattle.mv_ledger.proofs.Spelling.{passed-spelled}
 use Rattle.mv_ledger.proofs.Bundles.Verifying.{as-many}
@@ -75,7 +74,7 @@ module _ (bytes : List ℕ) (head : SavedHead) (rest : List ℕ) (are : AreBytes
   pub few-joined : (ps : List PublishedModule) → AllPass head.offers ps → length ps ≤ 4096
   few-joined ps passed = omega (arith, as-many head.offers ps passed, head-few)
 
-  module _ (ps : List PublishedModule) (tss : List (List Tally)) (counters : List (List Count)) (joined : AreJoined head.offers ps tss counters) where
+  module _ (ps : List PublishedModule) (tss : List (List Tally)) (joined : AreJoined head.offers ps tss) where
     -- a text of these modules ends in a body
     text-body : (s : LedgerState) → s.published ≡ ps → IsSavedText head.form bytes s → IsBody head.form (tables_in s.published) rest s.tallies s.storage
     text-body s is text =
@@ -182,7 +181,7 @@ module _ (bytes : List ℕ) (head : SavedHead) (rest : List ℕ) (are : AreBytes
         }
 
         -- as a ledger
-        pub is-ledger : IsLedger ps stored uss counters head.runs
+        pub is-ledger : IsLedger ps stored uss head.runs
         is-ledger = record {
           few = few-joined ps joined.passed;
           sized = subst (λ (os : List Offer). IsTrue (list_all offer_fits os)) (sym offers-are) head-is.sized;
@@ -191,8 +190,6 @@ module _ (bytes : List ℕ) (head : SavedHead) (rest : List ℕ) (are : AreBytes
           scarce = still-scarce (tables_in ps) tss uss kept joined.scarce;
           named = still-named (tables_in ps) tss uss kept joined.named;
           small = small-counts (tables_in ps) head.runs (storage_of (tables_in ps) stored) (all_of uss) counted;
-          clear = joined.clear;
-          countable = still-countable counters tss uss kept joined.countable;
           counted = head-is.had;
           sound = sound;
         }

@@ -1,8 +1,8 @@
 -- Modules of a saved ledger that are published: what is kept of them, and that they are linked where they are those of the offers.
 use Rattle.mv_ledger.proofs.Common.{[], ◌++◌, ◌∙◌, ◌∷◌, ◌≡◌, Bool, IsTrue, List, None, Option, Some, ap, append-nil, append_assoc, ap₂, arith, cond, false, length, map, refl, subst, sym, ℕ, and_parts}
 use Rattle.mv_ledger.proofs.Common.{list_any, find, not, unwrap_or, Module, StructName, same_struct, PublishedModule, with_module, with_modules, IsRefusedIn, Refusal, Memory, Phase, all_differ}
-use Rattle.mv_ledger.proofs.Common.{AreSameCounts, Count, Offer, scarce_structs, tally_of, untouched_tally, Tallied, same_struct-is, IsStore, tables_in, Links, AreLinked, AreJoined, AreNotJoined}
-use Rattle.mv_ledger.proofs.Common.{IsGathered, MayFollow, reason_of, AllPass, IsRefusedAmong, ArePlacedFor, AreWithin, with_placed, AreCountable, ArePlaced, all_of, tallied, NoLink, NoModule}
+use Rattle.mv_ledger.proofs.Common.{Offer, scarce_structs, tally_of, untouched_tally, Tallied, same_struct-is, IsStore, tables_in, Links, AreLinked, AreJoined, AreNotJoined}
+use Rattle.mv_ledger.proofs.Common.{IsGathered, MayFollow, reason_of, AllPass, IsRefusedAmong, ArePlacedFor, AreWithin, with_placed, ArePlaced, all_of, tallied, NoLink, NoModule}
 use Rattle.mv_ledger.proofs.Common.{Placed, Tally}
 use Rattle.mv_linker.specs.Link.{have_one_name}
 use Rattle.mv_interpreter.proofs.Guided.Tiles.{find-has}
@@ -74,17 +74,16 @@ structs-of olds [] = refl
 structs-of olds (s ∷ ss) = ap₂ (λ (x : StructName) (xs : List StructName). x ∷ xs) (struct-of olds s) (structs-of olds ss)
 
 -- each of more of them is placed among those that are there by then
-pub more-within : (old ps : List PublishedModule) (tss : List (List Tally)) (counters : List (List Count)) → IsGathered old tss counters → (placed : List Placed)
+pub more-within : (old ps : List PublishedModule) (tss : List (List Tally)) → IsGathered old tss → (placed : List Placed)
     → ArePlacedFor (tables_in old) tss (length old) (tables_in ps) placed → ArePlaced 0 tss → MayFollow old ps → IsStore (with_modules old ps) → AreWithin (length tss) placed
-more-within old ps tss counters gathered placed at theirs join whole =
+more-within old ps tss gathered placed at theirs join whole =
     joined-within old ps tss placed None (record { store = gathered.store; whole = whole; join = join; at = at; theirs = theirs; scarce = gathered.scarce }) gathered.placed
 
-module _ (old ps : List PublishedModule) (tss : List (List Tally)) (counters : List (List Count)) (gathered : IsGathered old tss counters) (placed : List Placed)
+module _ (old ps : List PublishedModule) (tss : List (List Tally)) (gathered : IsGathered old tss) (placed : List Placed)
     (at : ArePlacedFor (tables_in old) tss (length old) (tables_in ps) placed) (theirs : ArePlaced 0 tss) (join : MayFollow old ps) (whole : IsStore (with_modules old ps)) where
   -- more of them joined
-  pub more-gathered : (store : List PublishedModule) (tallies : List (List Tally)) (now : List (List Count)) → store ≡ with_modules old ps → tallies ≡ with_placed tss placed
-      → AreSameCounts counters now → AreCountable now tallies → IsGathered store tallies now
-  more-gathered store tallies now store_is tallies_are counts countable =
+  pub more-gathered : (store : List PublishedModule) (tallies : List (List Tally)) → store ≡ with_modules old ps → tallies ≡ with_placed tss placed → IsGathered store tallies
+  more-gathered store tallies store_is tallies_are =
       let bundle : IsPlacedBundle old ps tss placed None = record { store = gathered.store; whole = whole; join = join; at = at; theirs = theirs; scarce = gathered.scarce } in
       record {
         store = subst IsStore (sym store_is) whole;
@@ -94,14 +93,11 @@ module _ (old ps : List PublishedModule) (tss : List (List Tally)) (counters : L
         tallied =
             ap (map (λ (t : Tallied). t.struct)) (after-tallied old ps tss placed None bundle store tallies store_is tallies_are gathered.named)
             ∙ structs-of (map (tallied (tables_in old)) (all_of tss)) (scarce_structs (tables_in store));
-        clear = λ d. counts d ∙ gathered.clear d;
-        countable = countable;
       }
 
 -- where they are those of the offers, these joined
-pub gathered-joined : (offers : List Offer) (ps : List PublishedModule) (tss : List (List Tally)) (counters : List (List Count)) → AllPass offers ps → IsGathered ps tss counters
-    → AreJoined offers ps tss counters
-gathered-joined offers ps tss counters passed gathered = record {
+pub gathered-joined : (offers : List Offer) (ps : List PublishedModule) (tss : List (List Tally)) → AllPass offers ps → IsGathered ps tss → AreJoined offers ps tss
+gathered-joined offers ps tss passed gathered = record {
   passed = passed;
   linked = record { once = gathered.store.once; links = gathered.store.links };
   store = gathered.store;
@@ -109,17 +105,13 @@ gathered-joined offers ps tss counters passed gathered = record {
   scarce = gathered.scarce;
   named = gathered.named;
   tallied = gathered.tallied;
-  clear = gathered.clear;
-  countable = gathered.countable;
 }
 
-pub joined-gathered : (offers : List Offer) (ps : List PublishedModule) (tss : List (List Tally)) (counters : List (List Count)) → AreJoined offers ps tss counters → IsGathered ps tss counters
-joined-gathered offers ps tss counters joined = record {
+pub joined-gathered : (offers : List Offer) (ps : List PublishedModule) (tss : List (List Tally)) → AreJoined offers ps tss → IsGathered ps tss
+joined-gathered offers ps tss joined = record {
   store = joined.store;
   placed = joined.placed;
   scarce = joined.scarce;
   named = joined.named;
   tallied = joined.tallied;
-  clear = joined.clear;
-  countable = joined.countable;
 }

@@ -24,8 +24,6 @@ use Rattle.mv_machine.specs.Ledger.{Offer, scarce_structs}
 use Rattle.mv_machine.specs.Lines.{Tallied}
 use Rattle.mv_machine.specs.State.{Storage}
 use Rattle.mv_storage.specs.FlatStorage.{FlatStorage}
-use Rattle.mv_frames.specs.Counters.{IsClear}
-use Rattle.mv_frames.specs.declared.counters.Count.{Count}
 use Rattle.mv_certificate.specs.Certificate.{Certificate}
 use Rattle.mv_linker.specs.Link.{IsStore, MayJoin, tables_in}
 use Rattle.mv_ledger.specs.declared.loading.LoadError.{LoadError}
@@ -38,7 +36,7 @@ use Rattle.mv_ledger.specs.Loading.{AreLinked}
 use Rattle.mv_ledger.specs.Payloads.{offer_from}
 use Rattle.mv_ledger.specs.Publishing.{AllPass, FailsAmong, Passes}
 use Rattle.mv_ledger.specs.SavedText.{Form, First, Second}
-use Rattle.mv_ledger.specs.View.{AreCountable, all_of, tallied, AreScarce, IsNamed}
+use Rattle.mv_ledger.specs.View.{all_of, tallied, AreScarce, IsNamed}
 
 -- why bytes are not loaded where a part of them is refused
 abbrev pub reason_of : LoadError → Refusal → LoadError
@@ -89,8 +87,7 @@ pub record BeginsWith (bytes : List ℕ) (head : SavedHead) (rest : List ℕ) : 
 -- ---- the modules
 
 -- The offers pass and are linked, as these modules, and there is a tally of each of their structs with neither copy nor drop.
--- Nothing is counted in the counters, which have room for each of those structs.
-pub record AreJoined (offers : List Offer) (published : List PublishedModule) (tallies : List (List Tally)) (counters : List (List Count)) : Type 0 where
+pub record AreJoined (offers : List Offer) (published : List PublishedModule) (tallies : List (List Tally)) : Type 0 where
   pub passed : AllPass offers published
   pub linked : AreLinked published
   pub store : IsStore published
@@ -98,19 +95,15 @@ pub record AreJoined (offers : List Offer) (published : List PublishedModule) (t
   pub scarce : AreScarce (tables_in published) tallies
   pub named : All (IsNamed (tables_in published)) (all_of tallies)
   pub tallied : map (λ t. t.struct) (map (tallied (tables_in published)) (all_of tallies)) ≡ scarce_structs (tables_in published)
-  pub clear : IsClear counters
-  pub countable : AreCountable counters tallies
 
--- What published modules have, whichever they are: they are linked, there is a tally of each of their structs with neither copy nor
--- drop, and nothing is counted in the counters, which have room for each of those structs.
-pub record IsGathered (published : List PublishedModule) (tallies : List (List Tally)) (counters : List (List Count)) : Type 0 where
+-- What published modules have, whichever they are: they are linked, and there is a tally of each of their structs with neither copy
+-- nor drop.
+pub record IsGathered (published : List PublishedModule) (tallies : List (List Tally)) : Type 0 where
   pub store : IsStore published
   pub placed : length tallies ≡ length published
   pub scarce : AreScarce (tables_in published) tallies
   pub named : All (IsNamed (tables_in published)) (all_of tallies)
   pub tallied : map (λ t. t.struct) (map (tallied (tables_in published)) (all_of tallies)) ≡ scarce_structs (tables_in published)
-  pub clear : IsClear counters
-  pub countable : AreCountable counters tallies
 
 -- more modules may join those that are there, whoever sends them
 abbrev pub MayFollow : List PublishedModule → List PublishedModule → Type 0

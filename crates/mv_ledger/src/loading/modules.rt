@@ -11,7 +11,6 @@ use crate::loading::{LoadError, because};
 use crate::payload::Offered;
 use crate::publishing::{all_verified, placed};
 use crate::tallies::Tallies;
-use mv_frames::Counters;
 use mv_linker::{New, Store, link};
 use mv_move_types::Refusal;
 use std::alloc::Global;
@@ -21,18 +20,16 @@ use std::alloc::Global;
 pub struct Joined {
     pub store: Store,
     pub tallies: Tallies,
-    pub counters: Counters,
 }
 
 impl Joined {
     /// What a ledger has that has no modules.
     pub fn new(alloc: Global) -> Self
-        ensures { AreJoined [] result.store result.tallies result.counters }
+        ensures { AreJoined [] result.store result.tallies }
     {
         Joined {
             store: Store::new(alloc),
             tallies: Tallies::new(alloc),
-            counters: Counters::new(alloc),
         }
     }
 
@@ -44,13 +41,13 @@ impl Joined {
     pub fn publish(&mut self, alloc: Global, news: Vec<New<'_>>) -> Result<(), Refusal>
         requires texts { AreTexts news.items }
         requires few { length self.old.store + length news.items < 65536 }
-        requires gathered { IsGathered self.old.store self.old.tallies self.old.counters }
-        ensures gathered { OnOk result (IsGathered self.new.store self.new.tallies self.new.counters) }
+        requires gathered { IsGathered self.old.store self.old.tallies }
+        ensures gathered { OnOk result (IsGathered self.new.store self.new.tallies) }
         ensures store { OnOk result (self.new.store ≡ with_modules self.old.store (published_of news.entry.items)) }
         ensures joins { OnOk result (MayFollow self.old.store (published_of news.entry.items)) }
         ensures refused { IfErr result (IsRefusedIn 13 (MayFollow self.old.store (published_of news.entry.items))) }
     {
-        let placed = placed(alloc, &self.store, &self.tallies, &mut self.counters, &news)?;
+        let placed = placed(alloc, &self.store, &self.tallies, &news)?;
         let linked = link(&self.store, None, news)?;
         self.tallies.join(&mut self.store, linked, placed)?;
         Ok(())
@@ -64,8 +61,8 @@ impl Joined {
     /// growth was refused.
     fn join_together(&mut self, alloc: Global, offers: &[Offered<'_>]) -> Result<(), LoadError>
         requires few { length offers.now ≤ most_modules }
-        requires empty { AreJoined [] self.old.store self.old.tallies self.old.counters }
-        ensures joined { OnOk result (AreJoined (offers_of offers.now) self.new.store self.new.tallies self.new.counters) }
+        requires empty { AreJoined [] self.old.store self.old.tallies }
+        ensures joined { OnOk result (AreJoined (offers_of offers.now) self.new.store self.new.tallies) }
         ensures refused { IfErr result (AreNotJoined (offers_of offers.now)) }
     {
         let news = match all_verified(alloc, offers) {
@@ -87,8 +84,8 @@ impl Joined {
     /// was refused.
     pub fn join_offers(&mut self, alloc: Global, offers: &[Offered<'_>]) -> Result<(), LoadError>
         requires few { length offers.now ≤ most_modules }
-        requires empty { AreJoined [] self.old.store self.old.tallies self.old.counters }
-        ensures joined { OnOk result (AreJoined (offers_of offers.now) self.new.store self.new.tallies self.new.counters) }
+        requires empty { AreJoined [] self.old.store self.old.tallies }
+        ensures joined { OnOk result (AreJoined (offers_of offers.now) self.new.store self.new.tallies) }
         ensures refused { IfErr result (AreNotJoined (offers_of offers.now)) }
     {
         if self.join_singly(alloc, offers)? {

@@ -67,8 +67,8 @@ impl Joined {
     /// are too many.
     fn publish_one(&mut self, alloc: Global, new: New<'_>) -> Result<bool, AllocError>
         requires texts { HasItsTexts new }
-        requires gathered { IsGathered self.old.store self.old.tallies self.old.counters }
-        ensures { IfOk result (λ done. done ≡ true → IsGathered self.new.store self.new.tallies self.new.counters) }
+        requires gathered { IsGathered self.old.store self.old.tallies }
+        ensures { IfOk result (λ done. done ≡ true → IsGathered self.new.store self.new.tallies) }
     {
         if self.store.len() > MOST_MODULES {
             return Ok(false);
@@ -83,8 +83,8 @@ impl Joined {
 
     /// Publishes an offered module, and says whether it could be.
     fn publish_offer(&mut self, alloc: Global, offer: &Offered<'_>) -> Result<bool, AllocError>
-        requires { IsGathered self.old.store self.old.tallies self.old.counters }
-        ensures { IfOk result (λ done. done ≡ true → IsGathered self.new.store self.new.tallies self.new.counters) }
+        requires { IsGathered self.old.store self.old.tallies }
+        ensures { IfOk result (λ done. done ≡ true → IsGathered self.new.store self.new.tallies) }
     {
         match verified(alloc, offer) {
             Ok(new) => self.publish_one(alloc, new),
@@ -100,8 +100,8 @@ impl Joined {
         address: u128,
         name: &[u8],
     ) -> Result<bool, AllocError>
-        requires { IsGathered self.old.store self.old.tallies self.old.counters }
-        ensures { IfOk result (λ done. done ≡ true → IsGathered self.new.store self.new.tallies self.new.counters) }
+        requires { IsGathered self.old.store self.old.tallies }
+        ensures { IfOk result (λ done. done ≡ true → IsGathered self.new.store self.new.tallies) }
     {
         let stub = Stub::new(alloc, address, name)?;
         let offer = stub.offer();
@@ -116,8 +116,8 @@ impl Joined {
         stub: Option<(u128, &[u8])>,
     ) -> Result<bool, AllocError>
         requires texts { HasItsTexts new }
-        requires gathered { IsGathered self.old.store self.old.tallies self.old.counters }
-        ensures { IfOk result (λ done. done ≡ true → IsGathered self.new.store self.new.tallies self.new.counters) }
+        requires gathered { IsGathered self.old.store self.old.tallies }
+        ensures { IfOk result (λ done. done ≡ true → IsGathered self.new.store self.new.tallies) }
     {
         match stub {
             None => self.publish_one(alloc, new),
@@ -140,8 +140,8 @@ impl Joined {
         offer: &Offered<'_>,
         stubs: &mut Stubs,
     ) -> Result<bool, Refusal>
-        requires { IsGathered self.old.store self.old.tallies self.old.counters }
-        ensures gathered { IfOk result (λ done. done ≡ true → IsGathered self.new.store self.new.tallies self.new.counters) }
+        requires { IsGathered self.old.store self.old.tallies }
+        ensures gathered { IfOk result (λ done. done ≡ true → IsGathered self.new.store self.new.tallies) }
         ensures passed { OnOk result (IsPassed (offer_of offer.now)) }
         ensures refused { IfErr result (IsRefusedOffer (offer_of offer.now)) }
     {
@@ -163,8 +163,8 @@ impl Joined {
         offers: &[Offered<'_>],
         stubs: &mut Stubs,
     ) -> Result<bool, Refusal>
-        requires { IsGathered self.old.store self.old.tallies self.old.counters }
-        ensures gathered { IfOk result (λ done. done ≡ true → IsGathered self.new.store self.new.tallies self.new.counters) }
+        requires { IsGathered self.old.store self.old.tallies }
+        ensures gathered { IfOk result (λ done. done ≡ true → IsGathered self.new.store self.new.tallies) }
         ensures refused { IfErr result (IsRefusedAmong (offers_of offers.now)) }
     {
         'each: for offer in offers {
@@ -183,8 +183,8 @@ impl Joined {
         stubs: &Stubs,
     ) -> Result<bool, AllocError>
         requires few { length offers.now ≤ most_modules }
-        requires gathered { IsGathered self.old.store self.old.tallies self.old.counters }
-        ensures { IfOk result (λ done. done ≡ true → IsGathered self.new.store self.new.tallies self.new.counters) }
+        requires gathered { IsGathered self.old.store self.old.tallies }
+        ensures { IfOk result (λ done. done ≡ true → IsGathered self.new.store self.new.tallies) }
     {
         let order = match order(alloc, &self.store, stubs, offers) {
             Ok(order) => order,
@@ -209,8 +209,8 @@ impl Joined {
     /// `Module`, where one of them fails one of phases 2 to 12; `Memory`, where a growth was refused.
     pub fn join_singly(&mut self, alloc: Global, offers: &[Offered<'_>]) -> Result<bool, LoadError>
         requires few { length offers.now ≤ most_modules }
-        requires empty { AreJoined [] self.old.store self.old.tallies self.old.counters }
-        ensures joined { IfOk result (λ done. done ≡ true → AreJoined (offers_of offers.now) self.new.store self.new.tallies self.new.counters) }
+        requires empty { AreJoined [] self.old.store self.old.tallies }
+        ensures joined { IfOk result (λ done. done ≡ true → AreJoined (offers_of offers.now) self.new.store self.new.tallies) }
         ensures refused { IfErr result (AreNotJoined (offers_of offers.now)) }
     {
         let mut stubs = Stubs::new(alloc);

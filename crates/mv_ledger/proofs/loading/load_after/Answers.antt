@@ -17,7 +17,7 @@ returns-in_err-join_offers-clause-refused c = λ bytes begun.
 pub read_stored-requires-clause-joined : goal.read_stored-requires-clause-joined
 read_stored-requires-clause-joined c =
     let j = c.join_offers.new.self in
-    subst (λ (os : List Offered). AreJoined (offers_of os) j.store j.tallies j.counters) c.deref.ensures.value c.in_ok-join_offers.ensures.joined
+    subst (λ (os : List Offered). AreJoined (offers_of os) j.store j.tallies) c.deref.ensures.value c.in_ok-join_offers.ensures.joined
 
 pub returns-in_err-storage-clause-refused : goal.returns-in_err-storage-clause-refused
 returns-in_err-storage-clause-refused c = λ bytes begun.

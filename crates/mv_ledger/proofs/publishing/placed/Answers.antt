@@ -16,6 +16,6 @@ each-preserved c =
       | else-is_none w ↦ w.next-is ∙ ap (λ (b : Bool). cond b (c.each.next + 1) c.each.next) (sym w.if-is_none.false ∙ none-so c.place_of-found.result c.is_none.result c.is_none.ensures)
     ] in
     placing-more c.args.store.now c.args.tallies.now c.args.news.now c.each.new-index c.each.all.items c.each.next c.module-module.result.now c.place_of-found.result
-    c.new-item.result c.push.new.self.items (record { place = c.unwrap_or-place.result; tallies = c.in_ok-extended.field-0 }) c.deref-in-each.result.now
+    c.new-item.result c.push.new.self.items (record { place = c.unwrap_or-place.result; tallies = c.in_ok-extended.field-0 }) c.deref.result.now
     c.each.invariant c.each-test.true (c.module-module.ensures.value ∙ ap (λ (n : New). n.module) c.new-item.is) c.place_of-found.ensures c.unwrap_or-place.ensures
-    c.in_ok-extended.ensures (c.deref-in-each.ensures.value ∙ c.in_ok-structs.ensures) c.in_ok-push.ensures.items c.if-is_none.next next
+    c.in_ok-extended.ensures (c.deref.ensures.value ∙ c.in_ok-structs.ensures) c.in_ok-push.ensures.items c.if-is_none.next next

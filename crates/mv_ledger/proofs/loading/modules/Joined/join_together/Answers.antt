@@ -10,7 +10,7 @@ publish-requires-clause-few c =
     omega (arith, many, none, length-map c.in-Ok.news.items published_one, length-map c.args.offers.now offer_of, c.requires.few)
 
 pub publish-requires-clause-gathered : goal.publish-requires-clause-gathered
-publish-requires-clause-gathered c = joined-gathered _ _ _ _ c.requires.empty
+publish-requires-clause-gathered c = joined-gathered _ _ _ c.requires.empty
 
 pub returns-in-Err-clause-refused : goal.returns-in-Err-clause-refused
 returns-in-Err-clause-refused c =
@@ -20,7 +20,7 @@ pub returns-in-Ok-publish-clause-joined : goal.returns-in-Ok-publish-clause-join
 returns-in-Ok-publish-clause-joined c =
     let ps = published_of c.in-Ok.news.items in
     let all = c.in-Ok-publish.ensures.store ∙ all-there c.args.self.now.store ps c.requires.empty.passed c.in-Ok-publish.ensures.joins in
-    gathered-joined (offers_of c.args.offers.now) c.publish.new.self.store c.publish.new.self.tallies c.publish.new.self.counters
+    gathered-joined (offers_of c.args.offers.now) c.publish.new.self.store c.publish.new.self.tallies
     (subst (λ (qs : List PublishedModule). AllPass (offers_of c.args.offers.now) qs) (sym all) c.in-Ok.ensures.passed) c.in-Ok-publish.ensures.gathered
 
 pub returns-in-Err-publish-clause-refused : goal.returns-in-Err-publish-clause-refused

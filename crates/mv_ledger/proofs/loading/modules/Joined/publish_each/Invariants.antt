@@ -4,6 +4,6 @@ use Rattle.mv_ledger.proofs.loading.modules.Joined.publish_each.Given as goal
 
 abbrev pub invariant-each : goal.invariant-each
 invariant-each l = record {
-  gathered : IsGathered l.self.store l.self.tallies l.self.counters;
+  gathered : IsGathered l.self.store l.self.tallies;
   passed : HavePassed l.offers l.offer-index;
 }
