@@ -21,6 +21,7 @@ impl Store {
     pub fn codes(&self) -> &[Code]
         ensures code { program result.now ≡ program_of (tables_in self.now) }
         ensures store { IsStore self.now }
+        ensures few { length self.now ≤ 65536 }
     {
         &self.codes
     }
