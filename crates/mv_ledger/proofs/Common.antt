@@ -42,7 +42,7 @@ pub use Rattle.mv_move_types.specs.Options.{◌>>=◌, find_index}
 pub use Rattle.mv_move_types.specs.Published.{PublishedModule, has_name_of, with_module, with_modules}
 pub use Rattle.mv_move_types.specs.Refusals.{IsRefusedIn}
 pub use Rattle.mv_move_types.specs.Results.{◌>>◌, for_each, need}
-pub use Rattle.mv_move_types.specs.Scarce.{is_scarce_struct}
+pub use Rattle.mv_move_types.specs.Scarce.{is_scarce_struct, is_scarce_at, is_scarce_in}
 pub use Rattle.mv_move_types.specs.Tags.{LeafTag, ReferenceTag, StructTag, Tag, same_tag}
 pub use Rattle.mv_move_types.specs.Tokens.{same_kind, width_bits}
 pub use Rattle.mv_move_types.specs.declared.instruction.Instruction.TheVariants.{CopyLoc, ImmBorrowGlobal, ImmBorrowLoc, MoveFrom, MoveLoc, MoveTo, Pack, Pop, Ret, StLoc, Unpack}

@@ -1,5 +1,5 @@
 -- What a ledger holds, and the machine's state that it stands for.
-use Rattle.std.specs.Prelude.{◌≡◌, ℕ, ◌+◌, ◌*◌, ◌≤◌, List, [], ◌∷◌, map, length, All, IsSome, IsTrue, unwrap_or}
+use Rattle.std.specs.Prelude.{◌≡◌, ℕ, ◌+◌, ◌*◌, ◌≤◌, List, [], ◌∷◌, map, length, All, IsSome, IsTrue, unwrap_or, true}
 use Rattle.std.specs.List.{flat_map, filter, list_all, enumerate_from}
 use Rattle.mv_move_types.specs.Limits.{most_modules, most_runs, most_steps}
 use Rattle.mv_move_types.specs.Module.{Module, name_at}
@@ -8,7 +8,7 @@ use Rattle.mv_machine.specs.Flat.{FlatEntry, storage_of}
 use Rattle.mv_machine.specs.Lines.{Tallied}
 use Rattle.mv_machine.specs.Ledger.{LedgerState}
 use Rattle.mv_linker.specs.Link.{tables_in}
-use Rattle.mv_move_types.specs.Scarce.{is_scarce_struct}
+use Rattle.mv_move_types.specs.Scarce.{is_scarce_struct, is_scarce_in}
 use Rattle.mv_interpreter.specs.Runs.{IsFineWords}
 use Rattle.mv_interpreter.specs.Flat.Agreement.{nameless}
 use Rattle.mv_ledger.specs.declared.tallies.Tally.{Tally}
@@ -72,6 +72,12 @@ AreScarce [] [] = Unit {0}
 AreScarce [] (ts ∷ tss) = ⊥
 AreScarce (m ∷ ms) [] = ⊥
 AreScarce (m ∷ ms) (ts ∷ tss) = (map (λ t. t.index) ts ≡ scarce_indices m) × AreScarce ms tss
+
+-- So each tally of modules, which stand by their places, is of a struct with neither copy nor drop.
+abbrev pub EachTallyIsScarce : Type 0
+EachTallyIsScarce =
+    (modules : List Module) (tallies : List (List Tally)) → AreScarce modules tallies → ArePlaced 0 tallies
+    → All (λ t. is_scarce_in modules t.place t.index ≡ true) (all_of tallies)
 
 -- the texts and the certificates that modules came in are bytes, and no longer than those of a bundle
 abbrev pub AreSized : List PublishedModule → Type 0

@@ -4,6 +4,7 @@ ghost use Rattle.mv_ledger.specs.Counting.Headline.{EveryCountIsTallied};
 ghost use Rattle.mv_ledger.specs.Counting.Conservation.{EveryRunIsOwnWork, EveryRunConserves};
 ghost use Rattle.mv_ledger.specs.Accepted.Records.{EachRecordIsWell};
 ghost use Rattle.mv_ledger.specs.Plain.{NoTextIsEscaped};
+ghost use Rattle.mv_ledger.specs.View.{EachTallyIsScarce};
 ghost use Rattle.mv_ledger.specs.SavedLaws.{EachLedgerHasOneText, EachTextHasOneLedger, EachSaveIsLoaded, EachLoadIsSound, EachLoadIsOne, EachLoadIsSaved, EachSecondFormComesBack, NoLoadFails};
 
 /// Whatever a record asks of a sound ledger, its run ends as it should, and the ledger that its answer leaves is balanced and
@@ -28,6 +29,11 @@ pub fn every_run_conserves()
 /// The count that an audit answers is what was packed less what was unpacked.
 pub fn every_count_is_tallied()
     ensures { EveryCountIsTallied }
+{}
+
+/// Each tally that a ledger keeps is of a struct with neither copy nor drop.
+pub fn each_tally_is_scarce()
+    ensures { EachTallyIsScarce }
 {}
 
 /// In the JSON of a show and of an audit no text has a byte that JSON would escape.

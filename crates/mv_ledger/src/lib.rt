@@ -42,7 +42,7 @@ use format::{Format, read_format};
 use json_lines::{json_of_storage, json_of_tallies};
 pub use laws::{
     each_ledger_has_one_text, each_load_is_one, each_load_is_saved, each_load_is_sound,
-    each_record_is_well, each_save_is_loaded, each_second_form_comes_back,
+    each_record_is_well, each_save_is_loaded, each_second_form_comes_back, each_tally_is_scarce,
     each_text_has_one_ledger, every_count_is_tallied, every_run_conserves, every_run_is_own_work,
     no_load_fails, no_text_is_escaped,
 };
