@@ -4,7 +4,7 @@ ghost use Rattle.std.specs.Prelude.{◌≡◌, ◌<◌, ◌≤◌, [], true, len
 ghost use Rattle.std.specs.Str.{bytes_eq};
 ghost use Rattle.mv_move_types.specs.Limits.{most_modules};
 ghost use Rattle.mv_module_text.specs.Laws.{AreBytes};
-ghost use Rattle.mv_linker.specs.News.{HasItsTexts};
+ghost use Rattle.mv_linker.specs.News.{AreTexts, HasItsTexts};
 ghost use Rattle.mv_ledger.specs.Asking.{offer_of, offers_of};
 ghost use Rattle.mv_ledger.specs.Parts.LoadedParts.{AreJoined, AreNotJoined, IsGathered, IsOffered, IsPassed};
 ghost use Rattle.mv_ledger.specs.Publishing.{AllPass, IsRefusedAmong, IsRefusedOffer};
@@ -21,6 +21,12 @@ use std::alloc::{AllocError, Global};
 
 // How many modules a ledger has at most.
 const MOST_MODULES: usize = 4096;
+
+// How many modules take the places of stubs together at most.
+const MOST_TOGETHER: usize = 64;
+
+// How many bytes the texts of these have, before no more join them.
+const MOST_BYTES: usize = 65_536;
 
 /// Bytes are bytes.
 fn are_bytes(bytes: &[u8])
@@ -62,23 +68,63 @@ fn are_offered(store: &Store, offers: &[Offered<'_>]) -> bool
     true
 }
 
+/// The first of the offered modules at these places, which can be published together: more than one only where they are short.
+///
+/// # Errors
+///
+/// The first phase that one of them fails; `Memory`, where a growth was refused.
+fn next_news<'a>(
+    alloc: Global,
+    offers: &[Offered<'a>],
+    places: &[u16],
+) -> Result<Vec<New<'a>>, Refusal>
+    ensures { IfOk result (λ v. AreTexts v.items) }
+{
+    let mut news = Vec::new(alloc);
+    let mut size: usize = 0;
+    'each: for place in places {
+        if size >= MOST_BYTES || news.len() >= MOST_TOGETHER {
+            return Ok(news);
+        }
+        let Some(offer) = offers.get(usize::from(*place)) else {
+            return Ok(news);
+        };
+        news.push(verified(alloc, offer)?)
+            .map_err(AllocError::from)?;
+        size = size.saturating_add(offer.text.len());
+    }
+    Ok(news)
+}
+
 impl Joined {
-    /// Publishes a module, and says whether it could be. It can't be, where it may not join those that are there, or where there
-    /// are too many.
-    fn publish_one(&mut self, alloc: Global, new: New<'_>) -> Result<bool, AllocError>
-        requires texts { HasItsTexts new }
+    /// Publishes modules, and says whether they could be. They can't be, where together they may not join those that are there, or
+    /// where there are too many.
+    fn publish_some(&mut self, alloc: Global, news: Vec<New<'_>>) -> Result<bool, AllocError>
+        requires texts { AreTexts news.items }
         requires gathered { IsGathered self.old.store self.old.tallies }
         ensures { IfOk result (λ done. done ≡ true → IsGathered self.new.store self.new.tallies) }
     {
         if self.store.len() > MOST_MODULES {
             return Ok(false);
         }
-        let news = vec![in alloc; new]?;
+        if news.len() > MOST_TOGETHER {
+            return Ok(false);
+        }
         match self.publish(alloc, news) {
             Ok(()) => Ok(true),
             Err(Refusal::Phase(_)) => Ok(false),
             Err(Refusal::Memory) => Err(AllocError),
         }
+    }
+
+    /// Publishes a module, and says whether it could be.
+    fn publish_one(&mut self, alloc: Global, new: New<'_>) -> Result<bool, AllocError>
+        requires texts { HasItsTexts new }
+        requires gathered { IsGathered self.old.store self.old.tallies }
+        ensures { IfOk result (λ done. done ≡ true → IsGathered self.new.store self.new.tallies) }
+    {
+        let news = vec![in alloc; new]?;
+        self.publish_some(alloc, news)
     }
 
     /// Publishes an offered module, and says whether it could be.
@@ -191,11 +237,18 @@ impl Joined {
             Err(Refusal::Phase(_)) => return Ok(false),
             Err(Refusal::Memory) => return Err(AllocError),
         };
-        'each: for place in &order {
-            let Some(offer) = offers.get(usize::from(*place)) else {
-                return Ok(false);
+        let mut done: usize = 0;
+        'each: for _ in 0..order.len() {
+            if done >= order.len() {
+                return Ok(true);
+            }
+            let news = match next_news(alloc, offers, &order[done..]) {
+                Ok(news) => news,
+                Err(Refusal::Phase(_)) => return Ok(false),
+                Err(Refusal::Memory) => return Err(AllocError),
             };
-            if !self.publish_offer(alloc, offer)? {
+            done = done.saturating_add(news.len().max(1));
+            if !self.publish_some(alloc, news)? {
                 return Ok(false);
             }
         }
