@@ -134,7 +134,8 @@ Made = Callable[[int], List[model.Offer]]
 
 def tell_growth(memory: Memory, what: str, counts: Sequence[int], made: Made) -> None:
     """How long ledgers of so many modules take to be loaded, against their bytes."""
-    sizes, spent = [], []
+    sizes: List[int] = []
+    spent: List[float] = []
     for count in counts:
         text = writer.write_ledger(model.Ledger(2, 0, made(count)))
         (memory.folder / "memory.ledger").write_bytes(text)

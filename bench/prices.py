@@ -150,7 +150,8 @@ def streams(program: Program) -> Iterator[Stream]:
 def packed(program: Program) -> Tuple[List[bytes], List[bytes], int]:
     """A run that packs and unpacks an asset of each struct of modules."""
     count, each = 10, 1_500
-    m, calls, before = Module(), "", []
+    m, calls = Module(), ""
+    before: List[bytes] = []
     for k in range(count):
         home = Module(f"P{k}")
         home.add_names(["v"])

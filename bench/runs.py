@@ -9,6 +9,7 @@ machine instructions are counted where there is a valgrind"""
 import os
 import random
 import sys
+from collections import Counter
 from dataclasses import replace
 from pathlib import Path
 from typing import Dict, Iterator, List, NamedTuple, Optional, Sequence, Tuple
@@ -214,9 +215,9 @@ def of_numbers() -> Iterator[Row]:
     yield Row("jumps on a condition", one("LdTrue; StLoc 0;" + "".join(f"j{n}: CopyLoc 0; BrTrue j{(n + 389) % 1_021}; " for n in range(1_021)) + "Branch j0", "bool"))
     hop = hopping("H")
     for count in 1, HOPPED:
-        modules, m, calls = [], Module(), ""
+        modules = [called(hop, f"H{k}") for k in range(count)]
+        m, calls = Module(), ""
         for k in range(count):
-            modules.append(called(hop, f"H{k}"))
             m.foreign_function(f"H{k}", "g0", "", "")
             calls += f"Call H{k}::g0;"
         yield Row(f"jumps and calls through all code of {count} modules of 60 KB", one(again(calls), modules=modules, m=m))
@@ -341,7 +342,8 @@ ROWS = of_locals, of_structs, of_numbers, of_storage, of_memory
 def ledger_bytes(program: Program, row: Row) -> bytes:
     """The saved ledger that a run begins with."""
     offers = [model.Offer(m.bytes(), program.certificate(m.bytes())) for m in row.modules]
-    scarce, keys, tallies = [], [], []
+    scarce: List[Tuple[int, int]] = []
+    keys: List[Tuple[int, int]] = []
     for place, m in enumerate(row.modules):
         tables = m.tables()
         for index, definition in enumerate(tables.structs):
@@ -350,9 +352,8 @@ def ledger_bytes(program: Program, row: Row) -> bytes:
                 scarce.append((place, index))
             if abilities & model.KEY:
                 keys.append((place, index))
-    for at in scarce:
-        count = sum((one.place, one.struct) == at for one in row.stored)
-        tallies.append(model.Tally(count, 0))
+    counts = Counter((one.place, one.struct) for one in row.stored)
+    tallies = [model.Tally(counts[at], 0) for at in scarce]
     return writer.write_ledger(model.Ledger(2, 1, offers, scarce, tallies, keys, list(row.stored)))
 
 
@@ -492,7 +493,7 @@ class SmallRuns:
 
     def tell(self, ones: Sequence[Small]) -> None:
         """Prints a line for each record, and how many times the first one's machine instructions it takes."""
-        least = None
+        least: Optional[float] = None
         for one in ones:
             (self.program.folder / "runs.ledger").write_bytes(self.ledger(one.modules))
             words = self.words(one, 1)
