@@ -1,45 +1,70 @@
--- Lines that are written one after the other.
-use Rattle.std.proofs.Common.{◌≡◌, ℕ, List, [], ◌∷◌, ◌++◌, length, drop, refl, sym, ap, ◌∙◌, subst, append-nil, append_assoc, Option, flat_map}
-use Rattle.std.proofs.lemmas.Grind.{flat_map-append}
+-- Lines that are written piece by piece.
+use Rattle.std.proofs.Common.{◌≡◌, ℕ, List, [], ◌∷◌, ◌++◌, length, drop, refl, sym, ap, ◌∙◌, subst, append-nil, append_assoc, Bool, true, false, codes, decimal, Option, flat_map}
+use Rattle.std.specs.Prelude.{not}
 use Rattle.std.specs.Io.{StartsWith}
 use Rattle.std.specs.Io.KnownBytes.{Appends}
 use Rattle.std.proofs.KnownBytes.{Appends-nil, Appends-trans, starts_with_rest}
 use Rattle.mv_machine.specs.Lines.{numbered}
-use Rattle.moveledger.specs.Answered.{Writes, WritesPart}
+use Rattle.mv_ledger.specs.Pieces.{TakesPiece, piece_text}
+use Rattle.moveledger.specs.Answered.{Writes, WritesPart, number_at}
 use Rattle.std.proofs.Transfers.{starts_with_of_append}
 
--- a text and its prefix
+-- what is to be written of lines, of which the first may be begun
+abbrev pub text_left : ℕ → Bool → List (List ℕ) → List ℕ
+text_left n true [] = []
+text_left n true (line ∷ lines) = (line ++ 10 ∷ []) ++ flat_map (numbered n) lines
+text_left n false lines = flat_map (numbered n) lines
 
--- a writer took those of all these lines that are not left
-abbrev pub HasWritten : ℕ → List (List ℕ) → List (List ℕ) → Option (List ℕ) → Option (List ℕ) → Type 0
-HasWritten n all left held holds = (done : List (List ℕ)) × ((all ≡ done ++ left) × Appends held holds (flat_map (numbered n) done))
+-- a piece, and what stands before and behind it
+abbrev pub written_piece : ℕ → Bool → Bool → List ℕ → List ℕ
+written_piece n begun last piece = number_at n begun ++ piece_text last piece
 
-pub HasWritten-start : (n : ℕ) (all : List (List ℕ)) (held : Option (List ℕ)) → HasWritten n all all held held
+-- a piece is the front of it
+left-last : (n : ℕ) (begun : Bool) (piece : List ℕ) (lines : List (List ℕ)) → text_left n begun (piece ∷ lines) ≡ written_piece n begun true piece ++ text_left n false lines
+left-last n true piece lines = refl
+left-last n false piece lines = ap (λ (l : List ℕ). l ++ flat_map (numbered n) lines) (append_assoc (decimal n ++ codes " ") piece (10 ∷ []))
+
+left-open : (n : ℕ) (begun : Bool) (piece rest : List ℕ) (lines : List (List ℕ))
+    → text_left n begun ((piece ++ rest) ∷ lines) ≡ written_piece n begun false piece ++ text_left n true (rest ∷ lines)
+left-open n true piece rest lines = simp append_assoc
+left-open n false piece rest lines = simp append_assoc
+
+pub left-piece : (n : ℕ) (begun last : Bool) (piece : List ℕ) (old new : List (List ℕ)) → TakesPiece last piece old new
+    → text_left n begun old ≡ written_piece n begun last piece ++ text_left n (not last) new
+left-piece n begun true piece old new takes = ap (text_left n begun) takes ∙ left-last n begun piece new
+left-piece n begun false piece old new takes =
+    ap (text_left n begun) takes.3 ∙ left-open n begun piece takes.0 takes.1 ∙ sym (ap (λ ls. written_piece n begun false piece ++ text_left n true ls) takes.4)
+
+-- ---- what is written so far
+
+-- a writer took what isn't left of all these lines
+abbrev pub HasWritten : ℕ → Bool → List (List ℕ) → List (List ℕ) → Option (List ℕ) → Option (List ℕ) → Type 0
+HasWritten n begun all left held holds = (done : List ℕ) × ((flat_map (numbered n) all ≡ done ++ text_left n begun left) × Appends held holds done)
+
+pub HasWritten-start : (n : ℕ) (all : List (List ℕ)) (held : Option (List ℕ)) → HasWritten n false all all held held
 HasWritten-start n all held = ([], (refl, Appends-nil held))
 
-pub HasWritten-next : (n : ℕ) (all left rest : List (List ℕ)) (line : List ℕ) (a b c : Option (List ℕ)) → HasWritten n all left a b → left ≡ line ∷ rest → Appends b c (numbered n line)
-    → HasWritten n all rest a c
-HasWritten-next n all left rest line a b c h e w =
-    let f : List (List ℕ) → List ℕ = flat_map (numbered n) in
-    let text : f (h.0 ++ line ∷ []) ≡ f h.0 ++ numbered n line = flat_map-append (numbered n) h.0 (line ∷ []) ∙ ap (λ l. f h.0 ++ l) (append-nil (numbered n line)) in
-    (h.0 ++ line ∷ [], (h.1.0 ∙ ap (λ l. h.0 ++ l) e ∙ sym (append_assoc h.0 (line ∷ []) rest), subst (Appends a c) (sym text) (Appends-trans a b c (f h.0) (numbered n line) h.1.1 w)))
+pub HasWritten-next : (n : ℕ) (begun last : Bool) (piece : List ℕ) (all old new : List (List ℕ)) (a b c : Option (List ℕ)) → HasWritten n begun all old a b → TakesPiece last piece old new
+    → Appends b c (written_piece n begun last piece) → HasWritten n (not last) all new a c
+HasWritten-next n begun last piece all old new a b c h takes w =
+    let text : List ℕ = written_piece n begun last piece in
+    let more : List ℕ = text_left n (not last) new in
+    (h.0 ++ text, (h.1.0 ∙ ap (λ l. h.0 ++ l) (left-piece n begun last piece old new takes) ∙ sym (append_assoc h.0 text more), Appends-trans a b c h.0 text h.1.1 w))
 
-pub HasWritten-end : (n : ℕ) (all left : List (List ℕ)) (a b : Option (List ℕ)) → HasWritten n all left a b → left ≡ [] → Writes n all a b
-HasWritten-end n all left a b h e =
-    let P : List (List ℕ) → Type 0 = λ l. Writes n l a b in
-    subst P (sym (h.1.0 ∙ ap (λ l. h.0 ++ l) e ∙ append-nil h.0)) h.1.1
+pub HasWritten-end : (n : ℕ) (begun : Bool) (all left : List (List ℕ)) (a b : Option (List ℕ)) → HasWritten n begun all left a b → left ≡ [] → Writes n all a b
+HasWritten-end n true all left a b h e = subst (Appends a b) (sym (h.1.0 ∙ ap (λ l. h.0 ++ text_left n true l) e ∙ append-nil h.0)) h.1.1
+HasWritten-end n false all left a b h e = subst (Appends a b) (sym (h.1.0 ∙ ap (λ l. h.0 ++ text_left n false l) e ∙ append-nil h.0)) h.1.1
 
-pub HasWritten-part : (n : ℕ) (all left : List (List ℕ)) (a b : Option (List ℕ)) → HasWritten n all left a b → WritesPart n all a b
-HasWritten-part n all left a b h =
-    let f : List (List ℕ) → List ℕ = flat_map (numbered n) in
-    (f h.0, starts_with_of_append (f all) (f h.0) (f left) (ap f h.1.0 ∙ flat_map-append (numbered n) h.0 left), h.1.1)
+pub HasWritten-part : (n : ℕ) (begun : Bool) (all left : List (List ℕ)) (a b : Option (List ℕ)) → HasWritten n begun all left a b → WritesPart n all a b
+HasWritten-part n begun all left a b h = (h.0, starts_with_of_append (flat_map (numbered n) all) h.0 (text_left n begun left) h.1.0, h.1.1)
 
-pub HasWritten-begun : (n : ℕ) (all left rest : List (List ℕ)) (line part : List ℕ) (a b c : Option (List ℕ)) → HasWritten n all left a b → left ≡ line ∷ rest → StartsWith (numbered n line) part
-    → Appends b c part
-    → WritesPart n all a c
-HasWritten-begun n all left rest line part a b c h e front w =
-    let f : List (List ℕ) → List ℕ = flat_map (numbered n) in
-    let more : List ℕ = drop (length part) (numbered n line) in
-    let tail : f left ≡ part ++ (more ++ f rest) = ap f e ∙ ap (λ l. l ++ f rest) (starts_with_rest (numbered n line) part front) ∙ append_assoc part more (f rest) in
-    let text : f all ≡ (f h.0 ++ part) ++ (more ++ f rest) = ap f h.1.0 ∙ flat_map-append (numbered n) h.0 left ∙ ap (λ l. f h.0 ++ l) tail ∙ sym (append_assoc (f h.0) part (more ++ f rest)) in
-    (f h.0 ++ part, starts_with_of_append (f all) (f h.0 ++ part) (more ++ f rest) text, Appends-trans a b c (f h.0) part h.1.1 w)
+pub HasWritten-begun : (n : ℕ) (begun last : Bool) (piece part : List ℕ) (all old new : List (List ℕ)) (a b c : Option (List ℕ)) → HasWritten n begun all old a b → TakesPiece last piece old new
+    → StartsWith (written_piece n begun last piece) part → Appends b c part → WritesPart n all a c
+HasWritten-begun n begun last piece part all old new a b c h takes front w =
+    let text : List ℕ = written_piece n begun last piece in
+    let more : List ℕ = drop (length part) text in
+    let behind : List ℕ = text_left n (not last) new in
+    let tail : text_left n begun old ≡ part ++ (more ++ behind) =
+    left-piece n begun last piece old new takes ∙ ap (λ l. l ++ behind) (starts_with_rest text part front) ∙ append_assoc part more behind in
+    let whole : flat_map (numbered n) all ≡ (h.0 ++ part) ++ (more ++ behind) = h.1.0 ∙ ap (λ l. h.0 ++ l) tail ∙ sym (append_assoc h.0 part (more ++ behind)) in
+    (h.0 ++ part, starts_with_of_append (flat_map (numbered n) all) (h.0 ++ part) (more ++ behind) whole, Appends-trans a b c h.0 part h.1.1 w)

@@ -1,11 +1,16 @@
 -- What answers a whole record.
-use Rattle.std.specs.Prelude.{◌≡◌, ◌⊎◌, ℕ, List, [], ◌∷◌, Option, Some, None, flat_map}
+use Rattle.std.specs.Prelude.{◌≡◌, ◌⊎◌, ℕ, Bool, true, false, List, [], ◌∷◌, ◌++◌, Option, Some, None, codes, decimal, flat_map}
 use Rattle.std.specs.Io.{StartsWith}
 use Rattle.std.specs.Io.KnownBytes.{Appends}
 use Rattle.mv_ledger.specs.View.{LedgerView}
 use Rattle.mv_machine.specs.Lines.{Reply, reply_lines, numbered}
 use Rattle.moveledger.specs.Records.{Whole}
 use Rattle.moveledger.specs.Headline.{Step}
+
+-- what stands before a piece of a line: the record's number and a blank, if the line isn't begun
+abbrev pub number_at : ℕ → Bool → List ℕ
+number_at n true = []
+number_at n false = decimal n ++ codes " "
 
 -- a writer took these lines, each with this number
 abbrev pub Writes : ℕ → List (List ℕ) → Option (List ℕ) → Option (List ℕ) → Type 0

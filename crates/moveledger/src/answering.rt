@@ -4,11 +4,12 @@ ghost use Rattle.std.specs.Io.{StartsWith};
 ghost use Rattle.std.specs.Io.KnownBytes.{Appends};
 ghost use Rattle.mv_machine.specs.Lines.{Reply as Told, numbered, kind_text, stop_text};
 ghost use Rattle.mv_ledger.specs.Answering.{told, told_ending, told_lines};
-ghost use Rattle.moveledger.specs.Answered.{IsAnswered, IsBegun, MayBeAnswered, Writes, WritesPart, WritesReply, WritesReplyPart, line_of};
+ghost use Rattle.mv_ledger.specs.Pieces.{piece_text};
+ghost use Rattle.moveledger.specs.Answered.{IsAnswered, IsBegun, MayBeAnswered, Writes, WritesPart, WritesReply, WritesReplyPart, line_of, number_at};
 
 use crate::streaming::EngineError;
 use itoa::Buffer;
-use mv_ledger::{Ledger, Lines, Reply};
+use mv_ledger::{Ledger, Lines, Piece, Reply};
 use mv_machine::{Ending, Kind, Stop};
 use mv_move_types::Refusal;
 use std::alloc::{AllocError, Global};
@@ -89,6 +90,19 @@ fn put_line(line: &mut Vec<u8>, number: u64, text: &[u8]) -> Result<(), AllocErr
     Ok(())
 }
 
+/// Appends the record's number and a blank to a line that isn't begun.
+fn put_number(line: &mut Vec<u8>, number: u64, is_begun: bool) -> Result<(), AllocError>
+    ensures { OnOk result (line.new.items ≡ line.old.items ++ number_at number is_begun) }
+{
+    if is_begun {
+        return Ok(());
+    }
+    let mut digits = Buffer::new();
+    line.extend_from_slice(digits.format(number).as_bytes())?;
+    line.push(b' ')?;
+    Ok(())
+}
+
 /// Appends the line of a word, with the blank after it, and a number.
 fn put_count(line: &mut Vec<u8>, number: u64, word: &str, n: u64) -> Result<(), AllocError>
     ensures { OnOk result (line.new.items ≡ line.old.items ++ numbered number (word.now ++ decimal n)) }
@@ -138,23 +152,28 @@ fn put_reply(alloc: Global, line: &mut Vec<u8>, number: u64, reply: Reply) -> Re
     }
 }
 
-/// Writes a line of the report: the record's number, a blank, the text and a line end. It is made in the memory of another line.
-fn write_line<W: Write>(
+/// Writes a piece of a line of the report: before the line's first piece the record's number and a blank, behind its last one a
+/// line end. It is made in the memory of another piece.
+fn write_piece<W: Write>(
     writer: &mut W,
     number: u64,
-    text: &[u8],
+    is_begun: bool,
+    piece: &Piece,
     line: &mut Vec<u8>,
 ) -> Result<(), EngineError>
-    ensures ok { OnOk result (Appends (W.contents writer.old) (W.contents writer.new) (numbered number text.now)) }
-    ensures err { IfErr result (λ e. (e ≢ EngineError.Read) × (part : List ℕ) × StartsWith (numbered number text.now) part
+    ensures ok { OnOk result (Appends (W.contents writer.old) (W.contents writer.new) (number_at number is_begun ++ piece_text piece.now.is_last piece.now.text.items)) }
+    ensures err { IfErr result (λ e. (e ≢ EngineError.Read) × (part : List ℕ)
+        × StartsWith (number_at number is_begun ++ piece_text piece.now.is_last piece.now.text.items) part
         × Appends (W.contents writer.old) (W.contents writer.new) part) }
 {
     line.clear();
-    put_line(line, number, text)?;
+    put_number(line, number, is_begun)?;
+    piece.put(line)?;
     write_text(writer, line)
 }
 
-/// Writes lines of the report, all with the number of one record. Each is made when the one before it is written, in its memory.
+/// Writes lines of the report, all with the number of one record. Each piece of a line is made when the one before it is written, in
+/// its memory.
 fn write_lines<W: Write>(
     alloc: Global,
     writer: &mut W,
@@ -166,8 +185,10 @@ fn write_lines<W: Write>(
         × WritesPart number lines.entry (W.contents writer.old) (W.contents writer.new)) }
 {
     let mut line = Vec::new(alloc);
-    'each: while let Some(text) = lines.next()? {
-        write_line(writer, number, &text, &mut line)?;
+    let mut is_begun = false;
+    'each: while let Some(piece) = lines.next_piece()? {
+        write_piece(writer, number, is_begun, &piece, &mut line)?;
+        is_begun = !piece.is_last;
     }
     Ok(())
 }

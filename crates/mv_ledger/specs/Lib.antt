@@ -16,6 +16,8 @@ pub mod Showing
 pub mod Plain
 pub mod Sending
 pub mod Auditing
+pub mod Pieces
+pub mod JsonLeft
 pub mod Left
 pub mod Formats
 pub mod SavedText

@@ -22,7 +22,7 @@ use serde::{Described, Serialize, Serializer};
 use std::alloc::{AllocError, Global};
 
 /// What is said where an allocation for a text failed.
-const NO_MEMORY: &str = "out of memory";
+pub const NO_MEMORY: &str = "out of memory";
 
 /// A plain text as characters.
 fn as_str(text: &[u8]) -> &str
@@ -114,7 +114,7 @@ fn send_name<S: Serializer>(
 }
 
 /// Sends a stored value with its key.
-fn send_entry<S: Serializer>(
+pub fn send_entry<S: Serializer>(
     room: &mut Vec<u8>,
     store: &Store,
     key: Key,
@@ -134,7 +134,7 @@ fn send_entry<S: Serializer>(
 }
 
 /// Sends a struct's counts.
-fn send_counts<S: Serializer>(
+pub fn send_counts<S: Serializer>(
     room: &mut Vec<u8>,
     counted: &Counted<'_>,
     out: &mut S,

@@ -15,10 +15,12 @@
 //! ```
 #![tactic(auto)]
 
+mod ahead;
 mod audit;
 mod executing;
 mod format;
 mod json_lines;
+mod json_pieces;
 mod laws;
 mod layouts;
 mod lines;
@@ -39,14 +41,14 @@ ghost use Rattle.mv_ledger.specs.SavedText.{IsSavedText, Second};
 
 use executing::{Barred, admitted};
 use format::{Format, read_format};
-use json_lines::{json_of_storage, json_of_tallies};
+pub use json_lines::{json_of_storage, json_of_tallies};
 pub use laws::{
     each_ledger_has_one_text, each_load_is_one, each_load_is_saved, each_load_is_sound,
     each_record_is_well, each_save_is_loaded, each_second_form_comes_back, each_tally_is_scarce,
     each_text_has_one_ledger, every_count_is_tallied, every_run_conserves, every_run_is_own_work,
     no_load_fails, no_text_is_escaped,
 };
-pub use lines::Lines;
+pub use lines::{Lines, Piece};
 pub use loading::{LoadError, migrate};
 use mv_linker::Store;
 use mv_machine::Outcome;
@@ -200,7 +202,7 @@ impl Ledger {
         Ok(lines.into_text()?)
     }
 
-    /// As `show`, but line by line: each is made when it is asked for.
+    /// As `show`, but piece by piece: each is made when it is asked for.
     pub fn show_lines(&self, payload: &[u8]) -> Result<Lines<'_>, Refusal>
         ensures { Replies 3 payload.now (told_lines result) self.now self.now }
     {
@@ -210,14 +212,11 @@ impl Ledger {
         };
         match format {
             Format::Text => Ok(Lines::of_storage(alloc, &self.store, &self.storage)),
-            Format::Json => {
-                let text = json_of_storage(alloc, &self.store, &self.storage)?;
-                Ok(Lines::of_text(alloc, text))
-            }
+            Format::Json => Ok(Lines::json_of_storage(alloc, &self.store, &self.storage)),
         }
     }
 
-    /// As `audit`, but line by line: each is made when it is asked for. What is stored of a struct is known from its tally,
+    /// As `audit`, but piece by piece: each is made when it is asked for. What is stored of a struct is known from its tally,
     /// without a walk.
     pub fn audit_lines(&self, payload: &[u8]) -> Result<Lines<'_>, Refusal>
         ensures { Replies 4 payload.now (told_lines result) self.now self.now }
@@ -228,10 +227,7 @@ impl Ledger {
         };
         match format {
             Format::Text => Ok(Lines::of_tallies(alloc, &self.store, &self.tallies)),
-            Format::Json => {
-                let text = json_of_tallies(alloc, &self.store, &self.tallies)?;
-                Ok(Lines::of_text(alloc, text))
-            }
+            Format::Json => Ok(Lines::json_of_tallies(alloc, &self.store, &self.tallies)),
         }
     }
 

@@ -1,20 +1,23 @@
-// The lines of a show and of an audit.
-ghost use Rattle.std.specs.Prelude.{◌≡◌, ◌∷◌, [], ◌+◌, ◌<◌, ◌^◌, drop, length, map, IfOk, IsUtf8, OnErr, MatchOption, string_bytes};
+// The lines of a show and of an audit, whole or in pieces.
+ghost use Rattle.std.specs.Prelude.{◌≡◌, ◌∷◌, [], ◌++◌, ◌+◌, ◌<◌, ◌^◌, false, true, length, map, IfOk, IsUtf8, OnErr, OnOk, MatchOption, string_bytes};
 ghost use Rattle.mv_linker.specs.Link.{tables_in};
 ghost use Rattle.mv_machine.specs.Flat.{storage_of, value_under};
-ghost use Rattle.mv_machine.specs.Lines.{end_line, entry_line, show_lines};
+ghost use Rattle.mv_machine.specs.Lines.{end_line, entry_line, show_json, show_lines};
 ghost use Rattle.mv_ledger.specs.Showing.{show_from};
-ghost use Rattle.mv_ledger.specs.Auditing.{audit_from};
+ghost use Rattle.mv_ledger.specs.Auditing.{audit_from, counts_json};
 ghost use Rattle.mv_ledger.specs.Answering.{ended};
+ghost use Rattle.mv_ledger.specs.Pieces.{piece_text, TakesPiece};
 ghost use Rattle.mv_ledger.specs.View.{all_of, tallied};
 
+use crate::ahead::Ahead;
 use crate::audit::{Counts, count_text};
+use crate::json_pieces::{CountedJson, StoredJson};
 use crate::tallies::Tallies;
 use crate::texts::{definition_of, put_address, put_key, put_labelled, struct_at};
 use crate::values::put_value;
 use mv_linker::Store;
 use mv_move_types::Key;
-use mv_storage::{Entries, Storage};
+use mv_storage::Storage;
 use std::alloc::{AllocError, Global};
 use std::marker::Model;
 use std::mem;
@@ -44,51 +47,6 @@ fn end_text(alloc: Global, count: u64) -> Result<Vec<u8>, AllocError>
     let mut text = Vec::new(alloc);
     put_labelled(&mut text, b"end ", u128::from(count))?;
     Ok(text)
-}
-
-// The stored values that are not shown yet, of which the next one is at hand. Its model is the list of them.
-#[derive(Drop)]
-struct Ahead<'a> {
-    first: Option<(Key, &'a [u128])>,
-    rest: Entries<'a>,
-}
-
-impl<'a> Model for Ahead<'a> {
-    ghost use Rattle.std.specs.Prelude.{◌≡◌, List, [], None};
-    ghost use Rattle.mv_machine.specs.Flat.{FlatEntry};
-    ghost use Rattle.mv_ledger.specs.Showing.{with_first};
-
-    ghost Value = { List FlatEntry };
-
-    ghost view = { λ a. with_first a.first a.rest };
-
-    ghost invariant = { λ a. a.first ≡ None → a.rest ≡ [] };
-}
-
-impl<'a> Ahead<'a> {
-    fn new(mut entries: Entries<'a>) -> Self
-        ensures { result ≡ entries.entry }
-    {
-        let first = entries.next();
-        Ahead {
-            first,
-            rest: entries,
-        }
-    }
-
-    // The next one, which stays.
-    fn first(&self) -> Option<(Key, &'a [u128])>
-        ensures { MatchOption result (self.now ≡ []) (λ e. self.now ≡ record { key = e.0; words = e.1.now } ∷ drop 1 self.now) }
-    {
-        self.first
-    }
-
-    // Leaves the next one out.
-    fn skip(&mut self)
-        ensures { self.new ≡ drop 1 self.old }
-    {
-        self.first = self.rest.next();
-    }
 }
 
 // The stored values that are not shown yet, and the number of those that are.
@@ -168,36 +126,98 @@ impl<'a> Counting<'a> {
     }
 }
 
-// Which lines are left.
+/// A piece of a line.
+#[derive(Drop)]
+pub struct Piece {
+    /// Its bytes. There is at least one where the line goes on behind it.
+    pub text: Vec<u8>,
+    /// Whether the line ends behind it.
+    pub is_last: bool,
+}
+
+impl Piece {
+    // The last piece of a line.
+    fn last(text: Vec<u8>) -> Self
+        ensures text { result.text.items ≡ text.items }
+        ensures last { result.is_last ≡ true }
+    {
+        Piece {
+            text,
+            is_last: true,
+        }
+    }
+
+    // A piece of a line that goes on.
+    fn front(text: Vec<u8>) -> Self
+        ensures text { result.text.items ≡ text.items }
+        ensures front { result.is_last ≡ false }
+    {
+        Piece {
+            text,
+            is_last: false,
+        }
+    }
+
+    /// Appends its bytes and, where the line ends behind it, a line end.
+    pub fn put(&self, text: &mut Vec<u8>) -> Result<(), AllocError>
+        ensures { OnOk result (text.new.items ≡ text.old.items ++ piece_text self.now.is_last self.now.text.items) }
+    {
+        text.extend_from_slice(&self.text)?;
+        if self.is_last {
+            text.push(b'\n')?;
+        }
+        Ok(())
+    }
+}
+
+// Which lines are left, the first of which may be begun.
 #[derive(Drop)]
 enum Left<'a> {
     Stored(Stored<'a>),
     Counting(Counting<'a>),
-    One(Vec<u8>),
+    StoredJson(StoredJson<'a>),
+    CountedJson(CountedJson<'a>),
     Nothing,
 }
 
 impl<'a> Left<'a> {
     ghost use Rattle.mv_ledger.specs.Left.{lines_left, TellsAny};
 
-    // The next line, if there is one, and what is left after it; what was left, where an allocation failed.
-    fn next(self, alloc: Global) -> Result<(Option<Vec<u8>>, Left<'a>), Left<'a>>
+    // The next piece, if there is one, and what is left after it; what was left, where an allocation failed.
+    fn next(self, alloc: Global) -> Result<(Option<Piece>, Left<'a>), Left<'a>>
         ensures { TellsAny (lines_left self.entry) result }
     {
-        let told = match self {
-            Left::Stored(stored) => stored.next(alloc),
-            Left::Counting(counting) => counting.next(alloc),
-            Left::One(text) => Ok((text, Left::Nothing)),
-            Left::Nothing => return Ok((None, Left::Nothing)),
-        };
-        match told {
-            Ok((line, left)) => Ok((Some(line), left)),
-            Err(left) => Err(left),
+        match self {
+            Left::Stored(stored) => match stored.next(alloc) {
+                Ok((line, left)) => Ok((Some(Piece::last(line)), left)),
+                Err(left) => Err(left),
+            },
+            Left::Counting(counting) => match counting.next(alloc) {
+                Ok((line, left)) => Ok((Some(Piece::last(line)), left)),
+                Err(left) => Err(left),
+            },
+            Left::StoredJson(json) => match json.next(alloc) {
+                Ok((text, rest)) => match rest {
+                    Some(json) => Ok((Some(Piece::front(text)), Left::StoredJson(json))),
+                    None => Ok((Some(Piece::last(text)), Left::Nothing)),
+                },
+                Err(json) => Err(Left::StoredJson(json)),
+            },
+            Left::CountedJson(json) => match json.next(alloc) {
+                Ok((text, rest)) => match rest {
+                    Some(json) => Ok((Some(Piece::front(text)), Left::CountedJson(json))),
+                    None => Ok((Some(Piece::last(text)), Left::Nothing)),
+                },
+                Err(json) => Err(Left::CountedJson(json)),
+            },
+            Left::Nothing => Ok((None, Left::Nothing)),
         }
     }
 }
 
-/// The lines that a show or an audit has yet to tell, without their number and line end. Each is made when it is asked for.
+/// The lines that a show or an audit has yet to tell, without their number and line end. They are told piece by piece, and each
+/// piece is made when it is asked for: a line of text is one piece, a line of JSON has one for each entry. Of the first line some
+/// pieces may be told already; the model then has the rest of it.
 #[derive(Drop)]
 pub struct Lines<'a> {
     alloc: Global,
@@ -243,25 +263,36 @@ impl<'a> Lines<'a> {
         }
     }
 
-    /// One line.
-    pub fn of_text(alloc: Global, text: Vec<u8>) -> Self
-        ensures { result ≡ text.items ∷ [] }
+    /// The line of a show of all that is stored, as JSON.
+    pub fn json_of_storage(alloc: Global, store: &'a Store, storage: &'a Storage) -> Self
+        ensures { result ≡ show_json (tables_in store.entry.now) (storage_of (tables_in store.entry.now) storage.entry.now.committed) ∷ [] }
     {
         Lines {
             alloc,
-            left: Left::One(text),
+            left: Left::StoredJson(StoredJson::new(store, storage)),
         }
     }
 
-    /// The next line; none where all were told. Where an allocation failed, the same lines are left as before.
-    pub fn next(&mut self) -> Result<Option<Vec<u8>>, AllocError>
-        ensures line { IfOk result (λ line. MatchOption line ((self.old ≡ []) × (self.new ≡ [])) (λ text. self.old ≡ text.items ∷ self.new)) }
+    /// The line of an audit by these tallies, which stand module by module as the store's modules do, as JSON.
+    pub fn json_of_tallies(alloc: Global, store: &'a Store, tallies: &'a Tallies) -> Self
+        requires { length tallies.now ≡ length store.now }
+        ensures { result ≡ counts_json (map (tallied (tables_in store.entry.now)) (all_of tallies.entry.now)) ∷ [] }
+    {
+        Lines {
+            alloc,
+            left: Left::CountedJson(CountedJson::new(store, tallies)),
+        }
+    }
+
+    /// The next piece of the first line; none where all lines were told. Where an allocation failed, the same is left as before.
+    pub fn next_piece(&mut self) -> Result<Option<Piece>, AllocError>
+        ensures piece { IfOk result (λ piece. MatchOption piece ((self.old ≡ []) × (self.new ≡ [])) (λ p. TakesPiece p.is_last p.text.items self.old self.new)) }
         ensures kept { OnErr result (self.new ≡ self.old) }
     {
         match mem::replace(&mut self.left, Left::Nothing).next(self.alloc) {
-            Ok((line, left)) => {
+            Ok((piece, left)) => {
                 self.left = left;
-                Ok(line)
+                Ok(piece)
             }
             Err(left) => {
                 self.left = left;
@@ -270,19 +301,14 @@ impl<'a> Lines<'a> {
         }
     }
 
-    /// All lines as one text, each with its end. The text is made in the memory of the first line.
+    /// All lines as one text, each with its end.
     pub fn into_text(mut self) -> Result<String, AllocError>
         requires { IsUtf8 (ended self) }
         ensures { IfOk result (λ text. string_bytes text ≡ ended self.entry) }
     {
-        let mut text = match self.next()? {
-            Some(line) => line,
-            None => return Ok(String::new(self.alloc)),
-        };
-        text.push(b'\n')?;
-        'each: while let Some(line) = self.next()? {
-            text.extend_from_slice(&line)?;
-            text.push(b'\n')?;
+        let mut text = Vec::new(self.alloc);
+        'each: while let Some(piece) = self.next_piece()? {
+            piece.put(&mut text)?;
         }
         match String::from_utf8(text) {
             Ok(text) => Ok(text),

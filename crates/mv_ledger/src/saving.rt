@@ -19,6 +19,7 @@ ghost use Rattle.mv_ledger.specs.View.{all_of};
 use crate::layouts::Layouts;
 use crate::loading::counts::{Counts, stored_counts};
 use crate::tallies::{Tallies, Tally};
+use byteorder::{ByteOrder, LittleEndian};
 use mv_linker::Store;
 use mv_module_text::write_address;
 use mv_move_types::{Definition, Key, LeafKind, Width};
@@ -54,10 +55,26 @@ fn put_number(text: &mut Vec<u8>, width: Width, n: u128) -> Result<(), AllocErro
             text.push(n as u8)?;
             Ok(())
         }
-        Width::U16 => text.extend_from_slice(&(n as u16).to_le_bytes()),
-        Width::U32 => text.extend_from_slice(&(n as u32).to_le_bytes()),
-        Width::U64 => text.extend_from_slice(&(n as u64).to_le_bytes()),
-        Width::U128 => text.extend_from_slice(&n.to_le_bytes()),
+        Width::U16 => {
+            let mut bytes = [0; 2];
+            LittleEndian::write_u16(&mut bytes, n as u16);
+            text.extend_from_slice(&bytes)
+        }
+        Width::U32 => {
+            let mut bytes = [0; 4];
+            LittleEndian::write_u32(&mut bytes, n as u32);
+            text.extend_from_slice(&bytes)
+        }
+        Width::U64 => {
+            let mut bytes = [0; 8];
+            LittleEndian::write_u64(&mut bytes, n as u64);
+            text.extend_from_slice(&bytes)
+        }
+        Width::U128 => {
+            let mut bytes = [0; 16];
+            LittleEndian::write_u128(&mut bytes, n);
+            text.extend_from_slice(&bytes)
+        }
     }
 }
 

@@ -79,7 +79,7 @@ list_text key ds plain =
     ∙ simp append_assoc
 
 -- texts are no floats
-members_whole : (ms : List (List ℕ × List ℕ)) → members_have_float (members_of ms) ≡ false
+pub members_whole : (ms : List (List ℕ × List ℕ)) → members_have_float (members_of ms) ≡ false
 members_whole [] = refl
 members_whole (m ∷ ms) = members_whole ms
 

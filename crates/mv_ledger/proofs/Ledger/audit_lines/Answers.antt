@@ -20,9 +20,9 @@ returns-in-Text c =
     subst (λ (v : LedgerView). Replies 4 c.args.payload.now (Some (ToldLines c.of_tallies.result)) v v) c.self.view_is
     (audit_replies c.args.payload.now held AsText c.of_tallies.result (rw c.in-Text.is at c.in-Some.ensures) c.self.invariant.sound (c.of_tallies.ensures ∙ audit-lines held c.self.invariant.sound))
 
-pub returns-in_ok-text-in-Json : goal.returns-in_ok-text-in-Json
-returns-in_ok-text-in-Json c =
+pub returns-in-Json : goal.returns-in-Json
+returns-in-Json c =
     let held : LedgerView = view_of c.self.inside.store c.self.inside.storage.committed (all_of c.self.inside.tallies) c.self.inside.runs in
-    subst (λ (v : LedgerView). Replies 4 c.args.payload.now (Some (ToldLines c.of_text.result)) v v) c.self.view_is
-    (audit_replies c.args.payload.now held AsJson c.of_text.result (rw c.in-Json.is at c.in-Some.ensures) c.self.invariant.sound
-    (c.of_text.ensures ∙ ap (λ text. text ∷ []) (c.in_ok-text-in-Json.ensures ∙ audit-json held c.self.invariant.sound)))
+    subst (λ (v : LedgerView). Replies 4 c.args.payload.now (Some (ToldLines c.json_of_tallies.result)) v v) c.self.view_is
+    (audit_replies c.args.payload.now held AsJson c.json_of_tallies.result (rw c.in-Json.is at c.in-Some.ensures) c.self.invariant.sound
+    (c.json_of_tallies.ensures ∙ ap (λ text. text ∷ []) (audit-json held c.self.invariant.sound)))

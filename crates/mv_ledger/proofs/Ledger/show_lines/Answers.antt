@@ -1,4 +1,4 @@
-use Rattle.mv_ledger.proofs.Common.{[], ◌∙◌, ◌∷◌, Some, ap, arith, subst, AsJson, AsText, ToldRefused, ToldLines, Replies, LedgerView, all_of, view_of}
+use Rattle.mv_ledger.proofs.Common.{Some, arith, subst, AsJson, AsText, ToldRefused, ToldLines, Replies, LedgerView, all_of, view_of}
 use Rattle.mv_ledger.proofs.Shows.Reports.{unasked_replies, show_replies}
 use Rattle.mv_ledger.proofs.Ledger.show_lines.Goals as goal
 
@@ -14,9 +14,8 @@ returns-in-Text c =
     subst (λ (v : LedgerView). Replies 3 c.args.payload.now (Some (ToldLines c.of_storage.result)) v v) c.self.view_is
     (show_replies c.args.payload.now held AsText c.of_storage.result (rw c.in-Text.is at c.in-Some.ensures) c.self.invariant.sound c.of_storage.ensures)
 
-pub returns-in_ok-text-in-Json : goal.returns-in_ok-text-in-Json
-returns-in_ok-text-in-Json c =
+pub returns-in-Json : goal.returns-in-Json
+returns-in-Json c =
     let held : LedgerView = view_of c.self.inside.store c.self.inside.storage.committed (all_of c.self.inside.tallies) c.self.inside.runs in
-    subst (λ (v : LedgerView). Replies 3 c.args.payload.now (Some (ToldLines c.of_text.result)) v v) c.self.view_is
-    (show_replies c.args.payload.now held AsJson c.of_text.result (rw c.in-Json.is at c.in-Some.ensures) c.self.invariant.sound
-    (c.of_text.ensures ∙ ap (λ text. text ∷ []) c.in_ok-text-in-Json.ensures))
+    subst (λ (v : LedgerView). Replies 3 c.args.payload.now (Some (ToldLines c.json_of_storage.result)) v v) c.self.view_is
+    (show_replies c.args.payload.now held AsJson c.json_of_storage.result (rw c.in-Json.is at c.in-Some.ensures) c.self.invariant.sound c.json_of_storage.ensures)

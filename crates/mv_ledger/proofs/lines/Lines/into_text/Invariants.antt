@@ -6,4 +6,4 @@ abbrev pub invariant-each : goal.invariant-each
 invariant-each l = l.text.items ++ ended l.self ≡ ended l.fn.self
 
 abbrev pub decreases-each : goal.decreases-each
-decreases-each l = length l.self
+decreases-each l = length (ended l.self)

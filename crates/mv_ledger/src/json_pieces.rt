@@ -1,0 +1,320 @@
+// A show and an audit in JSON, piece by piece: how the line begins, each entry with its comma, and the end. serde_json writes each
+// entry; no other one stands in memory then.
+ghost use Rattle.std.specs.Prelude.{◌≡◌, ◌≢◌, ◌++◌, length, map, IfOk};
+ghost use Rattle.mv_linker.specs.Link.{tables_in};
+ghost use Rattle.mv_machine.specs.Flat.{storage_of, value_under};
+ghost use Rattle.mv_machine.specs.Lines.{count_object, entry_object, show_json, struct_text};
+ghost use Rattle.mv_ledger.specs.Auditing.{counted_in, counts_json, stored_of};
+ghost use Rattle.mv_ledger.specs.Pieces.{comma_at, TellsPiece};
+ghost use Rattle.mv_ledger.specs.Plain.{ArePlain, IsPlain};
+ghost use Rattle.mv_ledger.specs.View.{all_of, tallied};
+
+use crate::ahead::Ahead;
+use crate::audit::{Counted, Counts};
+use crate::json_lines::{NO_MEMORY, send_counts, send_entry};
+use crate::tallies::Tallies;
+use mv_linker::Store;
+use mv_move_types::Key;
+use mv_storage::Storage;
+use serde::{Described, Serialize, Serializer};
+use std::alloc::{AllocError, Global};
+
+// How a show begins.
+const SHOW: &[u8] = b"json {\"show\":[";
+
+// How an audit begins.
+const AUDIT: &[u8] = b"json {\"audit\":[";
+
+// How both end.
+const END: &[u8] = b"]}";
+
+// The bytes for which the text of a member begins with room: those of an address and two names.
+const MEMBER_ROOM: usize = 128;
+
+/// A stored value with its key, which is sent as an object.
+#[derive(Clone, Copy)]
+struct EntryShow<'a> {
+    alloc: Global,
+    store: &'a Store,
+    key: Key,
+    words: &'a [u128],
+}
+
+impl<'a> Described for EntryShow<'a> {
+    ghost use Rattle.serde_json.specs.Events.{SendsValue};
+    ghost use Rattle.mv_linker.specs.Link.{tables_in};
+    ghost use Rattle.mv_machine.specs.Flat.{value_under};
+    ghost use Rattle.mv_ledger.specs.Sending.{entry_data};
+
+    ghost writes = { λ e. SendsValue (entry_data (tables_in e.store.now) (record { key = e.key; value = value_under (tables_in e.store.now) e.key e.words.now })) };
+}
+
+impl<'a> Serialize for EntryShow<'a> {
+    fn serialize<S: Serializer>(&self, out: &mut S) -> Result<(), S::Error> {
+        match Vec::with_capacity(self.alloc, MEMBER_ROOM) {
+            Ok(mut room) => send_entry(&mut room, self.store, self.key, self.words, out),
+            Err(_) => Err(out.custom(NO_MEMORY)),
+        }
+    }
+}
+
+/// A struct's counts, which are sent as an object.
+#[derive(Clone, Copy)]
+struct CountAudit<'a> {
+    alloc: Global,
+    counted: &'a Counted<'a>,
+    ghost plain: { IsPlain (struct_text counted.now.name) },
+}
+
+impl<'a> Described for CountAudit<'a> {
+    ghost use Rattle.serde_json.specs.Events.{SendsValue};
+    ghost use Rattle.mv_ledger.specs.Auditing.{counted_in};
+    ghost use Rattle.mv_ledger.specs.Sending.{count_data};
+
+    ghost writes = { λ c. SendsValue (count_data (counted_in c.counted.now)) };
+}
+
+impl<'a> Serialize for CountAudit<'a> {
+    fn serialize<S: Serializer>(&self, out: &mut S) -> Result<(), S::Error> {
+        match Vec::with_capacity(self.alloc, MEMBER_ROOM) {
+            Ok(mut room) => send_counts(&mut room, self.counted, out),
+            Err(_) => Err(out.custom(NO_MEMORY)),
+        }
+    }
+}
+
+/// How far a line of JSON is told.
+#[derive(Clone, Copy)]
+pub enum Place {
+    /// Not yet begun.
+    Opening,
+    /// Up to the first entry.
+    First,
+    /// Up to an entry with another before it.
+    Later,
+}
+
+/// A stored value with its key as JSON.
+fn entry_json(alloc: Global, store: &Store, key: Key, words: &[u128]) -> Result<Vec<u8>, AllocError>
+    ensures { IfOk result (λ text. text.items ≡ entry_object (tables_in store.now) (record { key = key; value = value_under (tables_in store.now) key words.now })) }
+{
+    // For the prover: what it holds is a store.
+    let _len = store.len();
+    let entry = EntryShow {
+        alloc,
+        store,
+        key,
+        words,
+    };
+    match serde_json::to_vec(alloc, &entry) {
+        Ok(json) => Ok(json),
+        Err(_) => Err(AllocError),
+    }
+}
+
+/// A struct's counts as JSON.
+fn counts_in_json(alloc: Global, counted: &Counted<'_>) -> Result<Vec<u8>, AllocError>
+    requires { IsPlain (struct_text counted.now.name) }
+    ensures { IfOk result (λ text. text.items ≡ count_object (stored_of (counted_in counted.now)) (counted_in counted.now)) }
+{
+    let count = CountAudit { alloc, counted };
+    match serde_json::to_vec(alloc, &count) {
+        Ok(json) => Ok(json),
+        Err(_) => Err(AllocError),
+    }
+}
+
+/// An entry behind its comma, where it has one.
+fn with_comma(place: Place, mut entry: Vec<u8>) -> Result<Vec<u8>, AllocError>
+    ensures { IfOk result (λ text. text.items ≡ comma_at place ++ entry.items) }
+{
+    if let Place::Later = place {
+        entry.insert(0, b',')?;
+    }
+    Ok(entry)
+}
+
+/// A stored value with its key as JSON, behind its comma.
+fn entry_behind(
+    alloc: Global,
+    place: Place,
+    store: &Store,
+    key: Key,
+    words: &[u128],
+) -> Result<Vec<u8>, AllocError>
+    ensures { IfOk result (λ text. text.items ≡ comma_at place ++ entry_object (tables_in store.now) (record { key = key; value = value_under (tables_in store.now) key words.now })) }
+{
+    let entry = entry_json(alloc, store, key, words)?;
+    with_comma(place, entry)
+}
+
+/// A struct's counts as JSON, behind their comma.
+fn counts_behind(alloc: Global, place: Place, counted: &Counted<'_>) -> Result<Vec<u8>, AllocError>
+    requires { IsPlain (struct_text counted.now.name) }
+    ensures { IfOk result (λ text. text.items ≡ comma_at place ++ count_object (stored_of (counted_in counted.now)) (counted_in counted.now)) }
+{
+    let counts = counts_in_json(alloc, counted)?;
+    with_comma(place, counts)
+}
+
+/// What is left of the line of a show.
+#[derive(Drop)]
+pub struct StoredJson<'a> {
+    store: &'a Store,
+    entries: Ahead<'a>,
+    place: Place,
+}
+
+impl<'a> StoredJson<'a> {
+    ghost use Rattle.mv_ledger.specs.JsonLeft.{show_left};
+
+    /// The whole line.
+    pub fn new(store: &'a Store, storage: &'a Storage) -> Self
+        ensures { show_left result ≡ show_json (tables_in store.entry.now) (storage_of (tables_in store.entry.now) storage.entry.now.committed) }
+    {
+        StoredJson {
+            store,
+            entries: Ahead::new(storage.iter()),
+            place: Place::Opening,
+        }
+    }
+
+    /// The next piece, and the line behind it, if it goes on; all of what was left, where an allocation failed.
+    pub fn next(self, alloc: Global) -> Result<(Vec<u8>, Option<StoredJson<'a>>), StoredJson<'a>>
+        ensures { TellsPiece show_left (show_left self.entry) result }
+    {
+        match self.place {
+            Place::Opening => self.open(alloc),
+            Place::First | Place::Later => self.next_entry(alloc),
+        }
+    }
+
+    // How the line begins, as `next`.
+    fn open(self, alloc: Global) -> Result<(Vec<u8>, Option<StoredJson<'a>>), StoredJson<'a>>
+        requires { self.place ≡ Place.Opening }
+        ensures { TellsPiece show_left (show_left self.entry) result }
+    {
+        match Vec::from_slice(alloc, SHOW) {
+            Ok(text) => {
+                let StoredJson { store, entries, .. } = self;
+                let place = Place::First;
+                Ok((
+                    text,
+                    Some(StoredJson {
+                        store,
+                        entries,
+                        place,
+                    }),
+                ))
+            }
+            Err(_) => Err(self),
+        }
+    }
+
+    // The next entry, or the end of the line, as `next`.
+    fn next_entry(self, alloc: Global) -> Result<(Vec<u8>, Option<StoredJson<'a>>), StoredJson<'a>>
+        requires { self.place ≢ Place.Opening }
+        ensures { TellsPiece show_left (show_left self.entry) result }
+    {
+        let Some((key, words)) = self.entries.first() else {
+            return match Vec::from_slice(alloc, END) {
+                Ok(text) => Ok((text, None)),
+                Err(_) => Err(self),
+            };
+        };
+        match entry_behind(alloc, self.place, self.store, key, words) {
+            Ok(text) => {
+                let StoredJson {
+                    store,
+                    mut entries,
+                    ..
+                } = self;
+                entries.skip();
+                let place = Place::Later;
+                Ok((
+                    text,
+                    Some(StoredJson {
+                        store,
+                        entries,
+                        place,
+                    }),
+                ))
+            }
+            Err(_) => Err(self),
+        }
+    }
+}
+
+/// What is left of the line of an audit.
+#[derive(Drop)]
+pub struct CountedJson<'a> {
+    counts: Counts<'a>,
+    place: Place,
+    ghost plain: { ArePlain counts },
+}
+
+impl<'a> CountedJson<'a> {
+    ghost use Rattle.mv_ledger.specs.JsonLeft.{audit_left};
+
+    /// The whole line, for tallies that stand module by module as the store's modules do.
+    pub fn new(store: &'a Store, tallies: &'a Tallies) -> Self
+        requires { length tallies.now ≡ length store.now }
+        ensures { audit_left result ≡ counts_json (map (tallied (tables_in store.entry.now)) (all_of tallies.entry.now)) }
+    {
+        // For the prover: what it holds is a store.
+        let _len = store.len();
+        CountedJson {
+            counts: Counts::new(store, tallies),
+            place: Place::Opening,
+        }
+    }
+
+    /// The next piece, and the line behind it, if it goes on; all of what was left, where an allocation failed.
+    pub fn next(self, alloc: Global) -> Result<(Vec<u8>, Option<CountedJson<'a>>), CountedJson<'a>>
+        ensures { TellsPiece audit_left (audit_left self.entry) result }
+    {
+        match self.place {
+            Place::Opening => self.open(alloc),
+            Place::First | Place::Later => self.next_entry(alloc),
+        }
+    }
+
+    // How the line begins, as `next`.
+    fn open(self, alloc: Global) -> Result<(Vec<u8>, Option<CountedJson<'a>>), CountedJson<'a>>
+        requires { self.place ≡ Place.Opening }
+        ensures { TellsPiece audit_left (audit_left self.entry) result }
+    {
+        match Vec::from_slice(alloc, AUDIT) {
+            Ok(text) => {
+                let CountedJson { counts, .. } = self;
+                let place = Place::First;
+                Ok((text, Some(CountedJson { counts, place })))
+            }
+            Err(_) => Err(self),
+        }
+    }
+
+    // The next entry, or the end of the line, as `next`.
+    fn next_entry(
+        self,
+        alloc: Global,
+    ) -> Result<(Vec<u8>, Option<CountedJson<'a>>), CountedJson<'a>>
+        requires { self.place ≢ Place.Opening }
+        ensures { TellsPiece audit_left (audit_left self.entry) result }
+    {
+        let mut counts = self.counts.copied();
+        let Some(counted) = counts.next() else {
+            return match Vec::from_slice(alloc, END) {
+                Ok(text) => Ok((text, None)),
+                Err(_) => Err(self),
+            };
+        };
+        match counts_behind(alloc, self.place, &counted) {
+            Ok(text) => {
+                let place = Place::Later;
+                Ok((text, Some(CountedJson { counts, place })))
+            }
+            Err(_) => Err(self),
+        }
+    }
+}
