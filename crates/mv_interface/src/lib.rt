@@ -43,13 +43,7 @@ pub use definitions::{function_handle, is_public};
 pub use interface::{Interface, LinkedType, Signature};
 pub use lists::Lists;
 pub use names::{
-    StructName,
-    function_place,
-    have_one_name,
-    module_name,
-    name_of,
-    names_own,
-    struct_name,
+    StructName, function_place, have_one_name, module_name, name_of, names_own, struct_name,
 };
 pub use outline::Outline;
 pub use shapes::Part;

@@ -136,7 +136,13 @@ fn text_of_reverse(alloc: Global) -> Result<Vec<u8>, Fail> {
 fn ledgers_of_modules_that_name_later_ones_are_loaded(rt: HostRuntime) -> Result<(), Fail> {
     let text = text_of_reverse(rt.alloc())?;
     let wanted = hex::encode(rt.alloc(), &text)?;
-    says(&rt, rt.alloc(), &text, wanted.as_str(), "each may name the next one")
+    says(
+        &rt,
+        rt.alloc(),
+        &text,
+        wanted.as_str(),
+        "each may name the next one",
+    )
 }
 
 // What a ledger of this text answers to records.
