@@ -1,7 +1,7 @@
 -- How the parts of a rule are taken apart.
 use Rattle.mv_machine.proofs.Common.{[], ℕ, ◌++◌, ◌∙◌, ◌∷◌, ◌≡◌, Bool, Err, List, None, Ok, Option, Result, Some, ap, cond, false, length, not, refl, reverse, subst, sym, true, ◌==◌}
 use Rattle.mv_machine.proofs.Common.{is_some, nat_le, ok_or, slice_get, StructName, same_struct, ◌>>=◌, ◌>>◌, need, Address, Boolean, Number, Width, State, with_place, held, Failure}
-use Rattle.mv_machine.proofs.Common.{Faults, TypeFault, entry, Leaf, Place, Ref, Reference, Struct, Value, Values, list_of}
+use Rattle.mv_machine.proofs.Common.{Faults, TypeFault, entry, has_tag, Leaf, Place, Ref, Reference, Struct, Value, Values, list_of}
 use Rattle.std.proofs.Common.{take, drop}
 use Rattle.std.specs.Prelude.{option_map, option_and_then}
 use Rattle.std.proofs.lemmas.List.{reverse-reverse, take-append-drop, length-reverse, length-take-le}
@@ -10,7 +10,9 @@ use Rattle.mv_machine.specs.Value.{with_value_at}
 use Rattle.mv_machine.specs.State.{root_value, with_root}
 use Rattle.mv_machine.specs.Step.{Here, operand, operands, as_reference}
 use Rattle.mv_machine.specs.StepParts.{as_number, as_boolean, as_address, as_fields}
-use Rattle.mv_machine.proofs.Laws.{on_ok}
+use Rattle.mv_machine.specs.Typing.{LostFault}
+use Rattle.mv_machine.specs.StepLocals.{local_tag}
+use Rattle.mv_machine.proofs.Laws.{on_ok, on_need}
 
 -- a part that gave a value gave this one
 pub ok-is : {A E : Type 0} (x y : A) → (let r : Result A E = Ok x in r) ≡ Ok y → x ≡ y
@@ -39,7 +41,10 @@ pub held-is : (h : Here) (l : ℕ) (v : Value) → held h l ≡ Ok v → slice_g
 unfolding held
 held-is h l v e =
     on_ok (entry h.state.top.locals l) _ v e (λ local at e1.
-    found-is (slice_get h.state.top.locals l) _ local at ∙ ap Some (found-is local _ v e1))
+    on_ok (ok_or local (Faults LostFault)) _ v e1 (λ w w_is e2.
+    on_ok (local_tag h l) _ v e2 (λ tag tag_is e3.
+    on_need (has_tag h.state w tag) _ _ v e3 (λ typed e4.
+    found-is (slice_get h.state.top.locals l) _ local at ∙ ap Some (found-is local _ w w_is ∙ ap Some (ok-is w v e4))))))
 
 -- an operand that was a reference
 pub reference-is : (v : Value) (r : Reference) → as_reference v ≡ Ok r → v ≡ Ref r

@@ -1,11 +1,12 @@
 -- Worked runs of coins and calls, by computation.
 use Rattle.mv_machine.proofs.Common.{[], ℕ, ◌++◌, ◌∷◌, ◌≡◌, List, false, refl, true, codes, FunctionDefinition, Module, Instruction, Call, CopyLoc, ImmBorrowGlobal, ImmBorrowLoc, LdU64}
 use Rattle.mv_machine.proofs.Common.{MoveFrom, MoveLoc, MoveTo, MutBorrowField, MutBorrowGlobal, MutBorrowLoc, Pack, Pop, Ret, StLoc, Unpack, WriteRef, Public, Address, Number, Signer}
-use Rattle.mv_machine.proofs.Common.{MutableReference, Plain, OfLeaf, OfStruct, U64, Aborted, Faulted, FunctionCall, Returned, run, DanglingFault, LinkageFault, Leaf, More, NoMore, Struct}
+use Rattle.mv_machine.proofs.Common.{MutableReference, Plain, OfLeaf, OfStruct, U64, Aborted, Faulted, FunctionCall, Returned, run, LinkageFault, Leaf, More, NoMore, Struct}
 use Rattle.mv_machine.proofs.Common.{Missing}
 use Rattle.mv_move_types.specs.declared.tables.Visibility.{Visibility}
 use Rattle.mv_move_types.specs.declared.tables.Visibility.TheVariants.{Private}
 use Rattle.mv_move_types.specs.declared.token.Token.TheVariants.{Reference}
+use Rattle.mv_machine.specs.Typing.{TypeFault}
 use Rattle.mv_machine.proofs.Coin.{coin_module, coin, one_coin}
 use Rattle.mv_machine.proofs.Computed.{computed}
 use Rattle.mv_machine.proofs.Rows.{two_numbers, one_function, steps_of}
@@ -106,7 +107,7 @@ kept_returns : steps_of (run (kept ∷ []) [] (record { function = record { plac
 unfolding computed
 kept_returns = refl
 
--- run without a certificate, the write follows a reference into a local that is moved
-taken_apart_faults : run (taken_apart ∷ []) [] (record { function = record { place = 0; index = 1 }; arguments = [] }) 100 ≡ Faulted DanglingFault 17
+-- run without a certificate, a reference leads into a local that is moved, so that it has no tag where it is moved itself
+taken_apart_faults : run (taken_apart ∷ []) [] (record { function = record { place = 0; index = 1 }; arguments = [] }) 100 ≡ Faulted TypeFault 16
 unfolding computed
 taken_apart_faults = refl

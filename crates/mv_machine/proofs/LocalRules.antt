@@ -1,7 +1,9 @@
 -- The rules of Pop and of locals taken apart: what each found, and what it leaves.
 use Rattle.mv_machine.proofs.Common.{ℕ, ◌∙◌, ◌∷◌, ◌≡◌, Bool, List, None, Ok, Option, Some, ap, not, true, slice_get, Tag, is_frozen_by, live, borrow_local, copy_local, held, move_local, pop}
 use Rattle.mv_machine.proofs.Common.{store_local, with_own_local, Here, Turn, can_copy, can_drop, goes_on, is_reference_tag, may_drop, pushes, with_stack, has_tag, Ref, Value}
+use Rattle.std.specs.Prelude.{is_some}
 use Rattle.mv_machine.specs.StepLocals.{local_tag, local_place}
+use Rattle.mv_machine.specs.Typing.{tag_of}
 use Rattle.mv_machine.proofs.Laws.{on_ok, on_need}
 use Rattle.mv_machine.proofs.Binds.{ok-is, held-is, on_some, on_operand}
 
@@ -15,8 +17,9 @@ pub pop-is : (h : Here) (stack after : List Value) → pop h stack ≡ Ok after 
 unfolding pop
 pop-is h stack after e =
     on_operand stack _ after e (λ top below taken e1.
-    on_need (can_drop h top) _ _ after e1 (λ drops e2.
-    record { top = top; taken = taken ∙ ap (λ (s : List Value). top ∷ s) (ok-is below after e2); drops = drops }))
+    on_need (is_some (tag_of h.state top)) _ _ after e1 (λ tagged e2.
+    on_need (can_drop h top) _ _ after e2 (λ drops e3.
+    record { top = top; taken = taken ∙ ap (λ (s : List Value). top ∷ s) (ok-is below after e3); drops = drops })))
 
 -- a CopyLoc
 pub record CopyIs (h : Here) (l : ℕ) (t : Turn) : Type 0 where

@@ -1,10 +1,10 @@
 -- Worked runs of single functions, by computation.
 use Rattle.mv_machine.proofs.Common.{[], ℕ, ◌∷◌, ◌≡◌, List, false, refl, true, Module, Instruction, Abort, Add, BrTrue, Branch, CastU8, CopyLoc, Eq, Exists, FreezeRef, ImmBorrowField}
 use Rattle.mv_machine.proofs.Common.{ImmBorrowGlobal, ImmBorrowLoc, LdU128, LdU64, LdU8, Mod, MoveFrom, MoveLoc, MoveTo, MutBorrowField, MutBorrowGlobal, MutBorrowLoc, Pack, Pop, ReadRef}
-use Rattle.mv_machine.proofs.Common.{Ret, Shl, StLoc, Sub, Unpack, WriteRef, Public, Address, Number, Signer, Token, Plain, OfLeaf, OfStruct, U64, Aborted, Faulted, Returned, RunOutcome}
+use Rattle.mv_machine.proofs.Common.{Ret, Shl, StLoc, Sub, Unpack, WriteRef, Public, Address, Boolean, Number, Signer, Token, Plain, OfLeaf, OfStruct, U64, Aborted, Faulted, Returned, RunOutcome}
 use Rattle.mv_machine.proofs.Common.{run, Storage, DanglingFault, Leaf, More, NoMore, Ref, Stored, Struct, Value, AlreadyThere, Arith, Code, Missing}
 use Rattle.mv_move_types.specs.declared.token.Token.TheVariants.{Reference as ReferenceTo, MutableReference as MutableReferenceTo}
-use Rattle.mv_machine.specs.Typing.{LostFault, FrozenFault}
+use Rattle.mv_machine.specs.Typing.{TypeFault, LostFault, FrozenFault}
 use Rattle.mv_machine.proofs.Computed.{computed}
 
 abbrev pub u64 : Token
@@ -177,3 +177,39 @@ own_code = refl
 top_bit : of_f (one_function [] [] (LdU128 3 ∷ LdU8 127 ∷ Shl ∷ LdU128 170141183460469231731687303715884105728 ∷ Eq ∷ BrTrue 8 ∷ LdU64 6 ∷ Abort ∷ Ret ∷ [])) [] 100 ≡ Returned 7 [] []
 unfolding computed
 top_bit = refl
+
+-- a local that holds a value of another type is neither copied, moved nor borrowed: the call gives a bool where a number is declared
+abbrev pub of_a_bool : Instruction → RunOutcome
+of_a_bool i = of_f (one_function (u64 ∷ []) [] (i ∷ Pop ∷ Ret ∷ [])) (Leaf Boolean 1 ∷ []) 100
+
+copied_as_another : of_a_bool (CopyLoc 0) ≡ Faulted TypeFault 1
+unfolding computed
+copied_as_another = refl
+
+moved_as_another : of_a_bool (MoveLoc 0) ≡ Faulted TypeFault 1
+unfolding computed
+moved_as_another = refl
+
+lent_as_another : of_a_bool (MutBorrowLoc 0) ≡ Faulted TypeFault 1
+unfolding computed
+lent_as_another = refl
+
+lent_for_reading_as_another : of_a_bool (ImmBorrowLoc 0) ≡ Faulted TypeFault 1
+unfolding computed
+lent_for_reading_as_another = refl
+
+-- a reference to a local that was moved has no tag, and so is of no type: on the stack, where it is popped, and in a local
+dangling_pop : of_f (one_function (u64 ∷ []) [] (MutBorrowLoc 0 ∷ MoveLoc 0 ∷ Pop ∷ Pop ∷ Ret ∷ [])) (Leaf (Number U64) 1 ∷ []) 100 ≡ Faulted TypeFault 4
+unfolding computed
+dangling_pop = refl
+
+abbrev pub of_a_dangling : Instruction → RunOutcome
+of_a_dangling i = of_f (one_function (u64 ∷ []) (MutableReferenceTo (OfLeaf (Number U64)) ∷ []) (MutBorrowLoc 0 ∷ StLoc 1 ∷ MoveLoc 0 ∷ Pop ∷ i ∷ Pop ∷ Ret ∷ [])) (Leaf (Number U64) 1 ∷ []) 100
+
+dangling_copy : of_a_dangling (CopyLoc 1) ≡ Faulted TypeFault 5
+unfolding computed
+dangling_copy = refl
+
+dangling_move : of_a_dangling (MoveLoc 1) ≡ Faulted TypeFault 5
+unfolding computed
+dangling_move = refl

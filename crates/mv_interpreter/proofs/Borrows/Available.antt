@@ -1,11 +1,11 @@
 -- Availabilities: what is known of each local is as it is, and what that gives.
-use Rattle.mv_interpreter.proofs.Borrows.Common.{refl, sym, ◌≡◌, ℕ, List, [], ◌∷◌, true, subst, zero, suc, ◌++◌, map, length, Option, Some, None, Ok, arith, and_from, and_parts}
+use Rattle.mv_interpreter.proofs.Borrows.Common.{refl, sym, ◌≡◌, ℕ, List, [], ◌∷◌, true, subst, zero, suc, ◌++◌, map, length, Option, Some, None, arith, and_from, and_parts}
 use Rattle.mv_interpreter.proofs.Borrows.Common.{true≢false, same_Some, list_all, slice_get, slice_set, replicate, Availability, Token, Here, can_drop, Value, Point, local_of, on_bind}
 use Rattle.mv_move_types.specs.declared.borrow.Availability.TheVariants.{Unavailable, Available, Maybe}
 use Rattle.mv_locals_safety.specs.LocalsRules.{availability_leq, locals_leq, is_available, needs_available, has_drop, may_overwrite, may_leave}
 use Rattle.mv_interpreter.specs.{Borrows.Covers.IsAs}
 use Rattle.mv_interpreter.proofs.{Borrows.Locals.DropFits, Borrows.Locals.AsKnown}
-use Rattle.mv_machine.specs.{StepParts.may_drop, StepLocals.held}
+use Rattle.mv_machine.specs.{StepParts.may_drop}
 use Rattle.mv_interpreter.proofs.Borrows.Edges.{then-some}
 
 -- the clause on locals of what covers a frame
@@ -31,11 +31,6 @@ needed-holds l as' bs xs k h =
     on_bind (slice_get as' l) _ bs h (λ a a_is h1.
     let t = then-some (is_available a) as' bs h1 in
     (t.1, available-holds as' xs l a k a_is t.0))
-
--- so no copy, move or borrow of it meets a moved local
-pub held-found : (h : Here) (l : ℕ) (as' bs : List Availability) → AsKnown as' h.state.top.locals → needs_available l as' ≡ Some bs → (v : Value) × (held h l ≡ Ok v)
-unfolding held
-held-found h l as' bs k n = let t = (needed-holds l as' bs h.state.top.locals k n).1 in (t.0, rw t.1 refl)
 
 -- a write of a local and of what is known of it
 pub known-set : (as' : List Availability) (xs : List (Option Value)) (l : ℕ) (a : Availability) (x : Option Value) → AsKnown as' xs → IsAs a x → AsKnown (slice_set as' l a) (slice_set xs l x)

@@ -1,9 +1,9 @@
 -- What rules look up and compute goes well: it gives a value, or fails otherwise than by what is lost or frozen.
-use Rattle.mv_interpreter.proofs.Guided.Common.{ℕ, List, true, false, Bool, Ok, cond, Err, ok_or, Module, Token, Plain, ReferenceTo, MutableReferenceTo, ValueType, OfLeaf, OfStruct}
+use Rattle.mv_interpreter.proofs.Guided.Common.{◌≡◌, ℕ, Some, slice_get, List, true, false, Bool, Ok, cond, Err, ok_or, Module, Token, Plain, ReferenceTo, MutableReferenceTo, ValueType, OfLeaf, OfStruct}
 use Rattle.mv_interpreter.proofs.Guided.Common.{local_tag, constant_value, Here, operand, as_boolean, Failure, Faults, TypeFault, entry, tag_named, value_type_tag, Value}
 use Rattle.mv_move_types.specs.{declared.token.Width.Width, Numbers.leaf_number}
 use Rattle.mv_machine.specs.{Numbers.Operator, StepReferences.freeze, StepReferences.own_field, StepGlobals.keyed_struct, StepStructs.own_struct, StepControl.callee, StepControl.call}
-use Rattle.mv_machine.specs.{StepControl.signature_tags}
+use Rattle.mv_machine.specs.{StepControl.signature_tags, StepLocals.held, Typing.has_tag}
 use Rattle.mv_machine.specs.StepNumbers.{binary, comparison, shift, cast, logic, negation}
 use Rattle.mv_interpreter.proofs.Guided.Ends.{Goes_well, after, tests, found-well, operand-well, operands-well, number-well, boolean-well, reference-well, each-well}
 
@@ -35,6 +35,11 @@ own-field-well h i = search (parts_well, own-struct-well) depth 20
 
 pub local-tag-well : (h : Here) (l : ℕ) → Goes_well (local_tag h l)
 local-tag-well h l = search (parts_well, tag-well) depth 20
+
+-- a local that is there is held, if it is of its type
+pub held-well : (h : Here) (l : ℕ) (v : Value) → slice_get h.state.top.locals l ≡ Some (Some v) → Goes_well (held h l)
+unfolding held
+held-well h l v e = rw e (after _ (local_tag h l) _ (local-tag-well h l) (λ tag tag_is. tests _ (has_tag h.state v tag) (Faults TypeFault) _ tt (λ typed. tt)))
 
 pub signature-well : (modules : List Module) (m : Module) (i : ℕ) → Goes_well (signature_tags modules m i)
 unfolding signature_tags

@@ -7,12 +7,12 @@ use Rattle.mv_interpreter.proofs.Guided.Common.{Frame, State, stored_at, place_v
 use Rattle.mv_interpreter.proofs.Guided.Common.{follow, Turn, Returns, with_stack, can_drop, Failure, Aborts, Faults, TypeFault, LostFault, DanglingFault, FrozenFault, entry, have_tags}
 use Rattle.mv_interpreter.proofs.Guided.Common.{Value, Stored, Reference, Ref, no_edge_out, Known, Edge, on_bind, Types, Point, InRefs, Fits, NoneInside, Reaches, AsKnown, Stood, Sound}
 use Rattle.mv_interpreter.proofs.Guided.Common.{alone, Rooted, Able}
-use Rattle.mv_interpreter.proofs.Guided.GoesWell.{parts_well, tag-well, own-struct-well, keyed-well, own-field-well, local-tag-well, signature-well, choice-well, other-well, binary-well}
+use Rattle.mv_interpreter.proofs.Guided.GoesWell.{parts_well, tag-well, own-struct-well, keyed-well, own-field-well, local-tag-well, held-well, signature-well, choice-well, other-well, binary-well}
 use Rattle.mv_interpreter.proofs.Guided.GoesWell.{comparison-well, shift-well, cast-well, logic-well, negation-well, freeze-well, constant-well, call-well}
 use Rattle.mv_interpreter.proofs.{Borrows.Edges.then-some, Borrows.Mutability.kinds-length, Borrows.Same.write-same, Borrows.Same.plain-tagged, Borrows.Free.struct-unfrozen}
 use Rattle.mv_interpreter.proofs.{Borrows.Free.write-unfrozen, Borrows.Free.return-unfrozen, Guided.Working.worked}
-use Rattle.mv_interpreter.proofs.Borrows.Available.{known-at, known-set, known-same, held-found, needed-holds, overwritten-drops, left-drops}
-use Rattle.mv_interpreter.proofs.Guided.Ends.{Ends, Goes_well, after, given, tests, passes, found-well, operand-well, operands-well, address-well, signer-well, reference-well, fields-well}
+use Rattle.mv_interpreter.proofs.Borrows.Available.{known-at, known-set, known-same, needed-holds, overwritten-drops, left-drops}
+use Rattle.mv_interpreter.proofs.Guided.Ends.{Ends, Goes_well, after, tests, passes, found-well, operand-well, operands-well, address-well, signer-well, reference-well, fields-well}
 use Rattle.mv_interpreter.proofs.Guided.Unfrozen.{fewer-live, from-taken, local-not-frozen, nothing-frozen, moved-free, stored-free}
 use Rattle.std.proofs.lemmas.Bool.{not_from_false}
 use Rattle.std.specs.Prelude.{slice_set, bit_or, bit_and, bit_xor, is_some}
@@ -66,7 +66,8 @@ module _ (depends : ℕ → ℕ → Type 0) (through : (a b c : ℕ) → depends
       pop-ends able =
           gives-ends (pop h s.top.stack)
           (after _ (operand s.top.stack) _ (operand-well s.top.stack) (λ top e1.
-          passes _ (can_drop h top.0) (Faults LostFault) _ (able top.0 top.1 (operand-is s.top.stack top e1)) tt))
+          tests _ (is_some (tag_of s top.0)) (Faults TypeFault) _ tt (λ tagged.
+          passes _ (can_drop h top.0) (Faults LostFault) _ (able top.0 top.1 (operand-is s.top.stack top e1)) tt)))
 
       equality-ends : (answer : Bool → Bool) → Able h types Eq → Ends (LocalsKnown ls) (gives h (equality h answer s.top.stack))
       unfolding equality
@@ -150,20 +151,18 @@ module _ (depends : ℕ → ℕ → Type 0) (through : (a b c : ℕ) → depends
     copy-ends : (l : ℕ) (ls : List Availability) → Able h types (CopyLoc l) → locals_after p (CopyLoc l) known.locals ≡ Some ls → Ends (LocalsKnown ls) (copy_local h l)
     unfolding copy_local locals_after
     copy-ends l ls able e =
-        let v = held-found h l known.locals ls as_known e in
-        let same = (needed-holds l known.locals ls s.top.locals as_known e).0 in
-        given _ (held h l) _ v.0 v.1
-        (passes _ (can_copy h v.0) (Faults LostFault) _ (able v.0 (held-is h l v.0 v.1))
-        (stay ls (ap Some (sym same))))
+        let found = needed-holds l known.locals ls s.top.locals as_known e in
+        after _ (held h l) _ (held-well h l found.1.0 found.1.1) (λ v v_is.
+        passes _ (can_copy h v) (Faults LostFault) _ (able v (held-is h l v v_is))
+        (stay ls (ap Some (sym found.0))))
 
     borrow-ends : (m : Bool) (l : ℕ) (ls : List Availability) → needs_available l known.locals ≡ Some ls → Ends (LocalsKnown ls) (borrow_local m h l)
     unfolding borrow_local
     borrow-ends m l ls e =
-        let v = held-found h l known.locals ls as_known e in
-        let same = (needed-holds l known.locals ls s.top.locals as_known e).0 in
-        given _ (held h l) _ v.0 v.1
-        (after _ (local_tag h l) _ (local-tag-well h l) (λ tag e1.
-        tests _ (not (is_reference_tag tag)) (Faults TypeFault) _ tt (λ ok. stay ls (ap Some (sym same)))))
+        let found = needed-holds l known.locals ls s.top.locals as_known e in
+        after _ (held h l) _ (held-well h l found.1.0 found.1.1) (λ v v_is.
+        after _ (local_tag h l) _ (local-tag-well h l) (λ tag e1.
+        tests _ (not (is_reference_tag tag)) (Faults TypeFault) _ tt (λ ok. stay ls (ap Some (sym found.0)))))
 
     move-ends : (l : ℕ) (ls : List Availability) (es : List Edge) → locals_after p (MoveLoc l) known.locals ≡ Some ls
         → edges_after p (MoveLoc l) known.edges ≡ Some es → Ends (LocalsKnown ls) (move_local h l)
@@ -171,12 +170,11 @@ module _ (depends : ℕ → ℕ → Type 0) (through : (a b c : ℕ) → depends
     move-ends l ls es e g =
         on_bind (needs_available l known.locals) _ ls e (λ before before_is e1.
         on_bind (local_type home function l) _ es g (λ t t_is g1.
-        let v = held-found h l known.locals before as_known before_is in
-        let same = (needed-holds l known.locals before s.top.locals as_known before_is).0 in
-        given _ (held h l) _ v.0 v.1
-        (passes _ (not (is_frozen_by (live s) (local_place h l))) (Faults FrozenFault) _
+        let found = needed-holds l known.locals before s.top.locals as_known before_is in
+        after _ (held h l) _ (held-well h l found.1.0 found.1.1) (λ v v_is.
+        passes _ (not (is_frozen_by (live s) (local_place h l))) (Faults FrozenFault) _
         (not_from_false _ (local-not-frozen depends through no_cycle h types known.edges xs sound fits rooted l t t_is (moved-free p l t known.edges es g1) (live s) (λ r i. i)))
-        (subst (λ z. AsKnown z (slice_set s.top.locals l None)) (ap (λ z. slice_set z l Unavailable) (sym same) ∙ same_Some _ ls e1)
+        (subst (λ z. AsKnown z (slice_set s.top.locals l None)) (ap (λ z. slice_set z l Unavailable) (sym found.0) ∙ same_Some _ ls e1)
         (known-set known.locals s.top.locals l Unavailable None as_known refl)))))
 
     store-ends : (l : ℕ) (ls : List Availability) (es : List Edge) → Able h types (StLoc l) → locals_after p (StLoc l) known.locals ≡ Some ls

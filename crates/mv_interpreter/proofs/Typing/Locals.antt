@@ -71,7 +71,11 @@ module _ (h : Here) (i : Instruction) (types after : Types) (row : Row h i types
       let found = local_at h.modules (root_value h.state) h.home h.state.top.locals row.stands.tokens l t row.stands.locals at in
       record { is_type = at; value = found.0; holds = found.1; typed = found.2 })
 
-  -- a held local has its type
+  -- the tag of a local's type
+  local_tag-is : (l : ℕ) (t : Token) (tag : Tag) → Declared l t → token_named h.home t ≡ Some tag → local_tag h l ≡ Ok tag
+  local_tag-is l t tag d named = rw (row.stands.are_tokens, d.is_type) (row.facts.tag t tag named)
+
+  -- a local that is there is of its type, and so it is held
   held_typed : (l : ℕ) (t : Token) → Declared l t → Part (λ v. HasToken h.modules (root_value h.state) h.home v t × (slice_get h.state.top.locals l ≡ Some (Some v))) (held h l)
   unfolding held
   held_typed l t d = by_case d.value d.holds d.typed
@@ -79,7 +83,11 @@ module _ (h : Here) (i : Instruction) (types after : Types) (row : Row h i types
       by_case : (v : Option Value) → slice_get h.state.top.locals l ≡ Some v → LocalHasToken h.modules (root_value h.state) h.home v t
           → Part (λ v. HasToken h.modules (root_value h.state) h.home v t × (slice_get h.state.top.locals l ≡ Some (Some v))) (held h l)
       by_case None e k = rw e tt
-      by_case (Some v) e k = rw e (k, refl)
+      by_case (Some v) e k =
+          let P : Value → Type 0 = λ w. HasToken h.modules (root_value h.state) h.home w t × (slice_get h.state.top.locals l ≡ Some (Some w)) in
+          known P (entry h.state.top.locals l) _ (Some v) (ap (λ (x : Option (Option Value)). ok_or x (Faults LinkageFault)) e)
+          (known P (local_tag h l) _ k.tag (local_tag-is l t k.tag d k.names)
+          (passes P _ _ _ (typed_has_tag (fields_by_name h.modules) h.state v k.tag k.typed) (k, e)))
 
   pub copies : (l : ℕ) → of_copy h.home h.function l types ≡ Some after → Part (TurnTyped h.modules) (copy_local h l)
   unfolding copy_local
@@ -125,9 +133,6 @@ module _ (h : Here) (i : Instruction) (types after : Types) (row : Row h i types
       changed l t None (v ∷ h.state.top.stack) b d tt
       (subst (λ (ts : Types). HaveTokens h.modules look' h.home (v ∷ h.state.top.stack) ts) (same_Some (t ∷ types) after e1)
       (kept_local l t v look' b d typed.1, keep_stack h.modules (root_value h.state) look' b.gone b.kept h.home h.state.top.stack types b.avoids.0.1 row.stands.stack)))))
-
-  local_tag-is : (l : ℕ) (t : Token) (tag : Tag) → Declared l t → token_named h.home t ≡ Some tag → local_tag h l ≡ Ok tag
-  local_tag-is l t tag d named = rw (row.stands.are_tokens, d.is_type) (row.facts.tag t tag named)
 
   pub stores : (l : ℕ) → (local_type h.home h.function l >>= λ t. taken (t ∷ []) types) ≡ Some after → Unborrowed h.state l → Part (TurnTyped h.modules) (store_local h l)
   unfolding store_local

@@ -5,6 +5,7 @@ use Rattle.mv_interpreter.proofs.Typing.Common.{Here, operand, is_reference_tag,
 use Rattle.mv_interpreter.proofs.Typing.Common.{token_named, Types, boolean, taken, top_type, plain_of, number, TypesAt, Row, ConstantFacts, in_range, HasType, HasToken, HaveTokens}
 use Rattle.mv_interpreter.proofs.Typing.Common.{TurnTyped, token_abilities}
 use Rattle.mv_machine.specs.{Value.same_value, StepLocals.pop, StepNumbers.equality, StepNumbers.constant, StepNumbers.constant_value, StepControl.branch_if, StepControl.abort}
+use Rattle.std.specs.Prelude.{is_some}
 use Rattle.mv_machine.specs.{StepParts.pushes, StepParts.goes_to}
 use Rattle.mv_type_states.specs.TypeRules.{of_pop, of_equality, of_constant}
 use Rattle.mv_interpreter.specs.Typing.HasType.{fields_by_name}
@@ -48,8 +49,9 @@ module _ (h : Here) (i : Instruction) (types after : Types) (row : Row h i types
       let P : List Value → Type 0 = λ stack. HaveTokens h.modules (root_value h.state) h.home stack after in
       let top = top_typed h i types after row t.0 t.1 (top_type-is types t t_is) in
       known P (operand h.state.top.stack) _ (top.0, top.1) (ap operand top.2)
+      (passes P _ _ _ (ap (λ (x : Option Tag). is_some x) (typed_tag (fields_by_name h.modules) h.state top.0 top.3.tag top.3.typed))
       (tested P (need (can_drop h top.0) (Faults LostFault)) _ (lost (can_drop h top.0))
-      (subst (λ (ts : Types). HaveTokens h.modules (root_value h.state) h.home top.1 ts) given top.4)))))
+      (subst (λ (ts : Types). HaveTokens h.modules (root_value h.state) h.home top.1 ts) given top.4))))))
 
   pub equalities : (answer : Bool → Bool) → of_equality h.home types ≡ Some after
       → Part (λ (stack : List Value). HaveTokens h.modules (root_value h.state) h.home stack after) (equality h answer h.state.top.stack)
