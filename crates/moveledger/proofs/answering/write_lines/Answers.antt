@@ -1,5 +1,4 @@
 use Rattle.std.proofs.lemmas.Result.{err_from_is_err_and}
-use Rattle.std.proofs.Common.{◌≡◌}
 use Rattle.mv_ledger.specs.Pieces.{TakesPiece}
 use Rattle.mv_ledger.proofs.Shows.Pieces.{fewer-left}
 use Rattle.moveledger.proofs.Writing.{HasWritten-next, HasWritten-begun, HasWritten-part}
