@@ -64,6 +64,7 @@ fn words_past_their_first_room(rt: HostRuntime) -> Result<(), Fail> {
     assert!(rt; words.open(100).is_ok());
     assert_eq!(rt; words.len(), 166);
     words.cut(66);
+    assert_eq!(rt; words.len(), 66);
     words.close(1, 33);
     assert_eq!(rt; words.len(), 34);
     assert!(rt; matches!(words.pop(), Ok(7)));
