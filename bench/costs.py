@@ -10,7 +10,7 @@ import resource
 import subprocess
 import sys
 from pathlib import Path
-from typing import Dict, Iterator, List, Optional, Sequence, Tuple
+from typing import Dict, Iterable, Iterator, List, Optional, Sequence, Tuple
 
 import inputs
 import process
@@ -30,10 +30,12 @@ SHOWS, SHOWN = 20, 1_000
 STATED = b"\x01\x01\x01\x80\x08" + b"".join(bytes([1, 1, 0, 0, 2, a, b, 0]) for a in range(32) for b in range(32))
 
 
-# Records as they stand in a stream. And what is stated of a local and a reference: the local, the reference, the list of fields, and
-# whether it is open.
+# Records as they stand in a stream. What is stated of a local and a reference: the local, the reference, the list of fields, and
+# whether it is open. And the same of any node and a reference, with the node's kind first.
 Records = Sequence[bytes]
 Edge = Tuple[int, int, Sequence[int], int]
+Leading = Tuple[int, int, int, Sequence[int], int]
+SLOT, OWN, GLOB = inputs.model.SLOT, inputs.model.OWN, inputs.model.GLOB
 
 
 class Program:
@@ -281,11 +283,16 @@ def many_own(count: int, own: str = "H") -> bytes:
     return m.bytes()
 
 
-def state(holding: Sequence[int], edges: Sequence[Edge]) -> bytes:
-    """What is stated of a block: which locals hold a value, and edges: from a local's value to a reference, at a list that may be
-    open."""
-    count = bytes([len(edges)]) if len(edges) < 128 else bytes([len(edges) & 127 | 128, len(edges) >> 7])
-    return b"\x01" + bytes(holding) + count + b"".join(bytes([1, own, 0, to, len(path), *path, is_open]) for own, to, path, is_open in edges)
+def leading(holding: Sequence[int], edges: Iterable[Leading]) -> bytes:
+    """What is stated of a block: which locals hold a value, and edges, in any order."""
+    stated = {inputs.model.Edge(inputs.model.Node(kind, own), inputs.model.Node(SLOT, to), tuple(path), is_open == 1)
+              for kind, own, to, path, is_open in edges}
+    return inputs.writer.write_state(inputs.model.BlockState(list(holding), sorted(stated)))
+
+
+def state(holding: Sequence[int], edges: Iterable[Edge]) -> bytes:
+    """The same, of edges from a local's value to a reference, at a list that may be open."""
+    return leading(holding, [(OWN, own, to, path, is_open) for own, to, path, is_open in edges])
 
 
 # Releases the first parameter, and goes on to a block that releases a local.
@@ -330,17 +337,21 @@ def calling_on(times: int, references: int) -> Offered:
     return m.bytes(), b"\x01" * (1 + references) + b"\x00" + here + state([0, 1, 1], [(1, 2, pair, 1) for pair in PAIRS])
 
 
-def gathered(times: int, parameters: str, locals_: str, last: str) -> Offered:
+def gathered(times: int, parameters: str, locals_: str, last: str, picked: int = 0) -> Offered:
     """A module with a function in which so many fields at different paths of what its first parameter refers to are borrowed, and a
-    function returns one reference for all of them; and the certificates of the others."""
+    function returns one reference for all of them; and the certificates of the others, one of which may return as many references as
+    it takes."""
     m = Module()
     m.struct("T", "has copy, drop", "; ".join(f"g{n}: u64" for n in range(8)))
     m.struct("S", "has copy, drop", "; ".join(f"f{n}: T" for n in range(32)))
     m.function("first", "&S", "&u64", "", "MoveLoc 0; ImmBorrowField S.f0; ImmBorrowField T.g0; Ret", entry=False)
     m.function("with", "&u64; &u64", "&u64", "", "MoveLoc 0; Ret", entry=False)
+    if picked:
+        kinds = several("&u64", picked)
+        m.function("pick", kinds, kinds, "", "".join(f"MoveLoc {n};" for n in range(picked)) + "Ret", entry=False)
     paths = [f"CopyLoc 0; ImmBorrowField S.f{n // 8}; ImmBorrowField T.g{n % 8}; Call with;" for n in range(times)]
     m.function("f", parameters, "", locals_, "CopyLoc 0; Call first;" + "".join(paths) + last, entry=False)
-    return m.bytes(), b"\x01\x01\x00" + b"\x01\x01\x01\x00"
+    return m.bytes(), b"\x01\x01\x00" + b"\x01\x01\x01\x00" + (state([1] * picked, ()) if picked else b"")
 
 
 def gathering(times: int) -> Offered:
@@ -423,6 +434,278 @@ def replacing(times: int, borrows: int) -> Offered:
     return m.bytes(), state([1, 1, 1, 0, 0, 0], [(1, 0, pair, 0) for pair in PAIRS])
 
 
+class Borrowing(Module):
+    """A module in the making: functions that are called and only abort, and one that borrows and calls them; with its certificate."""
+
+    def __init__(self) -> None:
+        super().__init__()
+        self.certificate = b""
+
+    def called(self, own: str, parameters: str, results: str) -> None:
+        """A function for the calls."""
+        self.function(own, parameters, results, "", "LdU64 0; Abort", entry=False)
+        self.certificate += state([1] * len(inputs.listed(parameters)), ())
+
+    def nested(self) -> None:
+        """Structs with 256 values, one in the other."""
+        self.struct("T", "has copy, drop", "; ".join(f"g{n}: u64" for n in range(8)))
+        self.struct("S", "has copy, drop", "; ".join(f"f{n}: T" for n in range(32)))
+        self.struct("W", "has copy, drop", "w: S")
+
+    def borrowing(self, parameters: str, locals_: str, code: str, states: inputs.Data, acquires: str = "") -> Offered:
+        """The function that borrows, and what is stated of its blocks."""
+        self.function("f", parameters, "", locals_, code, acquires, entry=False)
+        return self.bytes(), self.certificate + states
+
+    def asking(self, parameters: str, begin: str, code: str, asks: int, left: int) -> Offered:
+        """One that begins so while a global is borrowed, goes on when it isn't any more, and then calls so often a function that borrows
+        it; so many operands are left."""
+        self.struct("R", ASSET, "v: u64")
+        self.function("ask", "", "", "", "LdConst @0x1; ImmBorrowGlobal R; Pop; Ret", "R", entry=False)
+        self.certificate += state((), ())
+        count = len(inputs.listed(parameters))
+        code = f"LdConst @0x1; ImmBorrowGlobal R; StLoc {count}; {begin} MoveLoc {count}; Pop;" + code + "Call ask;" * asks
+        return self.borrowing(parameters, "&R", code + "Pop;" * left + "Ret", state([1] * count + [0], ()), "R")
+
+
+def several(kind: str, count: int) -> str:
+    return "; ".join([kind] * count)
+
+
+def inner(n: int) -> str:
+    """Of a reference to an S, one of the 256 fields of its fields is borrowed."""
+    return f"ImmBorrowField S.f{n % 32}; ImmBorrowField T.g{n // 32 % 8};"
+
+
+def mixing() -> Borrowing:
+    """Has a function for four mutable references and four others, which returns as many."""
+    m = Borrowing()
+    kinds = several("&mut u64", 4) + "; " + several("&u64", 4)
+    m.called("four", "&mut u64", several("&mut u64", 4))
+    m.called("mixed", kinds, kinds)
+    return m
+
+
+def mixed(calls: int, last: str, others: str = "ImmBorrowLoc 0;" * 4, edges: Sequence[Edge] = ()) -> Offered:
+    """Four mutable references to a local, and four others, are handed to it again and again, and then this is done."""
+    code = f"MutBorrowLoc 1; Call four; {others}" + "Call mixed;" * calls + last + "Pop;" * 8 + "Ret"
+    return mixing().borrowing("u64; u64; &u64; u64", "", code, state([1] * 4, edges))
+
+
+def mixed_and_asked(times: int) -> Offered:
+    """They are handed to it so often, and then as many calls ask of a global."""
+    return mixing().asking("u64; u64", "MutBorrowLoc 1; Call four;" + "ImmBorrowLoc 0;" * 4, "Call mixed;" * times, times, 8)
+
+
+def fields_and_asked(times: int, asks: int) -> Offered:
+    """A field of one of the mutable references is borrowed before each such call, and then so many calls ask of a global."""
+    m = Borrowing()
+    m.nested()
+    others, mutable = several("&u64", 4), several("&mut S", 4)
+    m.called("four", "&mut S", mutable)
+    m.called("mixed", f"{others}; {several('&mut S', 3)}; &mut T", f"{others}; {mutable}")
+    begin = "ImmBorrowLoc 0;" * 4 + "MutBorrowLoc 1; Call four;"
+    return m.asking("u64; S", begin, "MutBorrowField S.f0; Call mixed;" * times, asks, 8)
+
+
+def lent_and_asked(times: int, asks: int) -> Offered:
+    """A local's value is borrowed so often, each time gathered with the references before, and then so many calls ask of a global."""
+    m = Borrowing()
+    m.called("with", "&u64; &u64", "&u64")
+    return m.asking("u64", "ImmBorrowLoc 0;", "ImmBorrowLoc 0; Call with;" * times, asks, 1)
+
+
+def fields_below_one(times: int, edges: int) -> Offered:
+    """So many borrows below one field of a reference with so many edges are gathered; as many open labels as edges are stated ahead."""
+    m = Borrowing()
+    m.nested()
+    m.called("with", "&S; &u64", "&S")
+    code = "CopyLoc 0; ImmBorrowField W.w;" + "".join(f"CopyLoc 0; ImmBorrowField W.w; {inner(n)} Call with;" for n in range(times))
+    here = state([1, 1, 0], [(1, 0, pair, 0) for pair in PAIRS[:edges]])
+    ahead = state([0, 1, 1], [(1, 2, [*pair, 0], 1) for pair in PAIRS[:edges]])
+    return m.borrowing("&W; u64", "&S", f"{code} StLoc 2; {ON.format(2)}", here + ahead)
+
+
+def fields_of_one(times: int) -> Offered:
+    """So many borrows of 256 fields of a reference with one edge are gathered; as many open labels are stated ahead."""
+    m = Borrowing()
+    m.nested()
+    m.called("with", "&u64; &u64", "&u64")
+    code = f"ImmBorrowLoc 1; StLoc 0; CopyLoc 0; {inner(0)}" + "".join(f"CopyLoc 0; {inner(n)} Call with;" for n in range(times))
+    ahead = state([0, 1, 1], [(1, 2, (n % 32, n // 32), 1) for n in range(times)])
+    return m.borrowing("&S; S", "&u64", f"{code} StLoc 2; {ON.format(2)}", state([1, 1, 0], ()) + ahead)
+
+
+def lent_to_many(times: int, references: int) -> Offered:
+    """So many borrows of a local's field are gathered, and so many references are copies of that."""
+    m = Borrowing()
+    m.nested()
+    m.called("with", "&T; &T", "&T")
+    lent = "ImmBorrowLoc 0; ImmBorrowField S.f0;"
+    code = lent + f"{lent} Call with;" * times + "StLoc 1;" + "".join(f"CopyLoc 1; StLoc {2 + n};" for n in range(references - 1))
+    ahead = state([1] * (1 + references), [(0, 1 + n, (0,), 1) for n in range(references)])
+    return m.borrowing("S", several("&T", references), f"{code} Branch next; next: Ret", state([1] + [0] * references, ()) + ahead)
+
+
+def many_to_many(times: int, references: int) -> Offered:
+    """Fields of so many references, and of the first of them so often again, are gathered; as many other references are copies."""
+    m = Borrowing()
+    m.nested()
+    m.called("with", "&T; &T", "&T")
+    first, last = range(1, 1 + references), range(1 + references, 1 + 2 * references)
+    code = "".join(f"ImmBorrowLoc 0; StLoc {n};" for n in first) + "Branch next; next: CopyLoc 1; ImmBorrowField S.f0;"
+    code += "".join(f"CopyLoc {n}; ImmBorrowField S.f0; Call with;" for n in [*first, *[1] * times]) + f"StLoc {last[0]};"
+    code += "".join(f"CopyLoc {last[0]}; StLoc {n};" for n in last[1:]) + "".join(f"MoveLoc {n}; Pop;" for n in first)
+    paths = [(), *((n,) for n in range(16))]
+    here = state([1] + [1] * references + [0] * references, [(0, n, path, 0) for n in first for path in paths])
+    ahead = state([1] + [0] * references + [1] * references, [(0, n, [*path, 0], 1) for n in last for path in paths])
+    locals_ = several("&S", references) + "; " + several("&T", references)
+    return m.borrowing("S", locals_, f"{code} Branch then; then: Ret", state([1] + [0] * references * 2, ()) + here + ahead)
+
+
+def fields_of_copies(copies: int, times: int, references: int) -> Offered:
+    """A mutable reference is copied so often, from one local to another and back; so many borrows of fields of the last copy are
+    gathered, and so many references are to fields of that."""
+    m = Borrowing()
+    m.nested()
+    m.called("with", "&S; &u64", "&S")
+    code = "MutBorrowLoc 0; StLoc 1;" + "CopyLoc 1; StLoc 2; CopyLoc 2; StLoc 1;" * (copies // 2)
+    code += "CopyLoc 1; FreezeRef; StLoc 3; CopyLoc 3;" + "".join(f"CopyLoc 3; {inner(n)} Call with;" for n in range(times)) + "StLoc 4;"
+    code += "".join(f"CopyLoc 4; ImmBorrowField S.f{n}; StLoc {5 + n};" for n in range(references)) + "MoveLoc 3; Pop;"
+    edges = [edge for to in [1, 2, *range(4, 5 + references)] for edge in from_first(3, to, (), 1) if edge[:2] != (SLOT, to)]
+    ahead = leading([1, 1, 1, 0] + [1] * (1 + references), edges)
+    locals_ = "&mut S; &mut S; &S; &S; " + several("&T", references)
+    return m.borrowing("S", locals_, f"{code} Branch next; next: Ret", state([1] + [0] * (4 + references), ()) + ahead)
+
+
+def borrows_and_calls(borrows: int, calls: int) -> Offered:
+    """Two locals are borrowed so often, and then eight mutable references to a third one are handed to a function that returns as many."""
+    m = Borrowing()
+    m.called("eight", "&mut u64", several("&mut u64", 8))
+    m.called("all", several("&mut u64", 8), several("&mut u64", 8))
+    code = "MutBorrowLoc 2; Call eight;" + "ImmBorrowLoc 0; Pop; ImmBorrowLoc 1; Pop;" * (borrows // 2) + "Call all;" * calls
+    return m.borrowing(several("u64", 3), "", code + "Pop;" * 8 + "Ret", state([1] * 3, ()))
+
+
+def globals_gathered(count: int) -> Offered:
+    """So many globals are gathered in one reference, and as many stated ahead."""
+    m = Borrowing()
+    for n in range(count):
+        m.struct(f"R{n}", ASSET, "v: u64")
+    m.called("with", "&u64; &u64", "&u64")
+    lent = [f"LdConst @0x1; ImmBorrowGlobal R{n}; ImmBorrowField R{n}.v;" for n in range(count)]
+    code = lent[0] + "".join(f"{one} Call with;" for one in lent[1:]) + "StLoc 0; Branch next; next: Ret"
+    ahead = leading([1], [(GLOB, n, 0, (0,), 1) for n in range(count)])
+    return m.borrowing("", "&u64", code, state([0], ()) + ahead, ", ".join(f"R{n}" for n in range(count)))
+
+
+def from_first(count: int, to: int, path: Sequence[int] = (), is_open: int = 0) -> List[Leading]:
+    """Edges to a reference from the first so many locals: from the value of the very first, and from the others, which are mutable
+    references."""
+    return [(SLOT if n else OWN, n, to, path, is_open) for n in range(count)]
+
+
+def chained(kind: str, count: int) -> Tuple[str, str, List[Leading]]:
+    """So many mutable references, each a copy of the one before, the first to a local's value: their types, the code, and the edges."""
+    code = "MutBorrowLoc 0; StLoc 1;" + "".join(f"CopyLoc {n}; StLoc {1 + n};" for n in range(1, count))
+    return several(f"&mut {kind}", count), code, [edge for to in range(1, 1 + count) for edge in from_first(to, to)]
+
+
+def frozen(count: int, times: int) -> Offered:
+    """The last of so many mutable references is copied so often, and the copy frozen."""
+    locals_, code, _ = chained("u64", count)
+    code += f"CopyLoc {count}; FreezeRef; Pop;" * times
+    return Borrowing().borrowing("u64", locals_, code + "Ret", state([1] + [0] * count, ()))
+
+
+def copies_that_go(times: int, references: int) -> Offered:
+    """Of the last of 18 mutable references so many copies come and go, and so many references are to a field of it."""
+    m = Borrowing()
+    m.nested()
+    locals_, code, edges = chained("S", 18)
+    code += "CopyLoc 18; StLoc 19; CopyLoc 19; StLoc 18;" * (times // 2) + "CopyLoc 18; FreezeRef; ImmBorrowField S.f0; StLoc 20;"
+    code += "".join(f"CopyLoc 20; StLoc {21 + n};" for n in range(references - 1))
+    edges += [*from_first(18, 19), (SLOT, 19, 18, (), 0)]
+    edges += [edge for to in range(20, 20 + references) for edge in from_first(20, to, (0,))]
+    ahead = leading([1] * (20 + references), edges)
+    locals_ += "; &mut S; " + several("&T", references)
+    return m.borrowing("S", locals_, f"{code} Branch next; next: Ret", state([1] + [0] * (19 + references), ()) + ahead)
+
+
+def fields_of_chained(times: int, references: int) -> Offered:
+    """So many borrows of fields of the last of 17 mutable references are gathered, and so many references are copies of that."""
+    m = Borrowing()
+    m.nested()
+    m.called("with", "&T; &T", "&T")
+    locals_, code, edges = chained("W", 17)
+    code += "CopyLoc 17; FreezeRef; ImmBorrowField W.w; StLoc 18; CopyLoc 18; ImmBorrowField S.f0;"
+    code += "".join(f"CopyLoc 18; ImmBorrowField S.f{n % 32}; Call with;" for n in range(times)) + "StLoc 19;"
+    code += "".join(f"CopyLoc 19; StLoc {20 + n};" for n in range(references - 1)) + "MoveLoc 18; Pop; Branch next; next: Ret"
+    edges += [edge for to in range(19, 19 + references) for edge in from_first(18, to, (0,), 1)]
+    ahead = leading([1] * 18 + [0] + [1] * references, edges)
+    return m.borrowing("W", f"{locals_}; &S; {several('&T', references)}", code, state([1] + [0] * (18 + references), ()) + ahead)
+
+
+def gathered_and_returned(times: int, calls: int) -> Offered:
+    """So many fields of a reference with 288 edges are gathered, and eight copies of that handed to a function that returns as many."""
+    text, others = gathered(times, "&S; u64", "&u64", "StLoc 2;" + "CopyLoc 2;" * 8 + "Call pick;" * calls + "Pop;" * 8 + "Ret", 8)
+    return text, others + state([1, 1, 0], [(1, 0, pair, 0) for pair in PAIRS if pair[1] < 9])
+
+
+def known_blocks() -> Sequence[Tuple[str, Offered]]:
+    """Blocks that were dear in an earlier form of the program."""
+    return (
+        ("1,900 copies of a reference with 1,024 edges", copying(1_900, 0)),
+        ("950 copies of it", copying(950, 0)),
+        ("800 copies of it above 126 others", copying(800, 126)),
+        ("1,900 moves of it to the stack and back", moving(1_900, 0)),
+        ("1,800 moves of it above 125 copies", moving(1_800, 125)),
+        ("900 moves of it above 125 copies", moving(900, 125)),
+        ("4,000 calls with 8 copies of it that return as many", calling(4_000, 8)),
+        ("2,000 calls with 8 copies of it that return as many", calling(2_000, 8)),
+        ("3,900 such calls, with 1,024 open labels stated ahead", calling_on(3_900, 8)),
+        ("256 fields of it at different paths, gathered in one reference by as many calls", gathering(256)),
+        ("128 fields of it gathered so", gathering(128)),
+        ("256 fields gathered so, with 1,024 open labels stated ahead", gathering_on(256)),
+        ("256 fields gathered so of a reference into 61 locals", gathering_from(256)),
+        ("250 fields gathered so, and 1,200 moves of the reference above 120 copies", gathered_and_moved(250, 120, 1_200)),
+        ("250 fields gathered so, and 650 calls with two copies of the reference", gathered_and_called(250, 650)),
+        ("125 fields gathered so, and 650 calls with two copies of the reference", gathered_and_called(125, 650)),
+        ("1,300 borrows of a local above 120 copies", lending(1_300, 120)),
+        ("1,800 copies of a mutable reference above 120 copies of another one", lending_mutably(1_800, 120, False)),
+        ("600 mutable references, each copied, above 120 copies of another one", lending_mutably(600, 120, True)),
+        ("1,500 borrows of a local to which 60 references lead, above 120 mutable ones to another", lending_below(1_500, 60, 17)),
+        ("750 borrows of it", lending_below(750, 60, 17)),
+        ("2,000 copies of a mutable reference that take its place", replacing(2_000, 0)),
+        ("1,000 copies that take its place", replacing(1_000, 0)),
+        ("1,300 copies that take its place, and 600 borrows of a local", replacing(1_300, 600)),
+    )
+
+
+def sought_blocks() -> Sequence[Tuple[str, Offered]]:
+    """Blocks that were looked for: many ways by which a reference comes about, and then questions, or much that is stated ahead."""
+    return (
+        ("2,030 calls with 8 references, 4 of them mutable, and 2,030 calls that ask of a global", mixed_and_asked(2_030)),
+        ("2,030 calls with 8 references, 4 of them mutable, and 1,020 borrows of a local", mixed(2_030, "ImmBorrowLoc 0; Pop;" * 1_020)),
+        ("1,350 calls with 8 references, 4 of them mutable, and as many copies of a value", mixed(1_350, "CopyLoc 0; Pop;" * 1_350)),
+        ("1,000 calls with 8 references, 4 of them mutable and 3 with 1,024 edges, and 1,500 copies of a value",
+         mixed(1_000, "CopyLoc 0; Pop;" * 1_500, "CopyLoc 2;" * 3 + "ImmBorrowLoc 0;", [(3, 2, pair, 0) for pair in PAIRS])),
+        ("800 borrows below one field of a reference with 400 edges, gathered, and 400 open labels stated ahead", fields_below_one(800, 400)),
+        ("660 borrows of fields of a reference with one edge, gathered, and 660 open labels stated ahead", fields_of_one(660)),
+        ("700 borrows of a local, gathered, and 60 references stated ahead", lent_to_many(700, 60)),
+        ("981 borrows of fields of 31 references with 17 edges each, gathered, and 31 references stated ahead", many_to_many(950, 31)),
+        ("500 borrows of fields of the last of 500 mutable copies, gathered, and 31 references stated ahead", fields_of_copies(500, 500, 30)),
+        ("690 borrows of two locals, and 2,000 calls with 8 mutable references", borrows_and_calls(690, 2_000)),
+        ("701 globals, gathered, and as many stated ahead", globals_gathered(701)),
+        ("1,300 frozen copies of the last of 61 mutable references in one chain", frozen(61, 1_300)),
+        ("1,400 copies that go, of the last of 18 mutable references in one chain, and 41 references stated ahead", copies_that_go(1_400, 41)),
+        ("1,000 borrows of fields of the last of 17 mutable references in one chain, gathered, and 41 references stated ahead", fields_of_chained(1_000, 41)),
+        ("1,024 fields, a call with 8 references after each, and 2,020 calls that ask of a global", fields_and_asked(1_024, 2_020)),
+        ("1,020 borrows of a local, each gathered with those before, and 2,040 calls that ask of a global", lent_and_asked(1_020, 2_040)),
+        ("256 fields of a reference with 288 edges, gathered, and 2,900 calls with 8 copies of it", gathered_and_returned(256, 2_900)),
+    )
+
+
 def tell_dearest(program: Program) -> None:
     """What records cost that are dear for their size, beside ordinary ones."""
     ordinary = inputs.all_families(inputs.LARGE, 5).bytes()
@@ -449,37 +732,12 @@ def tell_dearest(program: Program) -> None:
     for count in 1_500, 3_000:
         home = record(1, publish((many_own(count), b"")))
         tell_one(f"10 modules that each name {count} structs of another", record(1, publish(*((many_foreign(count, f"F{n}"), b"") for n in range(10)))), [home])
-    for what, made in (
-        ("1,900 copies of a reference with 1,024 edges", copying(1_900, 0)),
-        ("950 copies of it", copying(950, 0)),
-        ("800 copies of it above 126 others", copying(800, 126)),
-        ("1,900 moves of it to the stack and back", moving(1_900, 0)),
-        ("1,800 moves of it above 125 copies", moving(1_800, 125)),
-        ("900 moves of it above 125 copies", moving(900, 125)),
-        ("4,000 calls with 8 copies of it that return as many", calling(4_000, 8)),
-        ("2,000 calls with 8 copies of it that return as many", calling(2_000, 8)),
-        ("3,900 such calls, with 1,024 open labels stated ahead", calling_on(3_900, 8)),
-        ("256 fields of it at different paths, gathered in one reference by as many calls", gathering(256)),
-        ("128 fields of it gathered so", gathering(128)),
-        ("256 fields gathered so, with 1,024 open labels stated ahead", gathering_on(256)),
-        ("256 fields gathered so of a reference into 61 locals", gathering_from(256)),
-        ("250 fields gathered so, and 1,200 moves of the reference above 120 copies", gathered_and_moved(250, 120, 1_200)),
-        ("250 fields gathered so, and 650 calls with two copies of the reference", gathered_and_called(250, 650)),
-        ("125 fields gathered so, and 650 calls with two copies of the reference", gathered_and_called(125, 650)),
-        ("1,300 borrows of a local above 120 copies", lending(1_300, 120)),
-        ("1,800 copies of a mutable reference above 120 copies of another one", lending_mutably(1_800, 120, False)),
-        ("600 mutable references, each copied, above 120 copies of another one", lending_mutably(600, 120, True)),
-        ("1,500 borrows of a local to which 60 references lead, above 120 mutable ones to another", lending_below(1_500, 60, 17)),
-        ("750 borrows of it", lending_below(750, 60, 17)),
-        ("2,000 copies of a mutable reference that take its place", replacing(2_000, 0)),
-        ("1,000 copies that take its place", replacing(1_000, 0)),
-        ("1,300 copies that take its place, and 600 borrows of a local", replacing(1_300, 600)),
-    ):
+    for what, made in [*known_blocks(), *sought_blocks()]:
         tell_one(what, record(1, publish(made)))
     for per_megabyte, each, what, spent, size in sorted(dear, reverse=True):
         instructions = f", {each / usual:.0f} times the machine instructions" if each else ""
-        print(f"costs: {what}, {size} bytes: {spent:.3f} s, {per_megabyte / mean:.0f} times the mean for as many bytes{instructions} "
-              f"(aim: 100 or less)", flush=True)
+        print(f"costs: {what}, {size} bytes: {spent:.3f} s, {per_megabyte * 16.384:.1f} ms for 16 KB, "
+              f"{per_megabyte / mean:.0f} times the mean for as many bytes{instructions} (aim: 100 or less, or 60 ms for 16 KB)", flush=True)
 
 
 def tell(program: Path, folder: Path) -> None:

@@ -1,6 +1,6 @@
 -- The first bytes of a module and of a certificate's text are enough to say what comes of them.
 use Rattle.std.proofs.Common.{◌≡◌, ℕ, ◌≤◌, ◌<◌, ◌+◌, ◌-◌, ◌==◌, if◌then◌else◌, ◌⊎◌, List, length, take, slice_index, Option, Some, None}
-use Rattle.std.proofs.Common.{Result, Ok, Err, Bool, true, false, IfSome, IfOk, IfErr, OnOk, MatchResult, option_map, inl, inr, arith, sym}
+use Rattle.std.proofs.Common.{Result, Ok, Err, Bool, true, false, IfSome, IfOk, IfErr, OnOk, MatchResult, option_map, inl, inr, arith, sym, codes}
 use Rattle.std.proofs.Common.{subst}
 use Rattle.std.proofs.lemmas.Bool.{cases_order}
 use Rattle.std.proofs.lemmas.List.{take_all, length-take-le}
@@ -12,11 +12,12 @@ use Rattle.mv_move_types.specs.declared.refusal.Refusal.{Refusal}
 use Rattle.mv_move_types.specs.declared.refusal.Refusal.TheVariants.{Phase, Memory as OutOfMemory}
 use Rattle.moveledger.specs.Authoring.{ChecksTo, Prints, ProvesTo}
 use Rattle.moveledger.specs.Checking.{AreShort, FailsCheck, IsAccepted, IsRefusedText, before_line_end, failing, too_long as texts_too_long}
-use Rattle.moveledger.specs.Printing.{checked_line, line, no_proof_line}
+use Rattle.moveledger.specs.Printing.{checked_line, line, no_proof_line, refused_text}
 use Rattle.moveledger.specs.Proving.{FailsProof, HasNoProof, IsComplexText, IsProvedBy, IsShort, in_each, in_module, too_long}
 use Rattle.moveledger.specs.Status.{end_after_check, end_after_proof}
+use Rattle.moveledger.specs.Writing.{BreaksOff}
 use Rattle.moveledger.specs.declared.ending.End.{End}
-use Rattle.moveledger.specs.declared.ending.End.TheVariants.{Read, Memory}
+use Rattle.moveledger.specs.declared.ending.End.TheVariants.{Done, Refused, TooComplex, Write}
 
 -- fewer bytes than were asked for are all
 few-taken : (n : ℕ) (l : List ℕ) → length (take n l) < n → take n l ≡ l
@@ -75,39 +76,43 @@ module _ (m : List ℕ) where
     fails-check _ (failing phase short fails) = subst (λ x. FailsCheck x t phase) (same-module short.0)
         (subst (λ x. FailsCheck (take 65537 m) x phase) (same-text short.1) (failing phase short fails))
 
+-- what was written of a line that is printed: all of it, or a beginning
+printed-so : (held holds : Option (List ℕ)) (result : End) (EndsBy : End → Type 0) (end : End) (text printed : List ℕ) → text ≡ printed → (BreaksOff printed held holds → EndsBy Write)
+    → (Appends held holds printed → EndsBy end) → ((result ≡ Write) × BreaksOff text held holds) ⊎ ((result ≡ end) × Appends held holds text) → EndsBy result
+printed-so held holds result EndsBy end text printed is broken written (inl h) = subst EndsBy (sym h.0) (broken (subst (λ (l : List ℕ). BreaksOff l held holds) is h.1))
+printed-so held holds result EndsBy end text printed is broken written (inr h) = subst EndsBy (sym h.0) (written (subst (Appends held holds) is h.1))
+
 module _ {S A : Type 0} (bytes_of : S → List ℕ) (m : List ℕ) (held holds : Option (List ℕ)) (result : End) where
   -- what is printed of a module that was checked
   pub checks-to : (t bytes text : List ℕ) (checked : Result (Unit {0}) Refusal) (made : Result S A) → bytes ≡ take 65537 m → text ≡ take 2097154 t
       → OnOk checked (IsAccepted bytes text) → IfErr checked (IsRefusedText bytes text) → IfOk made (λ s. Some (bytes_of s) ≡ checked_line checked)
       → Prints bytes_of made (end_after_check checked) held holds result → ChecksTo m t held holds result
-  checks-to t bytes text checked (Err e) module_is text_is ok err said is = subst (ChecksTo m t held holds) (sym is) tt
-  checks-to t bytes text checked (Ok s) module_is text_is ok err said (inl is) = subst (ChecksTo m t held holds) (sym is) tt
-  checks-to t bytes text (Ok done) (Ok s) module_is text_is ok err said (inr h) =
+  checks-to t bytes text checked (Err e) module_is text_is ok err said h = subst (ChecksTo m t held holds) (sym h.0) h.1
+  checks-to t bytes text (Ok done) (Ok s) module_is text_is ok err said h =
       let whole = accepted m t (subst (IsAccepted (take 65537 m)) text_is (subst (λ x. IsAccepted x text) module_is ok)) in
-      subst (ChecksTo m t held holds) (sym h.0) (whole, subst (Appends held holds) (same_Some _ _ said) h.1)
-  checks-to t bytes text (Err (Phase phase)) (Ok s) module_is text_is ok err said (inr h) =
+      printed-so held holds result (ChecksTo m t held holds) Done (bytes_of s) (line (codes "accepted")) (same_Some _ _ said) (λ b. inl (whole, b)) (λ a. (whole, a)) h
+  checks-to t bytes text (Err (Phase phase)) (Ok s) module_is text_is ok err said h =
       let P : List ℕ → List ℕ → Type 0 = λ x y. FailsCheck x y phase in
       let whole = fails-check m t phase (subst (P (take 65537 m)) text_is (subst (λ x. P x text) module_is err)) in
-      subst (ChecksTo m t held holds) (sym h.0) (whole, subst (Appends held holds) (same_Some _ _ said) h.1)
-  checks-to t bytes text (Err OutOfMemory) (Ok s) module_is text_is ok err said (inr h) = subst (ChecksTo m t held holds) (sym h.0) tt
+      printed-so held holds result (ChecksTo m t held holds) (Refused phase) (bytes_of s) (line (refused_text phase)) (same_Some _ _ said) (λ b. inr (phase, whole, b)) (λ a. (whole, a)) h
+  checks-to t bytes text (Err OutOfMemory) (Ok s) module_is text_is ok err said h = cc
 
   -- what is printed of a module that a certificate was to be made for
   pub proves-to : (bytes : List ℕ) (proved : Result S ProveError) (made : Result S A) → bytes ≡ take 65537 m
       → IfOk proved (λ s. IsProvedBy bytes (bytes_of s)) → IfErr proved (HasNoProof bytes)
       → IfOk made (λ s. MatchResult proved (λ digits. bytes_of s ≡ line (bytes_of digits)) (λ e. Some (bytes_of s) ≡ no_proof_line e))
       → Prints bytes_of made (end_after_proof proved) held holds result → ProvesTo m held holds result
-  proves-to bytes proved (Err e) module_is ok err said is = subst (ProvesTo m held holds) (sym is) tt
-  proves-to bytes proved (Ok s) module_is ok err said (inl is) = subst (ProvesTo m held holds) (sym is) tt
-  proves-to bytes (Ok digits) (Ok s) module_is ok err said (inr h) =
+  proves-to bytes proved (Err e) module_is ok err said h = subst (ProvesTo m held holds) (sym h.0) h.1
+  proves-to bytes (Ok digits) (Ok s) module_is ok err said h =
       let whole = proved-by m (bytes_of digits) (subst (λ x. IsProvedBy x (bytes_of digits)) module_is ok) in
-      subst (ProvesTo m held holds) (sym h.0) (bytes_of digits, whole, subst (Appends held holds) said h.1)
-  proves-to bytes (Err (proof.Refused phase)) (Ok s) module_is ok err said (inr h) =
+      printed-so held holds result (ProvesTo m held holds) Done (bytes_of s) (line (bytes_of digits)) said (λ b. inl (bytes_of digits, whole, b)) (λ a. (bytes_of digits, whole, a)) h
+  proves-to bytes (Err (proof.Refused phase)) (Ok s) module_is ok err said h =
       let whole = fails-proof m phase (subst (λ x. FailsProof x phase) module_is err) in
-      subst (ProvesTo m held holds) (sym h.0) (whole, subst (Appends held holds) (same_Some _ _ said) h.1)
-  proves-to bytes (Err proof.TooComplex) (Ok s) module_is ok err said (inr h) =
+      printed-so held holds result (ProvesTo m held holds) (Refused phase) (bytes_of s) (line (refused_text phase)) (same_Some _ _ said) (λ b. inr (inl (phase, whole, b))) (λ a. (whole, a)) h
+  proves-to bytes (Err proof.TooComplex) (Ok s) module_is ok err said h =
       let whole = complex-text m (subst IsComplexText module_is err) in
-      subst (ProvesTo m held holds) (sym h.0) (whole, subst (Appends held holds) (same_Some _ _ said) h.1)
-  proves-to bytes (Err proof.Memory) (Ok s) module_is ok err said (inr h) = subst (ProvesTo m held holds) (sym h.0) tt
+      printed-so held holds result (ProvesTo m held holds) TooComplex (bytes_of s) (line (codes "too complex")) (same_Some _ _ said) (λ b. inr (inr (whole, b))) (λ a. (whole, a)) h
+  proves-to bytes (Err proof.Memory) (Ok s) module_is ok err said h = cc
 
 module _ {S A : Type 0} (bytes_of : S → List ℕ) (held holds : Option (List ℕ)) (result : End) where
   -- the same, of readers that may not tell what they give
@@ -125,15 +130,3 @@ module _ {S A : Type 0} (bytes_of : S → List ℕ) (held holds : Option (List �
   checks-some None t bytes text checked made module_is text_is ok err said is = tt
   checks-some (Some m) None bytes text checked made module_is text_is ok err said is = tt
   checks-some (Some m) (Some t) bytes text checked made module_is text_is ok err said is = checks-to bytes_of m held holds result t bytes text checked made module_is text_is ok err said is
-
--- a fault says nothing of what was to be read
-pub proves-fault : (m held holds : Option (List ℕ)) (e : End) → (e ≡ Read) ⊎ (e ≡ Memory) → IfSome m (λ m. ProvesTo m held holds e)
-proves-fault None held holds e fault = tt
-proves-fault (Some m) held holds e (inl is) = subst (ProvesTo m held holds) (sym is) tt
-proves-fault (Some m) held holds e (inr is) = subst (ProvesTo m held holds) (sym is) tt
-
-pub checks-fault : (m t held holds : Option (List ℕ)) (e : End) → (e ≡ Read) ⊎ (e ≡ Memory) → IfSome m (λ m. IfSome t (λ t. ChecksTo m t held holds e))
-checks-fault None t held holds e fault = tt
-checks-fault (Some m) None held holds e fault = tt
-checks-fault (Some m) (Some t) held holds e (inl is) = subst (ChecksTo m t held holds) (sym is) tt
-checks-fault (Some m) (Some t) held holds e (inr is) = subst (ChecksTo m t held holds) (sym is) tt

@@ -1,9 +1,9 @@
-pub mod Progress
 pub mod Taken
 pub mod Lengths
 pub mod Whole
 pub mod Unfinished
 pub mod Steps
+pub mod AfterRecords
 pub mod Onward
 pub mod One
 pub mod OneRequest

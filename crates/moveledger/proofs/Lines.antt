@@ -14,7 +14,8 @@ use Rattle.mv_ledger.specs.Accepted.SoundLedger.{IsSoundLedger}
 use Rattle.mv_ledger.specs.declared.Reply.{Reply}
 use Rattle.mv_ledger.specs.declared.Reply.TheVariants.{Published, Refused, Rejected, Ran, Memory}
 use Rattle.moveledger.proofs.HeadlineLemmas.{answers_whole}
-use Rattle.moveledger.specs.Answered.{IsAnswered, IsBegun, MayBeAnswered, WritesReply, WritesReplyPart, line_of}
+use Rattle.moveledger.specs.Answered.{BreaksOffReply, IsAnswered, IsBrokenOff, MayBeAnswered, WritesReply, WritesReplyPart, line_of}
+use Rattle.moveledger.specs.Writing.{BreaksOff}
 
 -- ---- a reply has one line
 
@@ -56,6 +57,14 @@ reply_is_begun n reply held holds text part h front w =
     let Q : List ℕ → Type 0 = λ l. StartsWith l part in
     subst P (sym h.1.0) (part, subst Q (lines_text n reply h.0 text h.1.0 h.1.1) front, w)
 
+-- writing it broke off
+pub reply_breaks_off : (n : ℕ) (reply : Reply) (held holds : Option (List ℕ)) (text : List ℕ) → ((t : Told) × ((told reply ≡ Some t) × (text ≡ line_of t))) → BreaksOff (numbered n text) held holds
+    → BreaksOffReply n (told reply) held holds
+reply_breaks_off n reply held holds text h broken =
+    let P : Option Told → Type 0 = λ o. BreaksOffReply n o held holds in
+    let Q : List ℕ → Type 0 = λ l. BreaksOff l held holds in
+    subst P (sym h.1.0) (subst Q (lines_text n reply h.0 text h.1.0 h.1.1) broken)
+
 -- ---- it answers its record
 
 answered : (n kind : ℕ) (payload : List ℕ) (reply : Option Told) (old new : LedgerView) (held holds : Option (List ℕ)) → Replies kind payload reply old new → WritesReply n reply held holds
@@ -84,19 +93,13 @@ begun_answers read n kind same payload reply old new held holds (Err e) is repli
     let P : ℕ → Type 0 = λ k. Replies k payload reply old new in
     (written.0, may_be_answered n kind payload reply old new held holds (subst P (sym is) replies) written.1)
 
-is_begun : (n kind : ℕ) (payload : List ℕ) (reply : Option Told) (old new : LedgerView) (held holds : Option (List ℕ)) → (reply ≢ None) → Replies kind payload reply old new
-    → WritesReplyPart n reply held holds → IsBegun n kind payload old new held holds
-is_begun n kind payload None old new held holds some replies written = absurd (some refl)
-is_begun n kind payload (Some t) old new held holds some replies written = (reply_lines t, ((t, (answers_whole kind payload t old new replies, refl)), written))
-
--- a write fails only where something is told
-pub failed_write_begins : {T E : Type 0} (read write : E) (n kind same : ℕ) (payload : List ℕ) (reply : Option Told) (old new : LedgerView) (held holds : Option (List ℕ)) (r : Result T E)
-    → kind ≡ same → Replies same payload reply old new
-    → IfErr r (λ e. (e ≢ read) × WritesReplyPart n reply held holds) → (r ≡ Err write → reply ≢ None) → r ≡ Err write → IsBegun n kind payload old new held holds
-failed_write_begins read write n kind same payload reply old new held holds (Ok v) is replies written some failed = cc
-failed_write_begins read write n kind same payload reply old new held holds (Err e) is replies written some failed =
-    let P : ℕ → Type 0 = λ k. Replies k payload reply old new in
-    is_begun n kind payload reply old new held holds (some failed) (subst P (sym is) replies) written.1
+-- a write fails only where something is told, and not all of it is written then
+pub breaks_off : (n kind same : ℕ) (payload : List ℕ) (reply : Option Told) (old new : LedgerView) (held holds : Option (List ℕ)) → kind ≡ same → Replies same payload reply old new
+    → BreaksOffReply n reply held holds → IsBrokenOff n kind payload old new held holds
+breaks_off n kind same payload None old new held holds is replies broken = absurd broken
+breaks_off n kind same payload (Some t) old new held holds is replies broken =
+    let P : ℕ → Type 0 = λ k. Replies k payload (Some t) old new in
+    (reply_lines t, ((t, (answers_whole kind payload t old new (subst P (sym is) replies), refl)), broken))
 
 -- a payload of a kind of no record has no shape
 shapeless : (kind : ℕ) (payload : List ℕ) → (kind ≢ 1) → (kind ≢ 2) → (kind ≢ 3) → (kind ≢ 4) → IsShapeless kind payload

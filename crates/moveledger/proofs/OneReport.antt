@@ -1,5 +1,5 @@
 -- One input and one ledger allow one report.
-use Rattle.std.proofs.Common.{◌≡◌, ℕ, ◌+◌, ◌-◌, ◌^◌, ◌<◌, ◌≤◌, List, [], ◌∷◌, ◌++◌, length, flat_map, refl, sym, ap, ap₂, ◌∙◌, subst, arith, ◌⊎◌, inl, inr}
+use Rattle.std.proofs.Common.{◌≡◌, ℕ, ◌+◌, ◌≤◌, List, [], ◌∷◌, ◌++◌, length, flat_map, refl, sym, ap, ap₂, ◌∙◌, subst, arith, ◌⊎◌, inl, inr}
 use Rattle.std.proofs.lemmas.Option.{some_pair_parts}
 use Rattle.mv_move_types.specs.Published.{PublishedModule}
 use Rattle.mv_binary_format.specs.Laws.{IsReadByText}
@@ -9,7 +9,7 @@ use Rattle.mv_ledger.specs.RecordText.{Asks, IsShaped}
 use Rattle.mv_ledger.specs.Publishing.{Spells, IsPublished, IsRefusedAt}
 use Rattle.mv_ledger.specs.Exact.{IsAccepted, IsRefused, no_bundle, failing, IsRightly}
 use Rattle.mv_ledger.specs.View.{LedgerView, state_of}
-use Rattle.moveledger.specs.Records.{Record, Whole, Cut, AreRecords}
+use Rattle.moveledger.specs.Records.{Record, Whole, Cut, AreRecords, most_records}
 use Rattle.moveledger.specs.Headline.{AnswersWhole, Step, Reports}
 use Rattle.moveledger.specs.OneReport.{OneReport}
 use Rattle.moveledger.proofs.One.{begins_one, nothing_begins}
@@ -112,7 +112,7 @@ records-most (r ∷ rs) (q ∷ bs) input x y a e b =
 
 -- where the one read up to the end, the other read no more
 count-most : (rs bs : List Record) (input x y : List ℕ) (n m : ℕ) → AreRecords input rs x → AreRecords input bs y → n ≡ length rs → m ≡ length bs
-    → m < 2 ^ 64 → (x ≡ []) ⊎ (n ≡ 2 ^ 64 - 1) → m ≤ n
+    → m ≤ most_records → (x ≡ []) ⊎ (n ≡ most_records) → m ≤ n
 count-most rs bs input x y n m a b c d lt (inl e) =
     let le : length bs ≤ length rs = records-most rs bs input x y a e b in
     omega (arith, le, c, d)

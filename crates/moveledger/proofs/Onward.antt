@@ -1,6 +1,6 @@
 -- From one record to the next, where numbers go on from those of earlier records.
 use Rattle.std.proofs.Common.{◌≡◌, ℕ, ◌+◌, ◌-◌, ◌^◌, List, [], ◌∷◌, ◌++◌, length, arith, refl, sym, ap, ◌∙◌, subst, append_assoc}
-use Rattle.std.proofs.Common.{Option, inl, inr, ◌⊎◌, flat_map}
+use Rattle.std.proofs.Common.{Option, inl, inr, flat_map}
 use Rattle.std.specs.Io.{StartsWith}
 use Rattle.std.specs.Io.KnownBytes.{Consumes, Appends}
 use Rattle.std.proofs.KnownBytes.{Consumes-nil, Appends-nil, Consumes-trans, Appends-trans}
@@ -9,7 +9,7 @@ use Rattle.mv_machine.specs.Lines.{Refused, reply_lines, numbered}
 use Rattle.moveledger.specs.Records.{Record, Whole, Cut, IsText, AreRecords, AreWhole}
 use Rattle.moveledger.specs.Headline.{Reports}
 use Rattle.moveledger.specs.Reading.{IsCutAt, IsUnfinished}
-use Rattle.moveledger.specs.Outcome.{left_of, Stays, Begun}
+use Rattle.moveledger.specs.Outcome.{left_of, StopsAt, being_answered, part_of_a_record, read_and_nothing_done}
 use Rattle.moveledger.specs.Answered.{IsAnswered, MayBeAnswered}
 use Rattle.moveledger.specs.Continuing.{GoesOn, StopsAfter}
 use Rattle.moveledger.proofs.Steps.{AreRecords-push, Reports-push, length-push, Tells-trans, nonempty}
@@ -117,7 +117,7 @@ Continues-cut before given gives gives2 held holds holds2 old new n took p taken
 -- It stops in one more record.
 pub Continues-stops : (before : ℕ) (given gives gives2 held holds holds2 : Option (List ℕ)) (old new new2 : LedgerView) (n : ℕ) (took part : List ℕ)
     → Continues before given gives held holds old new n → Consumes gives gives2 took
-    → Stays took (left_of gives2) new new2 part ⊎ Begun (n + 1) took (left_of gives2) new new2 part
+    → StopsAt (n + 1) took (left_of gives2) new new2 part
     → Appends holds holds2 part → StopsAfter before given gives2 held holds2 old new2 n
 Continues-stops before given gives gives2 held holds holds2 old new new2 n took part p taken last written = record {
   whole = p.whole;
@@ -138,20 +138,20 @@ Continues-stops before given gives gives2 held holds holds2 old new new2 n took 
 pub Continues-unread : (before : ℕ) (given gives gives2 held holds : Option (List ℕ)) (old new : LedgerView) (n : ℕ) (took : List ℕ)
     → Continues before given gives held holds old new n → Consumes gives gives2 took → IsUnfinished took → StopsAfter before given gives2 held holds old new n
 Continues-unread before given gives gives2 held holds old new n took p taken part =
-    Continues-stops before given gives gives2 held holds holds old new new n took [] p taken (inl (inl part, refl, refl)) (Appends-nil holds)
+    Continues-stops before given gives gives2 held holds holds old new new n took [] p taken (part_of_a_record part refl refl) (Appends-nil holds)
 
 -- an answer may have been begun
 pub Continues-answered : (before : ℕ) (given gives gives2 held holds holds2 : Option (List ℕ)) (old new new2 : LedgerView) (n kind : ℕ) (payload took : List ℕ)
     → Continues before given gives held holds old new n → Consumes gives gives2 took → IsText took kind payload
     → MayBeAnswered (n + 1) kind payload new new2 holds holds2 → StopsAfter before given gives2 held holds2 old new2 n
 Continues-answered before given gives gives2 held holds holds2 old new new2 n kind payload took p taken is (inl h) =
-    Continues-stops before given gives gives2 held holds holds2 old new new2 n took [] p taken (inl (inr (Whole kind payload, is), h.0, refl)) h.1
+    Continues-stops before given gives gives2 held holds holds2 old new new2 n took [] p taken (read_and_nothing_done (Whole kind payload) is h.0 refl) h.1
 Continues-answered before given gives gives2 held holds holds2 old new new2 n kind payload took p taken is (inr h) =
-    Continues-stops before given gives gives2 held holds holds2 old new new2 n took h.1.1.0 p taken (inr (Whole kind payload, h.0, is, h.1.0, h.1.1.1)) h.1.1.2
+    Continues-stops before given gives gives2 held holds holds2 old new new2 n took h.1.1.0 p taken (being_answered (Whole kind payload, h.0, is, h.1.0, h.1.1.1)) h.1.1.2
 
 -- the line of a cut record was begun
 pub Continues-begun_cut : (before : ℕ) (given gives gives2 held holds holds2 : Option (List ℕ)) (old new : LedgerView) (n : ℕ) (took part : List ℕ)
     → Continues before given gives held holds old new n → Consumes gives gives2 took → IsCutAt took (left_of gives2)
     → StartsWith (flat_map (numbered (n + 1)) (reply_lines (Refused 1))) part → Appends holds holds2 part → StopsAfter before given gives2 held holds2 old new n
 Continues-begun_cut before given gives gives2 held holds holds2 old new n took part p taken cut front written =
-    Continues-stops before given gives gives2 held holds holds2 old new new n took part p taken (inr (Cut, reply_lines (Refused 1), cut, (refl, refl), front)) written
+    Continues-stops before given gives gives2 held holds holds2 old new new n took part p taken (being_answered (Cut, reply_lines (Refused 1), cut, (refl, refl), front)) written

@@ -21,7 +21,7 @@ use Rattle.mv_ledger.proofs.Spelling.{module-one}
 use Rattle.moveledger.specs.Checking.{AreShort, IsAccepted, IsRefusedAlone, PassesWith, before_line_end, offer_of}
 use Rattle.moveledger.specs.Proving.{HasNoProof, IsAcceptedBack, IsProvableText, IsProvedBy, IsShort, error_of, in_each, in_module}
 use Rattle.moveledger.proofs.Texts.{before_line_end-hexadecimal, before_line_end-line}
-use Rattle.mv_ledger.proofs.SavedFails.{never-fails}
+use Rattle.mv_ledger.proofs.Phases.{never-fails}
 
 -- what isn't refused holds
 decided : (b : Bool) → ((IsTrue b → ⊥) → ⊥) → IsTrue b
@@ -82,7 +82,6 @@ provable-spelled reads bytes are m spells provable =
     ((provable.stated, (provable.passes.certificate.1, provable.passes.holds)), provable.passes.acquires)
 
 -- where some certificate passes, the module is not refused alone
-pub provable-refused : (bytes : List ℕ) → IsReadByText → AreBytes bytes → IsProvableText bytes → (e : Refusal) → IsRefusedAlone bytes e → IsOfLimits (error_of e)
-provable-refused bytes reads are provable (Phase p) h =
-    absurd (never-fails reads (offer_of bytes provable.certificate) provable.tables provable.stated are provable.passes (h provable.certificate))
-provable-refused bytes reads are provable OutOfMemory h = tt
+pub provable-refused : (bytes : List ℕ) → IsProvableText bytes → (e : Refusal) → IsRefusedAlone bytes e → IsOfLimits (error_of e)
+provable-refused bytes provable (Phase p) h = absurd (never-fails (offer_of bytes provable.certificate) provable.tables provable.stated provable.passes p (h provable.certificate))
+provable-refused bytes provable OutOfMemory h = tt

@@ -9,9 +9,11 @@ use Rattle.mv_machine.specs.Lines.{numbered}
 use Rattle.moveledger.specs.Records.{Record, Whole, Cut, IsText, Begins, AreRecords}
 use Rattle.moveledger.specs.Headline.{Step, Reports, Tells, Headline}
 use Rattle.moveledger.specs.Reading.{IsCutAt, IsTaken, IsUnfinished}
-use Rattle.moveledger.specs.Outcome.{left_of, ReadsAll, Stops, StopsReading, StopsWriting}
-use Rattle.moveledger.proofs.Progress.{Progress}
-use Rattle.moveledger.specs.Answered.{IsBegun, MayBeAnswered}
+use Rattle.moveledger.specs.Outcome.{left_of, Begun, BrokenOff, Finished, ReadsAll, Stops, StopsBehind, StopsReading, StopsWith, StopsWriting, at_a_cut_record, at_the_end}
+use Rattle.moveledger.specs.Outcome.{at_the_last_number, being_answered, part_of_a_record, read_and_nothing_done}
+use Rattle.moveledger.specs.Progress.{Progress}
+use Rattle.moveledger.specs.Answered.{IsBegun, IsBrokenOff, MayBeAnswered}
+use Rattle.moveledger.specs.Writing.{BreaksOff}
 use Rattle.moveledger.proofs.Taken.{Tells-taken}
 use Rattle.moveledger.proofs.Unfinished.{NoWhole-cut, some-cut}
 
@@ -84,13 +86,13 @@ Progress-next given gives gives2 held holds holds2 old new new2 n kind took item
       report = Reports-push p.records 1 old new new2 r p.text lines p.report step;
     }
 
--- one more record was read, which takes the ledger on, and a part of its lines was written
-pub Stops-writing : (given gives gives2 held holds holds2 : Option (List ℕ)) (old new new2 : LedgerView) (n : ℕ) (r : Record) (took part : List ℕ) (lines : List (List ℕ))
-    → Progress given gives held holds old new n → Consumes gives gives2 took → IsTaken took (left_of gives2) r → Step new r lines new2
-    → StartsWith (flat_map (numbered (n + 1)) lines) part → Appends holds holds2 part → StopsWriting given gives2 held holds2 old new2
-Stops-writing given gives gives2 held holds holds2 old new new2 n r took part lines p taken is step front written =
+-- one more record was read, of which there is this to say
+Stops-with : (Last : ℕ → List ℕ → List ℕ → LedgerView → LedgerView → List ℕ → Type 0) (given gives gives2 held holds holds2 : Option (List ℕ)) (old new new2 : LedgerView) (n : ℕ) (took part : List ℕ)
+    → Progress given gives held holds old new n → Consumes gives gives2 took → Last (n + 1) took (left_of gives2) new new2 part → Appends holds holds2 part
+    → StopsWith Last given gives2 held holds2 old new2
+Stops-with Last given gives gives2 held holds holds2 old new new2 n took part p taken last written =
     let number : n + 1 ≡ 1 + length p.records = omega (arith, p.count) in
-    let P : ℕ → Type 0 = λ m. StartsWith (flat_map (numbered m) lines) part in
+    let P : ℕ → Type 0 = λ m. Last m took (left_of gives2) new new2 part in
     record {
       whole = p.whole;
       took = took;
@@ -101,12 +103,33 @@ Stops-writing given gives gives2 held holds holds2 old new new2 n r took part li
       taken = Consumes-trans given gives gives2 p.whole took p.taken taken;
       read = p.read;
       report = p.report;
-      last = (r, lines, is, step, subst P number front);
+      last = subst P number last;
       written = Appends-trans held holds holds2 p.text part p.written written;
     }
 
--- a failed write is one of the ways in which it stops
-pub Stops-written : (given gives held holds : Option (List ℕ)) (old new : LedgerView) → StopsWriting given gives held holds old new → Stops given gives held holds old new
+-- it takes the ledger on, and a part of its lines was written
+pub Stops-writing : (given gives gives2 held holds holds2 : Option (List ℕ)) (old new new2 : LedgerView) (n : ℕ) (r : Record) (took part : List ℕ) (lines : List (List ℕ))
+    → Progress given gives held holds old new n → Consumes gives gives2 took → IsTaken took (left_of gives2) r → Step new r lines new2
+    → StartsWith (flat_map (numbered (n + 1)) lines) part → Appends holds holds2 part → StopsWith Begun given gives2 held holds2 old new2
+Stops-writing given gives gives2 held holds holds2 old new new2 n r took part lines p taken is step front written =
+    Stops-with Begun given gives gives2 held holds holds2 old new new2 n took part p taken (r, lines, is, step, front) written
+
+-- and not all of them was
+pub Stops-broken : (given gives gives2 held holds holds2 : Option (List ℕ)) (old new new2 : LedgerView) (n : ℕ) (r : Record) (took : List ℕ) (lines : List (List ℕ))
+    → Progress given gives held holds old new n → Consumes gives gives2 took → IsTaken took (left_of gives2) r → Step new r lines new2
+    → BreaksOff (flat_map (numbered (n + 1)) lines) holds holds2 → StopsWriting given gives2 held holds2 old new2
+Stops-broken given gives gives2 held holds holds2 old new new2 n r took lines p taken is step h =
+    Stops-with BrokenOff given gives gives2 held holds holds2 old new new2 n took h.0 p taken (r, lines, is, step, h.1, h.2) h.3
+
+-- or all of them were
+pub Stops-behind : (given gives gives2 held holds holds2 : Option (List ℕ)) (old new new2 : LedgerView) (n : ℕ) (r : Record) (took : List ℕ) (lines : List (List ℕ))
+    → Progress given gives held holds old new n → Consumes gives gives2 took → IsTaken took (left_of gives2) r → Step new r lines new2
+    → Appends holds holds2 (flat_map (numbered (n + 1)) lines) → StopsBehind given gives2 held holds2 old new2
+Stops-behind given gives gives2 held holds holds2 old new new2 n r took lines p taken is step written =
+    Stops-with Finished given gives gives2 held holds holds2 old new new2 n took (flat_map (numbered (n + 1)) lines) p taken (r, lines, is, step, refl) written
+
+-- that is one of the ways in which it stops
+pub Stops-written : (given gives held holds : Option (List ℕ)) (old new : LedgerView) → StopsWith Begun given gives held holds old new → Stops given gives held holds old new
 Stops-written given gives held holds old new h = record {
   whole = h.whole;
   took = h.took;
@@ -117,7 +140,7 @@ Stops-written given gives held holds old new h = record {
   taken = h.taken;
   read = h.read;
   report = h.report;
-  last = inr h.last;
+  last = being_answered h.last;
   written = h.written;
 }
 
@@ -133,7 +156,7 @@ Stops-read given gives held holds old new h = record {
   taken = h.taken;
   read = h.read;
   report = h.report;
-  last = inl (inl h.cut, refl, refl);
+  last = part_of_a_record h.cut refl refl;
   written = subst (Appends held holds) (sym (append-nil h.text)) h.written;
 }
 
@@ -150,14 +173,21 @@ Stops-idle given gives gives2 held holds holds2 old new n r took p taken is none
   taken = Consumes-trans given gives gives2 p.whole took p.taken taken;
   read = p.read;
   report = p.report;
-  last = inl (inr (r, is), refl, refl);
+  last = read_and_nothing_done r is refl refl;
   written = Appends-trans held holds holds2 p.text [] p.written none;
 }
 
--- one more record was read, and its answer begun
-pub Stops-begun : (given gives gives2 held holds holds2 : Option (List ℕ)) (old new new2 : LedgerView) (n kind : ℕ) (payload took : List ℕ)
+-- one more record was read, and writing its answer broke off
+pub Stops-broken_off : (given gives gives2 held holds holds2 : Option (List ℕ)) (old new new2 : LedgerView) (n kind : ℕ) (payload took : List ℕ)
     → Progress given gives held holds old new n → Consumes gives gives2 took → IsText took kind payload
-    → IsBegun (n + 1) kind payload new new2 holds holds2 → StopsWriting given gives2 held holds2 old new2
+    → IsBrokenOff (n + 1) kind payload new new2 holds holds2 → StopsWriting given gives2 held holds2 old new2
+Stops-broken_off given gives gives2 held holds holds2 old new new2 n kind payload took p taken is h =
+    Stops-broken given gives gives2 held holds holds2 old new new2 n (Whole kind payload) took h.0 p taken is h.1.0 h.1.1
+
+-- or its answer was begun
+Stops-begun : (given gives gives2 held holds holds2 : Option (List ℕ)) (old new new2 : LedgerView) (n kind : ℕ) (payload took : List ℕ)
+    → Progress given gives held holds old new n → Consumes gives gives2 took → IsText took kind payload
+    → IsBegun (n + 1) kind payload new new2 holds holds2 → StopsWith Begun given gives2 held holds2 old new2
 Stops-begun given gives gives2 held holds holds2 old new new2 n kind payload took p taken is h =
     Stops-writing given gives gives2 held holds holds2 old new new2 n (Whole kind payload) took h.1.1.0 h.0 p taken is h.1.0 h.1.1.1 h.1.1.2
 
@@ -213,7 +243,7 @@ Progress-ends given gives gives2 held holds old new n took p taken none end = re
 }
 
 -- and all of it was read
-pub Progress-reads : (given gives gives2 held holds : Option (List ℕ)) (old new : LedgerView) (n : ℕ) (took : List ℕ)
+unfoldable pub Progress-reads : (given gives gives2 held holds : Option (List ℕ)) (old new : LedgerView) (n : ℕ) (took : List ℕ)
     → Progress given gives held holds old new n → Consumes gives gives2 took → took ≡ [] → left_of gives2 ≡ [] → ReadsAll given gives2 n
 Progress-reads given gives gives2 held holds old new n took p taken none end = record {
   whole = p.whole;
@@ -221,11 +251,11 @@ Progress-reads given gives gives2 held holds old new n took p taken none end = r
   records = p.records;
   taken = Consumes-trans given gives gives2 p.whole took p.taken taken;
   read = p.read;
-  end = inl (p.count, none, inl end);
+  end = at_the_end p.count none end;
 }
 
 -- the last record was cut, and read up to where it is
-pub Progress-reads_cut : (given gives gives2 held holds : Option (List ℕ)) (old new : LedgerView) (n : ℕ) (took : List ℕ)
+unfoldable pub Progress-reads_cut : (given gives gives2 held holds : Option (List ℕ)) (old new : LedgerView) (n : ℕ) (took : List ℕ)
     → Progress given gives held holds old new n → Consumes gives gives2 took → IsCutAt took (left_of gives2) → ReadsAll given gives2 (n + 1)
 Progress-reads_cut given gives gives2 held holds old new n took p taken cut = record {
   whole = p.whole;
@@ -233,7 +263,7 @@ Progress-reads_cut given gives gives2 held holds old new n took p taken cut = re
   records = p.records;
   taken = Consumes-trans given gives gives2 p.whole took p.taken taken;
   read = p.read;
-  end = inr (ap (λ m. m + 1) p.count, cut);
+  end = at_a_cut_record (ap (λ m. m + 1) p.count) cut;
 }
 
 -- the numbers ended
@@ -253,7 +283,7 @@ Progress-full given gives held holds old new n m p same full = record {
 }
 
 -- as many were read as there are numbers
-pub Progress-reads_full : (given gives held holds : Option (List ℕ)) (old new : LedgerView) (n m : ℕ)
+unfoldable pub Progress-reads_full : (given gives held holds : Option (List ℕ)) (old new : LedgerView) (n m : ℕ)
     → Progress given gives held holds old new n → m ≡ n → m ≡ 2 ^ 64 - 1 → ReadsAll given gives m
 Progress-reads_full given gives held holds old new n m p same full = record {
   whole = p.whole;
@@ -261,7 +291,7 @@ Progress-reads_full given gives held holds old new n m p same full = record {
   records = p.records;
   taken = subst (Consumes given gives) (sym (append-nil p.whole)) p.taken;
   read = p.read;
-  end = inl (same ∙ p.count, refl, inr full);
+  end = at_the_last_number (same ∙ p.count) refl full;
 }
 
 -- the last record was cut

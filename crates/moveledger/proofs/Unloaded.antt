@@ -8,6 +8,7 @@ use Rattle.mv_ledger.specs.declared.loading.LoadError.TheVariants.{Head, Module,
 use Rattle.moveledger.specs.Authoring.{Prints}
 use Rattle.moveledger.specs.Printing.{line, load_refused_text}
 use Rattle.moveledger.specs.Saved.{IsNotLoaded}
+use Rattle.moveledger.specs.Writing.{BreaksOff}
 use Rattle.moveledger.specs.declared.ending.End.{End}
 use Rattle.moveledger.specs.declared.ending.End.TheVariants.{LoadRefused}
 
@@ -34,8 +35,9 @@ pub not_loaded-printed : {S A : Type 0} (bytes_of : S → List ℕ) (bytes : Lis
     (held holds : Option (List ℕ)) (result : End) → load_number error ≡ Some number → IsLoadRefusal bytes error
     → IfOk made (λ s. bytes_of s ≡ line (load_refused_text number)) → Prints bytes_of made (LoadRefused number) held holds result
     → IsNotLoaded bytes held holds result
-not_loaded-printed bytes_of bytes error number (Err e) held holds result n h said is = subst (IsNotLoaded bytes held holds) (sym is) tt
-not_loaded-printed bytes_of bytes error number (Ok s) held holds result n h said (inl is) = subst (IsNotLoaded bytes held holds) (sym is) tt
+not_loaded-printed bytes_of bytes error number (Err e) held holds result n h said p = subst (IsNotLoaded bytes held holds) (sym p.0) p.1
+not_loaded-printed bytes_of bytes error number (Ok s) held holds result n h said (inl p) =
+    subst (IsNotLoaded bytes held holds) (sym p.0) (number, by-number bytes error number n h, subst (λ l. BreaksOff l held holds) said p.1)
 not_loaded-printed bytes_of bytes error number (Ok s) held holds result n h said (inr p) =
     subst (IsNotLoaded bytes held holds) (sym p.0) (by-number bytes error number n h, subst (Appends held holds) said p.1)
 

@@ -3,15 +3,13 @@ use Rattle.std.proofs.Common.{◌≡◌, ℕ, List, ◌⊎◌, inl, inr, refl, s
 use Rattle.mv_move_types.specs.declared.refusal.Refusal.{Refusal}
 use Rattle.mv_move_types.specs.declared.refusal.Refusal.TheVariants.{Phase, Memory}
 use Rattle.mv_move_types.specs.Module.{Module}
-use Rattle.mv_module_text.specs.Laws.{AreBytes}
-use Rattle.mv_binary_format.specs.Laws.{IsReadByText}
 use Rattle.mv_type_states.specs.Sound.{IsSound}
 use Rattle.hex.proofs.HexLemmas.{decode_of-same}
 use Rattle.moveledger.specs.Hexadecimal.{IsHexadecimal}
 use Rattle.mv_ledger.specs.Publishing.{Spells, FailsAt, IsRefusedOffer}
 use Rattle.moveledger.specs.Checking.{AreShort, FailsCheck, FailsWith, IsAccepted, IsRefusedAlone, IsRefusedText, IsRefusedWith, PassesWith}
 use Rattle.moveledger.specs.Checking.{before_line_end, failing, in_certificate, in_module, not_hexadecimal, offer_of, too_long}
-use Rattle.mv_ledger.proofs.SavedFails.{never-fails}
+use Rattle.mv_ledger.proofs.Phases.{never-fails}
 use Rattle.moveledger.proofs.Digits.{decode_of-hexadecimal}
 
 module _ (bytes : List ℕ) where
@@ -40,20 +38,20 @@ module _ (bytes : List ℕ) where
   refused-text text Memory short h = tt
 
 -- what is accepted fails in no phase
-module _ (bytes digits : List ℕ) (reads : IsReadByText) (are : AreBytes bytes) (passes : PassesWith bytes digits) where
+module _ (bytes digits : List ℕ) (passes : PassesWith bytes digits) where
   never-with : {p : ℕ} → FailsWith bytes digits p → ⊥
   never-with (in_module phase alone) =
-      never-fails reads (offer_of bytes passes.certificate) passes.tables passes.stated are passes.passes (alone passes.certificate)
+      never-fails (offer_of bytes passes.certificate) passes.tables passes.stated passes.passes phase (alone passes.certificate)
   never-with (not_hexadecimal m text sound none) = none passes.certificate passes.spelled
   never-with (in_certificate certificate phase spelled fails) =
       let same : certificate ≡ passes.certificate =
       decode_of-same digits certificate passes.certificate (decode_of-hexadecimal digits certificate spelled) (decode_of-hexadecimal digits passes.certificate passes.spelled) in
-      never-fails reads (offer_of bytes passes.certificate) passes.tables passes.stated are passes.passes (subst (λ (l : List ℕ). FailsAt (offer_of bytes l) phase) same fails)
+      never-fails (offer_of bytes passes.certificate) passes.tables passes.stated passes.passes phase (subst (λ (l : List ℕ). FailsAt (offer_of bytes l) phase) same fails)
 
-never-fails-check : (bytes text : List ℕ) → IsReadByText → AreBytes bytes → IsAccepted bytes text → {p : ℕ} → FailsCheck bytes text p → ⊥
-never-fails-check bytes text reads are accepted (too_long long) = long accepted.0
-never-fails-check bytes text reads are accepted (failing phase short fails) = never-with bytes (before_line_end text) reads are accepted.1 fails
+never-fails-check : (bytes text : List ℕ) → IsAccepted bytes text → {p : ℕ} → FailsCheck bytes text p → ⊥
+never-fails-check bytes text accepted (too_long long) = long accepted.0
+never-fails-check bytes text accepted (failing phase short fails) = never-with bytes (before_line_end text) accepted.1 fails
 
-pub accepted-refused : (bytes text : List ℕ) → IsReadByText → AreBytes bytes → IsAccepted bytes text → (e : Refusal) → IsRefusedText bytes text e → e ≡ Memory
-accepted-refused bytes text reads are accepted (Phase p) h = absurd (never-fails-check bytes text reads are accepted h)
-accepted-refused bytes text reads are accepted Memory h = refl
+pub accepted-refused : (bytes text : List ℕ) → IsAccepted bytes text → (e : Refusal) → IsRefusedText bytes text e → e ≡ Memory
+accepted-refused bytes text accepted (Phase p) h = absurd (never-fails-check bytes text accepted h)
+accepted-refused bytes text accepted Memory h = refl

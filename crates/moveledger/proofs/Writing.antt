@@ -1,12 +1,15 @@
 -- Lines that are written piece by piece.
-use Rattle.std.proofs.Common.{◌≡◌, ℕ, List, [], ◌∷◌, ◌++◌, length, drop, refl, sym, ap, ◌∙◌, subst, append-nil, append_assoc, Bool, true, false, codes, decimal, Option, flat_map}
+use Rattle.std.proofs.Common.{◌≡◌, ◌≢◌, ◌⊎◌, ◌<◌, ℕ, List, [], ◌∷◌, ◌++◌, length, drop, refl, sym, ap, ◌∙◌, subst, append-nil, append_assoc, Bool, true, false, codes, decimal, Option, flat_map}
+use Rattle.std.proofs.Common.{arith, length-append, length-drop, inl, inr}
 use Rattle.std.specs.Prelude.{not}
-use Rattle.std.specs.Io.{StartsWith}
 use Rattle.std.specs.Io.KnownBytes.{Appends}
 use Rattle.std.proofs.KnownBytes.{Appends-nil, Appends-trans, starts_with_rest}
 use Rattle.mv_machine.specs.Lines.{numbered}
 use Rattle.mv_ledger.specs.Pieces.{TakesPiece, piece_text}
 use Rattle.moveledger.specs.Answered.{Writes, WritesPart, number_at}
+use Rattle.moveledger.specs.Writing.{BreaksOff}
+use Rattle.moveledger.specs.declared.streaming.EngineError.{EngineError}
+use Rattle.moveledger.specs.declared.streaming.EngineError.TheVariants.{Read, Write, Memory}
 use Rattle.std.proofs.Transfers.{starts_with_of_append}
 
 -- what is to be written of lines, of which the first may be begun
@@ -58,13 +61,44 @@ HasWritten-end n false all left a b h e = subst (Appends a b) (sym (h.1.0 ∙ ap
 pub HasWritten-part : (n : ℕ) (begun : Bool) (all left : List (List ℕ)) (a b : Option (List ℕ)) → HasWritten n begun all left a b → WritesPart n all a b
 HasWritten-part n begun all left a b h = (h.0, starts_with_of_append (flat_map (numbered n) all) h.0 (text_left n begun left) h.1.0, h.1.1)
 
-pub HasWritten-begun : (n : ℕ) (begun last : Bool) (piece part : List ℕ) (all old new : List (List ℕ)) (a b c : Option (List ℕ)) → HasWritten n begun all old a b → TakesPiece last piece old new
-    → StartsWith (written_piece n begun last piece) part → Appends b c part → WritesPart n all a c
-HasWritten-begun n begun last piece part all old new a b c h takes front w =
+-- where a text begins with some bytes, and not with more, more of it is left
+rest-left : (text part behind : List ℕ) → length part < length text → 0 < length (drop (length part) text ++ behind)
+rest-left text part behind less = omega (arith, less, length-drop (length part) text, length-append (drop (length part) text) behind)
+
+-- and of a text of which that is left more is than what went before
+more-left : (all front rest : List ℕ) → all ≡ front ++ rest → 0 < length rest → length front < length all
+more-left all front rest is some = let sized : length all ≡ length (front ++ rest) = ap length is in omega (arith, some, sized, length-append front rest)
+
+-- writing a piece broke off, and so writing the lines did
+pub HasWritten-broken : (n : ℕ) (begun last : Bool) (piece : List ℕ) (all old new : List (List ℕ)) (a b c : Option (List ℕ)) → HasWritten n begun all old a b → TakesPiece last piece old new
+    → BreaksOff (written_piece n begun last piece) b c → BreaksOff (flat_map (numbered n) all) a c
+HasWritten-broken n begun last piece all old new a b c h takes broken =
     let text : List ℕ = written_piece n begun last piece in
+    let part : List ℕ = broken.0 in
     let more : List ℕ = drop (length part) text in
     let behind : List ℕ = text_left n (not last) new in
     let tail : text_left n begun old ≡ part ++ (more ++ behind) =
-    left-piece n begun last piece old new takes ∙ ap (λ l. l ++ behind) (starts_with_rest text part front) ∙ append_assoc part more behind in
-    let whole : flat_map (numbered n) all ≡ (h.0 ++ part) ++ (more ++ behind) = h.1.0 ∙ ap (λ l. h.0 ++ l) tail ∙ sym (append_assoc h.0 part (more ++ behind)) in
-    (h.0 ++ part, starts_with_of_append (flat_map (numbered n) all) (h.0 ++ part) (more ++ behind) whole, Appends-trans a b c h.0 part h.1.1 w)
+    left-piece n begun last piece old new takes ∙ ap (λ l. l ++ behind) (starts_with_rest text part broken.1) ∙ append_assoc part more behind in
+    let whole : flat_map (numbered n) all ≡ (h.0 ++ part) ++ (more ++ behind) = h.1.0 ∙ ap (λ l. h.0 ++ l) tail ∙ sym (append_assoc h.0 part (more ++ behind)) in (
+      h.0 ++ part,
+      starts_with_of_append (flat_map (numbered n) all) (h.0 ++ part) (more ++ behind) whole,
+      more-left (flat_map (numbered n) all) (h.0 ++ part) (more ++ behind) whole (rest-left text part behind broken.2),
+      Appends-trans a b c h.0 part h.1.1 broken.3,
+    )
+
+-- a part of the text was written then
+pub BreaksOff-part : (n : ℕ) (all : List (List ℕ)) (a b : Option (List ℕ)) → BreaksOff (flat_map (numbered n) all) a b → WritesPart n all a b
+BreaksOff-part n all a b broken = (broken.0, broken.1, broken.3)
+
+-- memory ran out before a piece was written
+pub HasWritten-kept : (n : ℕ) (begun : Bool) (all left : List (List ℕ)) (a b c : Option (List ℕ)) → HasWritten n begun all left a b → c ≡ b → WritesPart n all a c
+HasWritten-kept n begun all left a b c h same = subst (WritesPart n all a) (sym same) (HasWritten-part n begun all left a b h)
+
+-- a piece failed in one of the two ways
+pub HasWritten-failed : (n : ℕ) (begun last : Bool) (piece : List ℕ) (all old new : List (List ℕ)) (a b c : Option (List ℕ)) (e : EngineError) → HasWritten n begun all old a b
+    → TakesPiece last piece old new → (e ≡ Write) ⊎ (e ≡ Memory) → (e ≡ Write → BreaksOff (written_piece n begun last piece) b c) → (e ≡ Memory → c ≡ b)
+    → (e ≢ Read) × WritesPart n all a c
+HasWritten-failed n begun last piece all old new a b c e h takes (inl is) write memory =
+    ((λ same. cc), BreaksOff-part n all a c (HasWritten-broken n begun last piece all old new a b c h takes (write is)))
+HasWritten-failed n begun last piece all old new a b c e h takes (inr is) write memory =
+    ((λ same. cc), HasWritten-kept n begun all old a b c h (memory is))

@@ -1,4 +1,10 @@
 -- What answers a whole record.
+--   Writes n lines held holds                 a writer took these lines, each with the record's number; WritesPart: a prefix of them
+--   WritesReply, WritesReplyPart              the same of the lines of a reply, or of no reply
+--   IsAnswered n kind payload old new ..      the record was answered, and all its lines were written
+--   IsBegun n kind payload old new ..         the record was answered, and a prefix of its lines was written
+--   MayBeAnswered n kind payload old new ..   that, or nothing happened
+-- number_at, first_line and line_of serve the contracts of the functions that write.
 use Rattle.std.specs.Prelude.{◌≡◌, ◌⊎◌, ℕ, Bool, true, false, List, [], ◌∷◌, ◌++◌, Option, Some, None, codes, decimal, flat_map}
 use Rattle.std.specs.Io.{StartsWith}
 use Rattle.std.specs.Io.KnownBytes.{Appends}
@@ -6,6 +12,7 @@ use Rattle.mv_ledger.specs.View.{LedgerView}
 use Rattle.mv_machine.specs.Lines.{Reply, reply_lines, numbered}
 use Rattle.moveledger.specs.Records.{Whole}
 use Rattle.moveledger.specs.Headline.{Step}
+use Rattle.moveledger.specs.Writing.{BreaksOff}
 
 -- what stands before a piece of a line: the record's number and a blank, if the line isn't begun
 abbrev pub number_at : ℕ → Bool → List ℕ
@@ -30,6 +37,11 @@ abbrev pub WritesReplyPart : ℕ → Option Reply → Option (List ℕ) → Opti
 WritesReplyPart n None held holds = Appends held holds []
 WritesReplyPart n (Some reply) held holds = WritesPart n (reply_lines reply) held holds
 
+-- writing the lines of what is told broke off, and something is told
+abbrev pub BreaksOffReply : ℕ → Option Reply → Option (List ℕ) → Option (List ℕ) → Type 0
+BreaksOffReply n None held holds = ⊥
+BreaksOffReply n (Some reply) held holds = BreaksOff (flat_map (numbered n) (reply_lines reply)) held holds
+
 -- the record of this number was answered: its lines were written, and the ledger went on to new
 abbrev pub IsAnswered : ℕ → ℕ → List ℕ → LedgerView → LedgerView → Option (List ℕ) → Option (List ℕ) → Type 0
 IsAnswered n kind payload old new held holds =
@@ -40,7 +52,12 @@ abbrev pub IsBegun : ℕ → ℕ → List ℕ → LedgerView → LedgerView → 
 IsBegun n kind payload old new held holds =
     (lines : List (List ℕ)) × (Step old (Whole kind payload) lines new × WritesPart n lines held holds)
 
--- that, or nothing happened
+-- the ledger went on to new, and writing the record's lines broke off
+abbrev pub IsBrokenOff : ℕ → ℕ → List ℕ → LedgerView → LedgerView → Option (List ℕ) → Option (List ℕ) → Type 0
+IsBrokenOff n kind payload old new held holds =
+    (lines : List (List ℕ)) × (Step old (Whole kind payload) lines new × BreaksOff (flat_map (numbered n) lines) held holds)
+
+-- the ledger went on to new, and a prefix of the record's lines was written; or nothing happened
 abbrev pub MayBeAnswered : ℕ → ℕ → List ℕ → LedgerView → LedgerView → Option (List ℕ) → Option (List ℕ) → Type 0
 MayBeAnswered n kind payload old new held holds =
     ((new ≡ old) × Appends held holds []) ⊎ IsBegun n kind payload old new held holds

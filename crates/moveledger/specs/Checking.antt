@@ -1,6 +1,15 @@
--- Whether a module is accepted with the text of a certificate, and else the first phase that they fail.
-use Rattle.std.specs.Prelude.{ℕ, ◌-◌, ◌≤◌, ◌==◌, if◌then◌else◌, List, length, take, slice_index, ⊤}
-use Rattle.mv_move_types.specs.Limits.{most_module_bytes}
+-- Whether a module is accepted with the text of a certificate, and otherwise the first phase that they fail.
+--   before_line_end text                           the text without a line end after it
+--   offer_of bytes certificate                     a module with a certificate, as in a bundle
+--   PassesWith bytes digits                        the digits spell a certificate with which the module passes phases 2 to 12
+--   FailsAlone bytes phase                         the module fails the phase whatever the certificate
+--   FailsWith bytes digits phase                   the first of phases 2 to 12 that the module and the digits fail
+--   IsAccepted bytes text                          `check` accepts the module with the text of the certificate
+--   FailsCheck bytes text phase                    otherwise: the first phase that fails, where 1 is a text or a module that is too long
+--   IsRefusedAlone, IsRefusedWith, IsRefusedText   a refusal names such a phase, or an allocation failed
+-- AreShort is a part of these. Digits that spell no bytes fail phase 9 (refusal_of).
+use Rattle.std.specs.Prelude.{ℕ, ◌-◌, ◌*◌, ◌≤◌, ◌==◌, if◌then◌else◌, List, length, take, slice_index, ⊤}
+use Rattle.mv_move_types.specs.Limits.{most_certificate_bytes, most_module_bytes}
 use Rattle.mv_move_types.specs.declared.refusal.Refusal.{Refusal}
 use Rattle.mv_move_types.specs.declared.refusal.Refusal.TheVariants.{Phase, Memory}
 use Rattle.mv_move_types.specs.Module.{Module}
@@ -21,9 +30,13 @@ abbrev pub refusal_of : FromHexError → Refusal
 refusal_of OutOfMemory = Memory
 refusal_of _ = Phase 9
 
+-- digits of a certificate: two for each of its bytes
+abbrev pub most_digits : ℕ
+most_digits = 2 * most_certificate_bytes
+
 -- the bytes of a module are within their limit, and so are the digits of a certificate
 abbrev pub AreShort : List ℕ → List ℕ → Type 0
-AreShort bytes digits = (length bytes ≤ most_module_bytes) × (length digits ≤ 2097152)
+AreShort bytes digits = (length bytes ≤ most_module_bytes) × (length digits ≤ most_digits)
 
 -- the bytes of a module, offered with those of a certificate
 abbrev pub offer_of : List ℕ → List ℕ → Offer

@@ -1,10 +1,10 @@
 -- What an input comes to whose records are numbered on from those that were answered before.
-use Rattle.std.specs.Prelude.{◌≡◌, ℕ, ◌+◌, ◌-◌, ◌^◌, List, [], ◌++◌, length, Option, ◌⊎◌}
+use Rattle.std.specs.Prelude.{◌≡◌, ℕ, ◌+◌, List, [], ◌++◌, length, Option, ◌⊎◌}
 use Rattle.std.specs.Io.KnownBytes.{Appends, Consumes}
 use Rattle.mv_ledger.specs.View.{LedgerView}
-use Rattle.moveledger.specs.Records.{Record, AreRecords, AreWhole}
+use Rattle.moveledger.specs.Records.{Record, AreRecords, AreWhole, most_records}
 use Rattle.moveledger.specs.Headline.{Reports, Tells}
-use Rattle.moveledger.specs.Outcome.{left_of, Stays, Begun}
+use Rattle.moveledger.specs.Outcome.{left_of, StopsAt}
 
 -- So many records were answered before, and n are now: all records that the input begins with, up to its end or to the last number.
 -- Their report, by numbers that go on, is written.
@@ -15,7 +15,7 @@ pub record GoesOn (before : ℕ) (given held holds : Option (List ℕ)) (old new
   pub text : List ℕ
   pub told : Tells given input
   pub read : AreRecords input records rest
-  pub all : (rest ≡ []) ⊎ (n ≡ 2 ^ 64 - 1)
+  pub all : (rest ≡ []) ⊎ (n ≡ most_records)
   pub answered : n ≡ before + length records
   pub report : Reports (before + 1) old records text new
   pub written : Appends held holds text
@@ -33,5 +33,5 @@ pub record StopsAfter (before : ℕ) (given gives held holds : Option (List ℕ)
   pub read : AreWhole whole records
   pub answered : n ≡ before + length records
   pub report : Reports (before + 1) old records text mid
-  pub last : Stays took (left_of gives) mid new part ⊎ Begun (n + 1) took (left_of gives) mid new part
+  pub last : StopsAt (n + 1) took (left_of gives) mid new part
   pub written : Appends held holds (text ++ part)

@@ -9,7 +9,7 @@
 -- Outcome.antt which prefix of the report stands where something fails. The ledger that the input meets may be an empty one or one
 -- that was loaded, whatever its bytes were: EachLoadIsSound of mv_ledger's SavedLaws.antt says that it is sound.
 -- OneReport.antt says that an input and a ledger allow one text and one state after it, so that what is said to be there is one thing.
-use Rattle.std.specs.Prelude.{◌≡◌, ℕ, ◌+◌, ◌-◌, ◌^◌, ◌≤◌, true, List, [], ◌∷◌, ◌++◌, length, Option, Some, None, IfOk, ⊤, ◌⊎◌, flat_map}
+use Rattle.std.specs.Prelude.{◌≡◌, ℕ, ◌+◌, ◌≤◌, true, List, [], ◌∷◌, ◌++◌, length, Option, Some, None, IfOk, ⊤, ◌⊎◌, flat_map}
 use Rattle.std.specs.List.{AllByRecursion, AllPairs, AllZip}
 use Rattle.std.specs.Io.KnownBytes.{Appends}
 use Rattle.mv_move_types.specs.Names.{StructName}
@@ -23,7 +23,7 @@ use Rattle.mv_ledger.specs.Publishing.{Spells}
 use Rattle.mv_ledger.specs.Exact.{IsRightly}
 use Rattle.mv_ledger.specs.Changes.{Leaves}
 use Rattle.mv_ledger.specs.View.{LedgerView, state_of}
-use Rattle.moveledger.specs.Records.{Record, Whole, Cut, AreRecords}
+use Rattle.moveledger.specs.Records.{Record, Whole, Cut, AreRecords, most_records}
 
 -- a run ends without a fault: it returns, aborts or exhausts its steps or frames, after at most as many steps as its budget
 abbrev pub EndsWithinBudget : ℕ → RunOutcome → Type 0
@@ -98,7 +98,7 @@ pub record Headline (given held holds : Option (List ℕ)) (old new : LedgerView
   pub text : List ℕ
   pub told : Tells given input
   pub read : AreRecords input records rest
-  pub all : (rest ≡ []) ⊎ (n ≡ 2 ^ 64 - 1)
+  pub all : (rest ≡ []) ⊎ (n ≡ most_records)
   pub answered : n ≡ length records
   pub report : Reports 1 old records text new
   pub written : Appends held holds text

@@ -3,7 +3,10 @@ pub mod Headline
 pub mod OneReport
 pub mod Outcome
 pub mod Reading
+pub mod Progress
+pub mod Pacing
 pub mod Next
+pub mod Writing
 pub mod Answered
 pub mod Line
 pub mod Status

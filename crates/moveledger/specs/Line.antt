@@ -1,4 +1,13 @@
 -- The command line, and the task that its matches have.
+-- First the commands as the library of command lines takes them, then the task that was asked for, then errors.
+--   apply, migrate, prove, check   each command's words
+--   ledger_commands, moveledger    the program with two of them, and with all four
+--   Seen, seen task                a task by the names that were given
+--   named_task name rows           the task of a command, by what was given to it
+--   task_in found                  the same of what the command line was taken apart into
+--   IsOfKind kinds e               where the words are at fault, the error is of one of these kinds
+--   IsWords e                      the words are at fault, and not memory
+-- The others are parts of these.
 use Rattle.std.specs.Prelude.{List, [], true, Option, Some, None, codes, option_map, unwrap_or, if◌then◌else◌, ⊤}
 use Rattle.std.specs.Str.{bytes_eq}
 use Rattle.clap.specs.Values.{kind_of}

@@ -1,9 +1,22 @@
 -- What stands where the engine ends: what was read, what was written, and the ledger.
-use Rattle.std.specs.Prelude.{◌≡◌, ℕ, ◌+◌, ◌-◌, ◌^◌, List, [], ◌++◌, length, Option, Some, None, ◌⊎◌, flat_map}
+-- In all of these `given` and `gives` are what of the input was left before and after, `held` and `holds` what the writer had taken,
+-- and `old` and `new` the ledger.
+--   ReadsAll given gives n           all of the input was read, which is n records
+--   StopsAt n took left old new part where it stopped behind whole records: at a part of a record, before one was answered, or within
+--   Begun n took left old new part   it was answered, and a prefix of its lines was written
+--   BrokenOff, Finished              the same, and not all of its lines were written, or all of them
+--   StopsWith Last ..                whole records were read and answered, and Last says what became of the bytes after them
+--   Stops                            the same, where the last record is as Stays or Begun says
+--   StopsReading                     whole records were read and answered, and a part of one was read
+--   StopsWriting, StopsBehind        the same as Stops, where the last record is as BrokenOff or Finished says
+--   AnswersAll                       the headline holds, and all was read
+--   Ends end                         what each end says of what was read and written, and of the ledger
+-- The others are parts of these.
+use Rattle.std.specs.Prelude.{◌≡◌, ℕ, ◌+◌, ◌<◌, List, [], ◌++◌, length, Option, Some, None, ◌⊎◌, flat_map}
 use Rattle.std.specs.Io.{StartsWith}
 use Rattle.std.specs.Io.KnownBytes.{Appends, Consumes}
 use Rattle.mv_ledger.specs.View.{LedgerView}
-use Rattle.moveledger.specs.Records.{Record, AreWhole}
+use Rattle.moveledger.specs.Records.{Record, AreWhole, most_records}
 use Rattle.moveledger.specs.Reading.{IsCutAt, IsTaken, IsUnfinished}
 use Rattle.mv_machine.specs.Lines.{numbered}
 use Rattle.moveledger.specs.Headline.{Headline, Step, Reports}
@@ -15,10 +28,12 @@ abbrev pub left_of : Option (List ℕ) → List ℕ
 left_of None = []
 left_of (Some xs) = xs
 
--- where so many records were answered, of which so many are whole: the input ends behind them, or the numbers do; or one more,
--- which is cut, is the last
-abbrev pub EndsReading : ℕ → ℕ → List ℕ → List ℕ → Type 0
-EndsReading n wholes took left = ((n ≡ wholes) × (took ≡ []) × ((left ≡ []) ⊎ (n ≡ 2 ^ 64 - 1))) ⊎ ((n ≡ wholes + 1) × IsCutAt took left)
+-- Where reading ended, after n records were answered, of which so many are whole. Behind the whole ones these bytes were read, and
+-- those are left: the input ends there, or the numbers do; or one more record was answered, which is cut and the last.
+pub data EndsReading (n wholes : ℕ) (took left : List ℕ) : Type 0 where
+  at_the_end : n ≡ wholes → took ≡ [] → left ≡ [] → EndsReading n wholes took left
+  at_the_last_number : n ≡ wholes → took ≡ [] → n ≡ most_records → EndsReading n wholes took left
+  at_a_cut_record : n ≡ wholes + 1 → IsCutAt took left → EndsReading n wholes took left
 
 -- What was read is as many records as were answered, and no byte behind them: whole ones, and one that is cut if it is the last.
 pub record ReadsAll (given gives : Option (List ℕ)) (n : ℕ) : Type 0 where
@@ -29,14 +44,27 @@ pub record ReadsAll (given gives : Option (List ℕ)) (n : ℕ) : Type 0 where
   pub read : AreWhole whole records
   pub end : EndsReading n (length records) part (left_of gives)
 
--- no more than a part of a record was read, or a record and nothing came of it
-abbrev pub Stays : List ℕ → List ℕ → LedgerView → LedgerView → List ℕ → Type 0
-Stays took left old new part = (IsUnfinished took ⊎ ((r : Record) × IsTaken took left r)) × (new ≡ old) × (part ≡ [])
-
 -- a record was read, which has this number, and answered, and a prefix of its lines was written
 abbrev pub Begun : ℕ → List ℕ → List ℕ → LedgerView → LedgerView → List ℕ → Type 0
 Begun n took left old new part = (r : Record) × (lines : List (List ℕ)) × IsTaken took left r × Step old r lines new
     × StartsWith (flat_map (numbered n) lines) part
+
+-- as Begun, and not all of its lines was written
+abbrev pub BrokenOff : ℕ → List ℕ → List ℕ → LedgerView → LedgerView → List ℕ → Type 0
+BrokenOff n took left old new part = (r : Record) × (lines : List (List ℕ)) × IsTaken took left r × Step old r lines new
+    × StartsWith (flat_map (numbered n) lines) part × (length part < length (flat_map (numbered n) lines))
+
+-- a record was read, which has this number, and answered, and all its lines were written
+abbrev pub Finished : ℕ → List ℕ → List ℕ → LedgerView → LedgerView → List ℕ → Type 0
+Finished n took left old new part = (r : Record) × (lines : List (List ℕ)) × IsTaken took left r × Step old r lines new
+    × (part ≡ flat_map (numbered n) lines)
+
+-- Where it stopped behind whole records, at the record of this number: after a part of it was read; after it was read, before anything
+-- was done with it; or while it was being answered.
+pub data StopsAt (n : ℕ) (took left : List ℕ) (old new : LedgerView) (part : List ℕ) : Type 0 where
+  part_of_a_record : IsUnfinished took → new ≡ old → part ≡ [] → StopsAt n took left old new part
+  read_and_nothing_done : (r : Record) → IsTaken took left r → new ≡ old → part ≡ [] → StopsAt n took left old new part
+  being_answered : Begun n took left old new part → StopsAt n took left old new part
 
 -- What was read is whole records, and some bytes behind them of which there is this to say. All lines of the whole records
 -- were written, and what is said of the others. The ledger is as the whole records left it, and then as is said.
@@ -56,7 +84,7 @@ pub record StopsWith (Last : ℕ → List ℕ → List ℕ → LedgerView → Le
 -- All lines of some whole records of the input were written, and a prefix of those of at most one more record. The ledger is as
 -- these records left it. No byte was read behind the last record of which anything was read.
 abbrev pub Stops : (given gives held holds : Option (List ℕ)) → (old new : LedgerView) → Type 0
-Stops = StopsWith (λ n took left old new part. Stays took left old new part ⊎ Begun n took left old new part)
+Stops = StopsWith StopsAt
 
 -- What was read is whole records and a part of one. The ledger is as the whole ones left it, and what was
 -- written is exactly their report.
@@ -72,9 +100,13 @@ pub record StopsReading (given gives : Option (List ℕ)) (held holds : Option (
   pub report : Reports 1 old records text new
 
 -- What was read is whole records and the one that was being answered, and no byte behind it. What was written is the report on the
--- whole ones and a prefix of the lines of that one, and nothing behind it. The ledger is as that one left it.
+-- whole ones and a prefix of the lines of that one, without its last byte at least. The ledger is as that one left it.
 abbrev pub StopsWriting : (given gives held holds : Option (List ℕ)) → (old new : LedgerView) → Type 0
-StopsWriting = StopsWith Begun
+StopsWriting = StopsWith BrokenOff
+
+-- The same, but all lines of that one were written.
+abbrev pub StopsBehind : (given gives held holds : Option (List ℕ)) → (old new : LedgerView) → Type 0
+StopsBehind = StopsWith Finished
 
 -- so many records were read and answered, and all there were
 abbrev pub AnswersAll : (given gives held holds : Option (List ℕ)) → (old new : LedgerView) → Type 0

@@ -1,4 +1,11 @@
 -- The text of a certificate that is made for a module, or why there is none.
+--   IsProvedBy bytes text       the text is that of a certificate with which the module passes phases 2 to 12
+--   IsAcceptedBack bytes text   `check` accepts the module with this text, if it is within its limit
+--   FailsProof bytes phase      the first phase that fails, whatever the certificate
+--   IsComplexText bytes         the module passes phases 2 to 8, and the search for its edges meets a limit
+--   HasNoProof bytes error      the error says such a reason, or an allocation failed
+--   IsProvableText bytes        some certificate is there with which the module passes
+-- IsShort is a part of these; error_of is the error where the module alone is refused.
 use Rattle.std.specs.Prelude.{◌≡◌, ℕ, ◌≤◌, List, [], ◌∷◌, ◌++◌, length, ⊤}
 use Rattle.mv_move_types.specs.Limits.{most_module_bytes}
 use Rattle.mv_move_types.specs.declared.refusal.Refusal.{Refusal}
@@ -12,7 +19,7 @@ use Rattle.mv_analyser.specs.declared.ProveError.{ProveError}
 use Rattle.mv_analyser.specs.declared.ProveError.TheVariants.{Refused, TooComplex, Memory}
 use Rattle.moveledger.specs.Hexadecimal.{hexadecimal}
 use Rattle.mv_ledger.specs.Publishing.{Spells, Passes}
-use Rattle.moveledger.specs.Checking.{FailsAlone, IsAccepted, offer_of}
+use Rattle.moveledger.specs.Checking.{FailsAlone, IsAccepted, most_digits, offer_of}
 
 -- the bytes of a module are within their limit
 abbrev pub IsShort : List ℕ → Type 0
@@ -28,7 +35,7 @@ pub record IsProvedBy (bytes text : List ℕ) : Type 0 where
 
 -- while it is within its limit, the text is accepted for the module, with a line end after it and without
 abbrev pub IsAcceptedBack : List ℕ → List ℕ → Type 0
-IsAcceptedBack bytes text = length text ≤ 2097152 → IsAccepted bytes text × IsAccepted bytes (text ++ 10 ∷ [])
+IsAcceptedBack bytes text = length text ≤ most_digits → IsAccepted bytes text × IsAccepted bytes (text ++ 10 ∷ [])
 
 -- The first phase that a module fails: 1, one of 2 to 8, or one of 10 to 12 that no certificate passes.
 pub data FailsProof (bytes : List ℕ) : ℕ → Type 0 where

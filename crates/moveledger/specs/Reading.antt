@@ -1,4 +1,12 @@
 -- What was read of a record.
+--   piece_limit                the most bytes of a payload that room is made for before they are read
+--   NoLength bytes             no length stands at the front
+--   IsLengthBegun bytes        a part of a length, that needs more bytes
+--   LengthFails bytes          bytes that stand in the place of a length, up to its end, and are none
+--   HasNoLength took left      a length was begun and nothing is left, or it fails
+--   IsUnfinished bytes         a part of a record, that needs more bytes
+--   IsCutAt took left          what was taken of a cut record, and what is left after it
+--   IsTaken took left record   what was taken as a record, whole or cut, and what is left
 use Rattle.std.specs.Prelude.{◌≡◌, ◌≢◌, ℕ, ◌≤◌, ◌<◌, List, [], ◌∷◌, ◌++◌, length, ◌⊎◌}
 use Rattle.mv_uleb.specs.Uleb.{IsUleb, AreHigh}
 use Rattle.mv_move_types.specs.Limits.{most_payload_bytes}

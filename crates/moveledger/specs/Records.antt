@@ -1,7 +1,17 @@
 -- Which records an input is, apart from any reader.
-use Rattle.std.specs.Prelude.{◌≡◌, ◌≢◌, ℕ, ◌≤◌, List, [], ◌∷◌, ◌++◌, length}
+--   Record                          a whole record with its kind and payload, or a cut one (why a cut one is `refused 1`: decision 8)
+--   IsText bytes kind payload       how a whole record is written
+--   NoWhole bytes                   no whole record stands at the front
+--   Begins input record more        the input begins with this record
+--   AreRecords input records rest   the input is these records, and then a rest
+--   AreWhole bytes records          the bytes are these whole records
+use Rattle.std.specs.Prelude.{◌≡◌, ◌≢◌, ℕ, ◌-◌, ◌^◌, ◌≤◌, List, [], ◌∷◌, ◌++◌, length}
 use Rattle.mv_uleb.specs.Uleb.{IsUleb}
 use Rattle.mv_move_types.specs.Limits.{most_payload_bytes}
+
+-- records of an input that are answered: as many as eight bytes can number
+abbrev pub most_records : ℕ
+most_records = 2 ^ 64 - 1
 
 pub data Record : Type 0 where
   -- its kind and its payload

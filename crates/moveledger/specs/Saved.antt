@@ -1,10 +1,11 @@
 -- How a saved ledger begins, how the commands over saved ledgers end, and what they print.
-use Rattle.std.specs.Prelude.{◌≡◌, ℕ, List, [], ◌∷◌, Option, ⊤}
+use Rattle.std.specs.Prelude.{◌≡◌, ℕ, List, [], ◌∷◌, Option}
 use Rattle.std.specs.Io.KnownBytes.{Appends}
 use Rattle.mv_machine.specs.Ledger.{LedgerState}
 use Rattle.mv_ledger.specs.SavedText.{Form, Second, IsSavedText, form_byte}
 use Rattle.mv_ledger.specs.Loading.{FailsLoad, IsLoaded}
 use Rattle.moveledger.specs.Printing.{line, load_refused_text}
+use Rattle.moveledger.specs.Writing.{BreaksOff}
 use Rattle.moveledger.specs.declared.ending.End.{End}
 use Rattle.moveledger.specs.declared.ending.End.TheVariants.{Done, Read, Write, Memory, Words, Refused, LoadRefused, TooComplex}
 
@@ -16,12 +17,13 @@ mark form = 0x4D ∷ 0x56 ∷ 0x4C ∷ form_byte form ∷ []
 abbrev pub IsMark : List ℕ → Type 0
 IsMark bytes = (form : Form) × (bytes ≡ mark form)
 
--- bytes are not loaded, and the line of the first reason against them is printed; or a read, a write or an allocation failed
+-- Bytes are not loaded, and the line of the first reason against them is printed; or a write failed, and a beginning of that line is
+-- written, and not all of it; or a read failed, or memory ran out, and nothing is written.
 abbrev pub IsNotLoaded : List ℕ → Option (List ℕ) → Option (List ℕ) → End → Type 0
 IsNotLoaded bytes held holds (LoadRefused number) = FailsLoad bytes number × Appends held holds (line (load_refused_text number))
-IsNotLoaded bytes held holds Read = ⊤
-IsNotLoaded bytes held holds Write = ⊤
-IsNotLoaded bytes held holds Memory = ⊤
+IsNotLoaded bytes held holds Write = (number : ℕ) × FailsLoad bytes number × BreaksOff (line (load_refused_text number)) held holds
+IsNotLoaded bytes held holds Read = holds ≡ held
+IsNotLoaded bytes held holds Memory = holds ≡ held
 IsNotLoaded bytes held holds Done = ⊥
 IsNotLoaded bytes held holds Words = ⊥
 IsNotLoaded bytes held holds (Refused phase) = ⊥

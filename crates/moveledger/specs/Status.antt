@@ -1,4 +1,10 @@
 -- How the program ends: its fault's line, and its exit status.
+--   end_after answered is_written          how the program ends once the engine has, with its report written out or not
+--   end_after_proof, .., end_after_words   the same after `prove`, `check`, a save, and words that aren't understood
+--   fault_line end                         the line of a fault, if it is one
+--   status_of end                          the exit status, from 0 to 3
+--   EndsSo end held holds status           the program ended with that status, and standard error took that line or a front of it
+-- fault_said is a part of these.
 use Rattle.std.specs.Prelude.{◌≡◌, ℕ, List, [], Bool, true, false, Result, Ok, Err, Option, Some, None, codes, unwrap_or}
 use Rattle.std.specs.Io.{StartsWith}
 use Rattle.std.specs.Io.KnownBytes.{Appends}

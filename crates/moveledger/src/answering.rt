@@ -1,11 +1,11 @@
 // What is written for a record.
-ghost use Rattle.std.specs.Prelude.{◌≡◌, ◌≢◌, ℕ, List, [], ◌∷◌, ◌++◌, None, Some, Err, IfOk, IfErr, OnOk, codes, decimal, string_bytes};
-ghost use Rattle.std.specs.Io.{StartsWith};
+ghost use Rattle.std.specs.Prelude.{◌≡◌, ◌≢◌, ◌⊎◌, ◌++◌, Some, Err, IfOk, IfErr, OnOk, codes, decimal, flat_map, string_bytes};
 ghost use Rattle.std.specs.Io.KnownBytes.{Appends};
 ghost use Rattle.mv_machine.specs.Lines.{Reply as Told, numbered, kind_text, stop_text};
 ghost use Rattle.mv_ledger.specs.Answering.{told, told_ending, told_lines};
 ghost use Rattle.mv_ledger.specs.Pieces.{piece_text};
-ghost use Rattle.moveledger.specs.Answered.{IsAnswered, IsBegun, MayBeAnswered, Writes, WritesPart, WritesReply, WritesReplyPart, line_of, number_at};
+ghost use Rattle.moveledger.specs.Answered.{BreaksOffReply, IsAnswered, IsBrokenOff, MayBeAnswered, Writes, WritesPart, WritesReply, WritesReplyPart, line_of, number_at};
+ghost use Rattle.moveledger.specs.Writing.{BreaksOff};
 
 use crate::streaming::EngineError;
 use itoa::Buffer;
@@ -18,8 +18,7 @@ use std::io::Write;
 /// Writes the whole text. A write that takes nothing before the end is a failed write.
 pub fn write_text<W: Write>(writer: &mut W, text: &[u8]) -> Result<(), EngineError>
     ensures ok { OnOk result (Appends (W.contents writer.old) (W.contents writer.new) text.now) }
-    ensures err { IfErr result (λ e. (e ≡ EngineError.Write) × (part : List ℕ) × StartsWith text.now part
-        × Appends (W.contents writer.old) (W.contents writer.new) part) }
+    ensures err { IfErr result (λ e. (e ≡ EngineError.Write) × BreaksOff text.now (W.contents writer.old) (W.contents writer.new)) }
 {
     let mut written = 0;
     while written < text.len() {
@@ -162,9 +161,12 @@ fn write_piece<W: Write>(
     line: &mut Vec<u8>,
 ) -> Result<(), EngineError>
     ensures ok { OnOk result (Appends (W.contents writer.old) (W.contents writer.new) (number_at number is_begun ++ piece_text piece.now.is_last piece.now.text.items)) }
-    ensures err { IfErr result (λ e. (e ≢ EngineError.Read) × (part : List ℕ)
-        × StartsWith (number_at number is_begun ++ piece_text piece.now.is_last piece.now.text.items) part
-        × Appends (W.contents writer.old) (W.contents writer.new) part) }
+    ensures err { IfErr result (λ e. (e ≡ EngineError.Write) ⊎ (e ≡ EngineError.Memory)) }
+    // A failed write is one within the piece.
+    ensures write { result ≡ Err EngineError.Write → BreaksOff (number_at number is_begun ++ piece_text piece.now.is_last piece.now.text.items)
+        (W.contents writer.old) (W.contents writer.new) }
+    // Memory runs out before anything of the piece is written.
+    ensures memory { result ≡ Err EngineError.Memory → W.contents writer.new ≡ W.contents writer.old }
 {
     line.clear();
     put_number(line, number, is_begun)?;
@@ -183,6 +185,8 @@ fn write_lines<W: Write>(
     ensures ok { OnOk result (Writes number lines.entry (W.contents writer.old) (W.contents writer.new)) }
     ensures err { IfErr result (λ e. (e ≢ EngineError.Read)
         × WritesPart number lines.entry (W.contents writer.old) (W.contents writer.new)) }
+    ensures write { result ≡ Err EngineError.Write → BreaksOff (flat_map (numbered number) lines.entry)
+        (W.contents writer.old) (W.contents writer.new) }
 {
     let mut line = Vec::new(alloc);
     let mut is_begun = false;
@@ -204,7 +208,9 @@ pub fn write_reply<W: Write>(
     ensures ok { OnOk result (WritesReply number (told reply) (W.contents writer.old) (W.contents writer.new)) }
     ensures err { IfErr result (λ e. (e ≢ EngineError.Read)
         × WritesReplyPart number (told reply) (W.contents writer.old) (W.contents writer.new)) }
-    ensures write { result ≡ Err EngineError.Write → told reply ≢ None }
+    ensures write { result ≡ Err EngineError.Write → BreaksOffReply number (told reply)
+        (W.contents writer.old) (W.contents writer.new) }
+    ensures memory { result ≡ Err EngineError.Memory → W.contents writer.new ≡ W.contents writer.old }
 {
     line.clear();
     put_reply(alloc, line, number, reply)?;
@@ -222,7 +228,8 @@ fn write_report<W: Write>(
     ensures ok { OnOk result (WritesReply number (told_lines report.entry) (W.contents writer.old) (W.contents writer.new)) }
     ensures err { IfErr result (λ e. (e ≢ EngineError.Read)
         × WritesReplyPart number (told_lines report.entry) (W.contents writer.old) (W.contents writer.new)) }
-    ensures write { result ≡ Err EngineError.Write → told_lines report.entry ≢ None }
+    ensures write { result ≡ Err EngineError.Write → BreaksOffReply number (told_lines report.entry)
+        (W.contents writer.old) (W.contents writer.new) }
 {
     match report {
         Ok(lines) => write_lines(alloc, writer, number, lines),
@@ -260,8 +267,8 @@ pub fn answer<W: Write>(
         (W.contents writer.old) (W.contents writer.new)) }
     ensures err { IfErr result (λ e. (e ≢ EngineError.Read) × MayBeAnswered number kind payload.now ledger.old ledger.new
         (W.contents writer.old) (W.contents writer.new)) }
-    // A write fails only where there is something to write: the ledger is as after the record then.
-    ensures write { result ≡ Err EngineError.Write → IsBegun number kind payload.now ledger.old ledger.new
+    // A write fails only where there is something to write: the ledger is as after the record then, and not all is written.
+    ensures write { result ≡ Err EngineError.Write → IsBrokenOff number kind payload.now ledger.old ledger.new
         (W.contents writer.old) (W.contents writer.new) }
 {
     if kind == PUBLISH {

@@ -48,6 +48,8 @@ fn check_digits(alloc: Global, module: &[u8], digits: &[u8]) -> Result<(), Refus
     ensures ok { OnOk result (PassesWith «module».now digits.now) }
     ensures refused { IfErr result (IsRefusedWith «module».now digits.now) }
 {
+    // For the prover: bytes spell one module alone.
+    mv_binary_format::modules_are_read_by_text();
     let typed = sound(alloc, module)?;
     let bytes = bytes_of(alloc, digits)?;
     let stated = mv_certificate::decode(alloc, &typed, &bytes)?;
@@ -80,7 +82,5 @@ pub fn check_text(alloc: Global, module: &[u8], certificate: &[u8]) -> Result<()
     // Nothing but a failed allocation keeps it from what is to be accepted.
     ensures accepts { IsAccepted «module».now certificate.now → IfErr result (λ e. e ≡ Refusal.Memory) }
 {
-    // For the prover: bytes spell one module alone.
-    mv_binary_format::modules_are_read_by_text();
     check_phases(alloc, module, certificate)
 }

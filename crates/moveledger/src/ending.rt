@@ -1,7 +1,7 @@
 // How the program ends: its fault's line, and its exit status.
-ghost use Rattle.std.specs.Prelude.{◌≡◌, ℕ, List, IfErr, OnOk, option_map};
-ghost use Rattle.std.specs.Io.{StartsWith};
+ghost use Rattle.std.specs.Prelude.{◌≡◌, IfErr, OnOk, option_map};
 ghost use Rattle.std.specs.Io.KnownBytes.{Appends};
+ghost use Rattle.moveledger.specs.Writing.{BreaksOff};
 ghost use Rattle.moveledger.specs.Status.{EndsSo, end_after, end_after_check, end_after_keeping, end_after_proof, end_after_words, fault_line, fault_said, status_of};
 
 use crate::answering::write_text;
@@ -121,8 +121,7 @@ pub fn status(end: &End) -> u8
 /// Writes the line of a fault to standard error; nothing where there is none.
 fn say_fault<W: Write>(errors: &mut W, end: &End) -> Result<(), EngineError>
     ensures ok { OnOk result (Appends (W.contents errors.old) (W.contents errors.new) (fault_said end.now)) }
-    ensures err { IfErr result (λ e. (e ≡ EngineError.Write) × (part : List ℕ) × StartsWith (fault_said end.now) part
-        × Appends (W.contents errors.old) (W.contents errors.new) part) }
+    ensures err { IfErr result (λ e. (e ≡ EngineError.Write) × BreaksOff (fault_said end.now) (W.contents errors.old) (W.contents errors.new)) }
 {
     match fault_text(end) {
         Some(line) => write_text(errors, line.as_bytes()),

@@ -16,8 +16,8 @@ use std::os::unix::fs::{MetadataExt, PermissionsExt, lchown};
 use std::path::{Path, PathBuf};
 use std::rt::Files;
 
-/// The most symbolic links that are followed, one after the other.
-const MOST_LINKS: u32 = 40;
+/// The most names that are looked at, one after the other: 39 symbolic links, and what the last of them leads to.
+const MOST_NAMES: u32 = 40;
 
 /// The permissions that are asked for where no file stood.
 const NEW_MODE: u32 = 0o666;
@@ -302,7 +302,7 @@ fn may_go<R: Files>(rt: &R, name: &str) -> io::Result<bool> {
 /// The name to which a name leads by symbolic links.
 fn led_to<R: Files + AllocGlobal>(rt: &R, path: &str) -> Result<PathBuf, KeepError> {
     let mut target = PathBuf::from_str(rt.alloc(), path)?;
-    for _ in 0..MOST_LINKS {
+    for _ in 0..MOST_NAMES {
         match fs::read_link(rt, target.as_path()) {
             Ok(next) => {
                 target = folder_of(target.as_path()).join(rt.alloc(), next)?;

@@ -17,6 +17,8 @@ pub fn sound<'a>(alloc: Global, bytes: &'a [u8]) -> Result<Typed<'a>, Refusal>
     ensures sound { IfOk result IsSound }
     ensures refused { IfErr result (IsRefusedAlone bytes.entry.now) }
 {
+    // For the prover: bytes spell one module alone.
+    mv_binary_format::modules_are_read_by_text();
     let module = mv_binary_format::decode(alloc, bytes)?;
     let bounded = mv_bounds::check(alloc, module)?;
     let _defined = bounded.module();

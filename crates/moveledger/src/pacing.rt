@@ -1,13 +1,18 @@
 // What is done between two records.
-ghost use Rattle.std.specs.Prelude.{◌≡◌, [], IfErr, OnOk};
+ghost use Rattle.std.specs.Prelude.{◌≡◌, ℕ, [], Result, Ok, IfErr, OnOk, ⊤};
 ghost use Rattle.std.specs.Io.Buffered.{writer_buffer, writer_contents};
 ghost use Rattle.std.specs.Io.KnownBytes.{Keeps};
+ghost use Rattle.moveledger.specs.declared.streaming.EngineError.{EngineError};
 
 use crate::streaming::EngineError;
 use std::io::{BufWriter, Write};
 
 /// What is done when a record is answered, before the next one is read.
 pub trait AfterRecord<R, W: Write> {
+    /// What is done: with the record of this number, the reader, what does it and the writer before, how it ends, and both after
+    /// it.
+    ghost does: { ℕ → R → Self → W → Result (Unit {0}) EngineError → Self → W → Type 0 } = { λ _ _ _ _ _ _ _. ⊤ };
+
     /// The record of this number is answered: its lines are with the writer. Nothing more is written.
     ///
     /// # Errors
@@ -15,7 +20,8 @@ pub trait AfterRecord<R, W: Write> {
     /// `Write`, if what the writer held couldn't be written out.
     fn answered(&mut self, number: u64, reader: &R, writer: &mut W) -> Result<(), EngineError>
         ensures kept { Keeps (W.contents writer.old) (W.contents writer.new) }
-        ensures err { IfErr result (λ e. e ≡ EngineError.Write) };
+        ensures err { IfErr result (λ e. e ≡ EngineError.Write) }
+        ensures done { does number reader.now self.old writer.old result self.new writer.new };
 }
 
 /// Nothing: a writer may gather the lines of many records.
@@ -23,6 +29,9 @@ pub trait AfterRecord<R, W: Write> {
 pub struct Gathering;
 
 impl<R, W: Write> AfterRecord<R, W> for Gathering {
+    // It never fails.
+    ghost does = { λ number reader old before end new after. end ≡ Ok tt };
+
     fn answered(&mut self, _number: u64, _reader: &R, _writer: &mut W) -> Result<(), EngineError> {
         Ok(())
     }
@@ -33,6 +42,9 @@ impl<R, W: Write> AfterRecord<R, W> for Gathering {
 pub struct Prompt;
 
 impl<R, W: Write + Drop> AfterRecord<R, BufWriter<W>> for Prompt {
+    // Nothing waits to be written then.
+    ghost does = { λ number reader old before end new after. OnOk end (writer_buffer after ≡ []) };
+
     fn answered(
         &mut self,
         _number: u64,
@@ -41,8 +53,7 @@ impl<R, W: Write + Drop> AfterRecord<R, BufWriter<W>> for Prompt {
     ) -> Result<(), EngineError>
         ensures kept { Keeps (writer_contents W.contents writer.old) (writer_contents W.contents writer.new) }
         ensures err { IfErr result (λ e. e ≡ EngineError.Write) }
-        // Nothing waits to be written.
-        ensures flushed { OnOk result (writer_buffer writer.new ≡ []) }
+        ensures done { OnOk result (writer_buffer writer.new ≡ []) }
     {
         match writer.flush() {
             Ok(()) => Ok(()),

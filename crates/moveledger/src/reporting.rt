@@ -2,6 +2,7 @@
 ghost use Rattle.std.specs.Prelude.{◌≡◌, ◌≢◌, []};
 ghost use Rattle.std.specs.Io.Buffered.{writer_buffer, writer_contents};
 ghost use Rattle.moveledger.specs.Outcome.{Ends};
+ghost use Rattle.moveledger.specs.Pacing.{EndsBy, IsDoneForAll, IsDoneUntil};
 
 use crate::ending::{End, end_of};
 use crate::pacing::AfterRecord;
@@ -19,6 +20,13 @@ pub fn report<R: Read, W: Write + Drop, A: AfterRecord<R, BufWriter<W>>>(
     // What the end says of the records, the report and the ledger.
     ensures ends { Ends result (R.remaining reader.old) (R.remaining reader.new)
         (writer_contents W.contents writer.old) (writer_contents W.contents writer.new) ledger.old ledger.new }
+    // What is wanted was done after each whole record that was answered, before anything behind it was read.
+    ensures done { EndsBy
+        (λ n. IsDoneForAll R.remaining (writer_contents W.contents) A.does (R.remaining reader.old) (writer_contents W.contents writer.old)
+        ledger.old (R.remaining reader.new) n after.old after.new)
+        (λ e. IsDoneUntil R.remaining (writer_contents W.contents) A.does (R.remaining reader.old) (writer_contents W.contents writer.old)
+        ledger.old (R.remaining reader.new) e after.old after.new)
+        result }
     // Where it ended well, or by a failed read, nothing waits to be written.
     ensures flushed { result ≢ End.Write → writer_buffer writer.new ≡ [] }
 {

@@ -1,10 +1,11 @@
 // The engine: records in, lines out.
-ghost use Rattle.std.specs.Prelude.{◌≡◌, ℕ, List, [], IfOk, IfErr, Err};
+ghost use Rattle.std.specs.Prelude.{◌≡◌, ◌⊎◌, ℕ, List, [], IfOk, IfErr, Err};
 ghost use Rattle.moveledger.specs.Records.{Record, AreRecords};
 ghost use Rattle.mv_ledger.specs.View.{state_of};
 ghost use Rattle.moveledger.specs.Headline.{Headline, IsAccounted};
 ghost use Rattle.moveledger.specs.OneReport.{OneReport};
-ghost use Rattle.moveledger.specs.Outcome.{ReadsAll, Stops, StopsReading, StopsWriting};
+ghost use Rattle.moveledger.specs.Outcome.{ReadsAll, Stops, StopsBehind, StopsReading, StopsWriting};
+ghost use Rattle.moveledger.specs.Pacing.{IsDoneForAll, IsDoneUntil, IsFailed};
 
 use crate::answering::{answer, write_reply};
 use crate::pacing::{AfterRecord, Gathering};
@@ -62,7 +63,7 @@ pub fn engine<R: Read, W: Write>(
     // A failed read: exactly the lines of the records that were read whole.
     ensures read { result ≡ Err EngineError.Read → StopsReading (R.remaining reader.old)
         (R.remaining reader.new) (W.contents writer.old) (W.contents writer.new) ledger.old ledger.new }
-    // A failed write: nothing behind a prefix of the lines of the record that was being answered, and nothing read behind it.
+    // A failed write: a prefix of the lines of the record that was being answered, and not all of them, and nothing read behind it.
     ensures write { result ≡ Err EngineError.Write → StopsWriting (R.remaining reader.old)
         (R.remaining reader.new) (W.contents writer.old) (W.contents writer.new) ledger.old ledger.new }
     // Whatever the end: what is stored is accounted for, before as after.
@@ -91,8 +92,17 @@ pub fn answer_all<R: Read, W: Write, A: AfterRecord<R, W>>(
         (R.remaining reader.new) (W.contents writer.old) (W.contents writer.new) ledger.old ledger.new) }
     ensures read { result ≡ Err EngineError.Read → StopsReading (R.remaining reader.old)
         (R.remaining reader.new) (W.contents writer.old) (W.contents writer.new) ledger.old ledger.new }
+    // A failed write: as with `engine`; or all lines were written, and what is wanted after them failed.
     ensures write { result ≡ Err EngineError.Write → StopsWriting (R.remaining reader.old)
-        (R.remaining reader.new) (W.contents writer.old) (W.contents writer.new) ledger.old ledger.new }
+        (R.remaining reader.new) (W.contents writer.old) (W.contents writer.new) ledger.old ledger.new
+        ⊎ (StopsBehind (R.remaining reader.old) (R.remaining reader.new) (W.contents writer.old) (W.contents writer.new) ledger.old ledger.new
+        × IsFailed R.remaining W.contents A.does (R.remaining reader.old) (W.contents writer.old) ledger.old EngineError.Write after.new) }
+    // What is wanted was done after each whole record, before anything behind it was read, and with all lines up to its own written.
+    ensures done { IfOk result (λ n. IsDoneForAll R.remaining W.contents A.does (R.remaining reader.old) (W.contents writer.old)
+        ledger.old (R.remaining reader.new) n after.old after.new) }
+    // Whatever the error: it was done after each record before it.
+    ensures until { IfErr result (λ e. IsDoneUntil R.remaining W.contents A.does (R.remaining reader.old) (W.contents writer.old)
+        ledger.old (R.remaining reader.new) e after.old after.new) }
 {
     let alloc = ledger.allocator();
     // The line of each reply is made in the memory of the one before it.

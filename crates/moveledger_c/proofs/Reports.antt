@@ -5,6 +5,7 @@ use Rattle.std.specs.Io.KnownBytes.{Appends}
 use Rattle.std.specs.Global.{Vec}
 use Rattle.mv_ledger.specs.View.{LedgerView}
 use Rattle.moveledger.specs.Continuing.{StopsAfter}
+use Rattle.moveledger.specs.Outcome.{part_of_a_record}
 use Rattle.moveledger.specs.Proving.{IsAcceptedBack, IsProvedBy}
 use Rattle.moveledger.specs.Reading.{at_kind}
 use Rattle.moveledger_c.specs.Calls.{payload_of, IsProved}
@@ -31,7 +32,7 @@ StopsAfter-none before records had has l a b = record {
   read = λ more. refl;
   answered = omega arith;
   report = (refl, refl);
-  last = inl (inl at_kind, refl, refl);
+  last = part_of_a_record at_kind refl refl;
   written = subst (λ (x : List ℕ). Appends (Some had) (Some x) []) (a ∙ sym b) (Appends-nil (Some had));
 }
 

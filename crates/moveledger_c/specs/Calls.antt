@@ -1,4 +1,13 @@
 -- What the calls of C come to, by their status.
+-- Each says what a call gives, for each status that it may answer.
+--   IsNew status held                                       a new ledger
+--   IsLoadedAs bytes status why held                        a ledger that is loaded
+--   IsApplied records status before after old new had has   records that are answered; without a ledger nothing is done
+--   IsOfHeld Is held status text                            a text of the ledger that is held
+--   IsReport, IsReported kind payload held status text      a show or an audit
+--   IsProved, IsChecked                                     a certificate that is made, and one that is tested
+--   IsMigratedAs bytes status why text                      a saved ledger in the current form
+-- payload_of is the payload that asks for a report: 0 stands for lines, 1 for JSON.
 use Rattle.std.specs.Prelude.{◌≡◌, ℕ, zero, suc, ℤ, List, [], ◌∷◌, Option, Some, None, ◌⊎◌}
 use Rattle.mv_move_types.specs.declared.refusal.Refusal.TheVariants.{Phase}
 use Rattle.mv_machine.specs.Lines.{Told}

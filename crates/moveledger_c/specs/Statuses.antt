@@ -1,4 +1,6 @@
 -- The statuses that C reads, by their numbers.
+--   done, refused, load_refused, too_complex   0 to 3: what was asked for is done, or isn't and why
+--   memory, arguments                          4 and 5: an allocation failed, or an argument isn't as it has to be
 use Rattle.std.specs.Prelude.{ℤ, pos}
 
 -- the call did what it was asked for

@@ -1,5 +1,5 @@
 // What a terminal shows of a run that takes long: how far it is.
-ghost use Rattle.std.specs.Prelude.{◌≡◌, ◌++◌, IfOk, codes, decimal, string_bytes};
+ghost use Rattle.std.specs.Prelude.{◌≡◌, ◌++◌, IfOk, MatchResult, Ok, codes, decimal, string_bytes};
 ghost use Rattle.moveledger_program.specs.Meter.{meter_text};
 
 use moveledger::{AfterRecord, EngineError};
@@ -60,6 +60,10 @@ impl<A> Whole<A> {
 }
 
 impl<R: Read, W: Write, A: AfterRecord<Counted<R>, W>> AfterRecord<Counted<R>, W> for Whole<A> {
+    // What is wanted was done. Where that went well, it is noted how many bytes the reader had given; otherwise nothing is.
+    ghost does = { λ number reader old before end new after. A.does number reader old.inner before end new.inner after
+        × MatchResult end (λ _. new.bytes ≡ reader.bytes) (λ _. new.bytes ≡ old.bytes) };
+
     fn answered(
         &mut self,
         number: u64,
@@ -194,6 +198,9 @@ impl<'a> Meter<'a> {
 }
 
 impl<R: Read, W: Write> AfterRecord<Counted<R>, W> for Meter<'_> {
+    // It never fails, and leaves the writer as it is. What it shows on the screen no contract sees.
+    ghost does = { λ number reader old before end new after. (end ≡ Ok tt) × (after ≡ before) };
+
     fn answered(
         &mut self,
         number: u64,

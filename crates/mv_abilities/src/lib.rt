@@ -11,16 +11,16 @@
 //!     let bounded = mv_bounds::check(alloc, module)?;
 //!     mv_abilities::check(&bounded)?;
 //!     let first = Token::Plain(ValueType::OfStruct(0));
-//!     Ok(of(&bounded, first).is_some_and(|abilities| abilities.drop))
+//!     Ok(of(&bounded, first).drop)
 //! }
 //! ```
 #![tactic(auto)]
 
-ghost use Rattle.std.specs.Prelude.{◌≡◌, OnOk, IfErr, None, Some};
+ghost use Rattle.std.specs.Prelude.{◌≡◌, OnOk, IfErr, None, Some, unwrap_or};
 ghost use Rattle.mv_move_types.specs.Refusals.{IsRefusedIn};
 ghost use Rattle.std.specs.List.{list_all};
 ghost use Rattle.mv_move_types.specs.Module.{struct_abilities};
-ghost use Rattle.mv_move_types.specs.AbilitySets.{leaf_abilities};
+ghost use Rattle.mv_move_types.specs.AbilitySets.{leaf_abilities, no_abilities};
 ghost use Rattle.mv_abilities.specs.Abilities.{AbilitiesHold, token_abilities, field_is_able, struct_is_able};
 
 use mv_binary_format::StructDefinition;
@@ -80,7 +80,7 @@ fn are_able(m: &Bounded<'_>, structure: Abilities, fields: &[Field]) -> bool
 fn is_able(m: &Bounded<'_>, structure: Abilities, f: Field) -> bool
     ensures { result ≡ field_is_able m.now structure f }
 {
-    match of(m, f.token) {
+    match find(m, f.token) {
         Some(field) => {
             (!structure.copy || field.copy)
                 && (!structure.drop || field.drop)
@@ -90,9 +90,25 @@ fn is_able(m: &Bounded<'_>, structure: Abilities, f: Field) -> bool
     }
 }
 
+/// The abilities of a type, as `find` has them. A struct whose handle isn't there has none of them; the module itself names no
+/// such struct.
+pub fn of(m: &Bounded<'_>, token: Token) -> Abilities
+    ensures { result ≡ unwrap_or (token_abilities m.now token) no_abilities }
+{
+    match find(m, token) {
+        Some(abilities) => abilities,
+        None => Abilities {
+            copy: false,
+            drop: false,
+            store: false,
+            key: false,
+        },
+    }
+}
+
 /// The abilities of a type: a leaf's and a reference's are fixed, a struct has what its handle declares. None where the
 /// handle isn't there.
-pub fn of(m: &Bounded<'_>, token: Token) -> Option<Abilities>
+pub fn find(m: &Bounded<'_>, token: Token) -> Option<Abilities>
     ensures { result ≡ token_abilities m.now token }
 {
     match token {

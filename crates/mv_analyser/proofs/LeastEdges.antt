@@ -16,7 +16,6 @@ use Rattle.mv_cfg.specs.Blocks.{blocks}
 use Rattle.mv_cfg.specs.FlowGraph.{IsFlowGraph, basic_block_of}
 use Rattle.mv_type_states.specs.TypesHold.{function_is_typed, point_at}
 use Rattle.mv_lattice.specs.Flow.{IsFlow, IsClosed, IsStated, IsFlowBelow}
-use Rattle.mv_lattice.specs.Search.{MeetsLimit}
 use Rattle.mv_lattice.specs.Work.{AllStated}
 use Rattle.mv_locals_safety.specs.LocalsRules.{locals_after, locals_leq}
 use Rattle.mv_edges.specs.Edges.{Edge, same_node, edges_leq}
@@ -34,7 +33,7 @@ use Rattle.mv_certificate.proofs.States.{edges-flow-at}
 use Rattle.mv_certificate.proofs.Holds.{edges_exact_at}
 use Rattle.mv_certificate.proofs.Whole.{marks-fit}
 use Rattle.mv_analyser.specs.Least.{HasLeastLocals, HasLeastEdges, stated_locals, stated_edges}
-use Rattle.mv_analyser.specs.Principal.{HasPlainLocals, MeetsLimitAt}
+use Rattle.mv_analyser.specs.Principal.{HasPlainLocals, HoldsAt}
 use Rattle.mv_analyser.specs.States.{known_with, with_edges, IsSimpleAt}
 use Rattle.mv_analyser.proofs.LeastLocals.{at_function}
 use Rattle.mv_analyser.proofs.Marks.{flow-marks}
@@ -205,14 +204,12 @@ module _ (m m' : Module) (f : ℕ) (d d' : FunctionDefinition) (g : Cfg) (home :
         let flow = edges-flow-at m f d g stated all at fg fits refl in
         never all flow ((edges_exact_at m m' f d d' g stated home at at' fg typed start all none known refl flow).1 holds)
 
-    -- what limit the search meets in the domain's function, it meets in the function at the place
-    pub meets_limit : (start : List Edge) → start ≡ [] → MeetsLimit Ascend (λ s. IsTrue (are_few s)) (λ a b. IsTrue (edges_leq a b)) (edges_step m' d') g start → MeetsLimitAt m f
-    meets_limit start none limit = record {
+    -- how the search ends in the domain's function, it ends in the function at the place
+    pub edges_end : (Q : (ℕ → List Edge → Option (List Edge)) → Cfg → List Edge → Type 0) → (start : List Edge) → start ≡ [] → Q (edges_step m' d') g start → HoldsAt (λ x h. Q (edges_step m x) h []) m f
+    edges_end Q start none holds = record {
       function = d;
       at = at;
       graph = g;
       is_graph = fg;
-      limit = subst (λ s. MeetsLimit Ascend (λ s. IsTrue (are_few s)) (λ a b. IsTrue (edges_leq a b)) (edges_step m d) g s) none
-          (subst (λ z. MeetsLimit Ascend (λ s. IsTrue (are_few s)) (λ a b. IsTrue (edges_leq a b)) (edges_step m z) g start) same
-          (subst (λ z. MeetsLimit Ascend (λ s. IsTrue (are_few s)) (λ a b. IsTrue (edges_leq a b)) (edges_step z d') g start) home limit));
+      holds = subst (λ s. Q (edges_step m d) g s) none (subst (λ z. Q (edges_step m z) g start) same (subst (λ z. Q (edges_step z d') g start) home holds));
     }

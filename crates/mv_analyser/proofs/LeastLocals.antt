@@ -27,7 +27,8 @@ use Rattle.mv_certificate.proofs.Marks.{stated-fits}
 use Rattle.mv_certificate.proofs.States.{locals-flow-at}
 use Rattle.mv_certificate.proofs.Holds.{locals_exact_at}
 use Rattle.mv_analyser.specs.Least.{HasLeastLocals, stated_locals}
-use Rattle.mv_analyser.specs.States.{without_edges, locals_alone, error_of, IsErrorAt}
+use Rattle.mv_analyser.specs.Principal.{HoldsAt, FailsLocals, FailsEdges, MeetsLimitAt}
+use Rattle.mv_analyser.specs.States.{without_edges, locals_alone, error_of, EndsLocals, EndsEdges, IsErrorAt}
 use Rattle.mv_analyser.proofs.Marks.{flow-marks}
 use Rattle.mv_analyser.proofs.Chains.{Leq}
 
@@ -114,6 +115,36 @@ module _ (m m' : Module) (f : ℕ) (d d' : FunctionDefinition) (g : Cfg) (home :
       let all : List (Option (List Availability)) = map (option_map (λ k. k.locals)) stated in
       let flow = locals-flow-at m m' f d d' g stated all home at at' fg fits refl in
       never all flow ((locals_exact_at m m' f d d' g stated home at at' fg typed start all begin refl flow).1 holds)
+
+  -- how the search ends in the domain's function, it ends in the function at the place
+  pub locals_end : (Q : (ℕ → List Availability → Option (List Availability)) → Cfg → List Availability → Type 0) → Q (locals_step m' d') g start
+      → HoldsAt (λ x h. (s : List Availability) × ((start_locals m x ≡ Some s) × Q (locals_step m x) h s)) m f
+  locals_end Q holds = record {
+    function = d;
+    at = at;
+    graph = g;
+    is_graph = fg;
+    holds = (
+      start,
+      (
+        subst (λ z. start_locals m z ≡ Some start) same (subst (λ z. start_locals z d' ≡ Some start) home begin),
+        subst (λ z. Q (locals_step m z) g start) same (subst (λ z. Q (locals_step z d') g start) home holds),
+      ),
+    );
+  }
+
+-- how a search ends, by its error
+pub locals_error : {T : Type 0} (m : Module) (f : ℕ) (e : SolveError) → (IsErrOf {T = T} (Err e) NeedFails → FailsLocals m f) → (IsErrOf {T = T} (Err e) SearchTooComplex → ⊥)
+    → EndsLocals m f (error_of 10 e)
+locals_error m f NeedFails need complex = (refl, need refl)
+locals_error m f SearchTooComplex need complex = complex refl
+locals_error m f MemoryOut need complex = tt
+
+pub edges_error : {T : Type 0} (m : Module) (f : ℕ) (e : SolveError) → (IsErrOf {T = T} (Err e) NeedFails → FailsEdges m f) → (IsErrOf {T = T} (Err e) SearchTooComplex → MeetsLimitAt m f)
+    → EndsEdges m f (error_of 11 e)
+edges_error m f NeedFails need complex = (refl, need refl)
+edges_error m f SearchTooComplex need complex = complex refl
+edges_error m f MemoryOut need complex = tt
 
 -- what the error of a search says
 pub search_error : {T : Type 0} (m : Module) (f phase : ℕ) (Passes : Stated → Type 0) (Complex : Type 0) (e : SolveError)

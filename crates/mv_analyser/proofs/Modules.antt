@@ -1,6 +1,6 @@
 -- From the functions of a module to the module.
 use Rattle.std.proofs.Common.{◌≡◌, ℕ, suc, List, [], ◌∷◌, ◌++◌, length, ◌<◌, ◌+◌, Some, slice_get, IsTrue, refl, sym, ◌∙◌, subst, arith, ⊎_elim, Result, Ok, Err, IfOk, OnOk}
-use Rattle.std.proofs.lemmas.Bool.{and_parts, and_from}
+use Rattle.std.proofs.lemmas.Bool.{and_parts, and_from, cases_eq}
 use Rattle.std.proofs.lemmas.List.{length-append}
 use Rattle.std.proofs.lemmas.Option.{slice_get_within}
 use Rattle.mv_move_types.specs.Module.{Module, FunctionDefinition}
@@ -14,7 +14,8 @@ use Rattle.mv_certificate.specs.Shape.{StatedFits, AllStatedFit}
 use Rattle.mv_certificate.proofs.States.{fit-length, fit-at}
 use Rattle.mv_certificate.proofs.Holds.{each-passes, passes-each}
 use Rattle.mv_analyser.specs.Principal.{FailsEach, no_locals, no_edges, no_lists, IsUnproved, IsOfLimits, IsProvable, PassesCheck}
-use Rattle.mv_analyser.specs.States.{IsErrorAt, IsComplexAt}
+use Rattle.mv_analyser.specs.Principal.{FindsLocals, FindsEdges, AllBefore}
+use Rattle.mv_analyser.specs.States.{EndsLocals, EndsEdges, IsErrorAt, IsComplexAt}
 use Rattle.mv_analyser.specs.declared.ProveError.{ProveError}
 use Rattle.mv_analyser.specs.declared.ProveError.TheVariants.{Refused, TooComplex, Memory}
 use Rattle.mv_bounds.proofs.Entries.{last_or_before, element_at}
@@ -68,19 +69,29 @@ module _ (m : Module) (f : ℕ) (inside : f < length m.functions) (c : Certifica
   edges_there holds =
       (stated_there.0, (λ d e. fit-at m m.functions c f d stated_there.0 fits e stated_there.1, λ d e. passes-each (edges_hold m) m.functions c holds f d stated_there.0 e stated_there.1))
 
--- what the error at a function says of the module
-pub unproved_locals : (m : Module) (f : ℕ) → f < length m.functions → (e : ProveError) → IsErrorAt m f 10 (LocalsHoldAt m f) ⊥ e → IsUnproved m e
-unproved_locals m f inside (Refused p) h =
-    subst (FailsEach m) (sym h.0) (no_locals (λ c fits holds. let s = locals_there m f inside c fits holds in h.1 s.0 s.1.0 s.1.1))
-unproved_locals m f inside TooComplex h = absurd h
-unproved_locals m f inside Memory h = tt
+-- one function more
+pub before_none : (P : ℕ → Type 0) → AllBefore P 0
+before_none P k low = absurd (omega (arith, low))
 
-pub unproved_edges : (m : Module) (f : ℕ) → f < length m.functions → (c : Certificate) → AllStatedFit m m.functions c → IsTrue (all_locals_hold m c) → (e : ProveError)
-    → IsErrorAt m f 11 (EdgesHoldAt m f) (IsComplexAt m f) e → IsUnproved m e
-unproved_edges m f inside c fits holds (Refused p) h =
-    subst (FailsEach m) (sym h.0) (no_edges c fits holds (λ c fits holds. let s = edges_there m f inside c fits holds in h.1 s.0 s.1.0 s.1.1))
-unproved_edges m f inside c fits holds TooComplex h = (λ plain. h.0 (λ d e. plain f d e), (f, h.1))
-unproved_edges m f inside c fits holds Memory h = tt
+pub before_more : (P : ℕ → Type 0) (f : ℕ) → AllBefore P f → P f → AllBefore P (f + 1)
+before_more P f before p k low = ⊎_elim (λ (is : k ≡ f). subst P (sym is) p) (λ (other : k ≡ f → ⊥). before k (omega (arith, low, other))) (cases_eq k f)
+
+pub before_all : (P : ℕ → Type 0) (f n : ℕ) → f ≡ n → AllBefore P f → AllBefore P n
+before_all P f n is before = subst (AllBefore P) is before
+
+-- what the error at a function says of the module
+pub unproved_locals : (m : Module) (f : ℕ) → f < length m.functions → (e : ProveError) → IsErrorAt m f 10 (LocalsHoldAt m f) ⊥ e → EndsLocals m f e → AllBefore (FindsLocals m) f → IsUnproved m e
+unproved_locals m f inside (Refused p) h ends before =
+    subst (FailsEach m) (sym h.0) (no_locals f ends.1 before (λ c fits holds. let s = locals_there m f inside c fits holds in h.1 s.0 s.1.0 s.1.1))
+unproved_locals m f inside TooComplex h ends before = absurd h
+unproved_locals m f inside Memory h ends before = tt
+
+pub unproved_edges : (m : Module) (f : ℕ) → f < length m.functions → (c : Certificate) → AllStatedFit m m.functions c → IsTrue (all_locals_hold m c)
+    → AllBefore (FindsLocals m) (length m.functions) → (e : ProveError) → IsErrorAt m f 11 (EdgesHoldAt m f) (IsComplexAt m f) e → EndsEdges m f e → AllBefore (FindsEdges m) f → IsUnproved m e
+unproved_edges m f inside c fits holds locals (Refused p) h ends before =
+    subst (FailsEach m) (sym h.0) (no_edges f ends.1 before c fits holds (λ c fits holds. let s = edges_there m f inside c fits holds in h.1 s.0 s.1.0 s.1.1))
+unproved_edges m f inside c fits holds locals TooComplex h ends before = (λ plain. h.0 (λ d e. plain f d e), record { locals = locals; function = f; before = before; limit = h.1 })
+unproved_edges m f inside c fits holds locals Memory h ends before = tt
 
 pub unproved_lists : (m : Module) (c : Certificate) → AllStatedFit m m.functions c → IsTrue (certificate_holds m c) → (p : ℕ) → p ≡ 12 → (AcquiresHold m → ⊥) → FailsEach m p
 unproved_lists m c fits holds p is none = subst (FailsEach m) (sym is) (no_lists (c, (fits, holds)) none)
@@ -101,9 +112,9 @@ found_passes m (Err e) holds lists = tt
 
 -- where some certificate passes, none is refused
 never_refused : (m : Module) → IsProvable m → (p : ℕ) → FailsEach m p → ⊥
-never_refused m provable _ (no_locals none) =
+never_refused m provable _ (no_locals f fails before none) =
     let c = provable.0 in none c.0 c.1.0 (and_parts (all_locals_hold m c.0) (all_edges_hold m c.0) c.1.1).0
-never_refused m provable _ (no_edges other fits holds none) =
+never_refused m provable _ (no_edges f fails before other fits holds none) =
     let c = provable.0 in none c.0 c.1.0 (and_parts (all_locals_hold m c.0) (all_edges_hold m c.0) c.1.1).1
 never_refused m provable _ (no_lists whole none) = none provable.1
 

@@ -1,4 +1,11 @@
 -- When what is stated is the least that holds.
+--   stated_locals, stated_edges                the two flows that are stated
+--   HasLocalsBelow, HasEdgesBelow low high     one flow of them is below the other's
+--   HasLeastLocals, HasLeastEdges m f stated   below all that fit the function at f and hold
+--   AreLeastLocals, IsLeastCertificate m c     the same for each function: for the availabilities, and for both
+--   IsPrincipal m c                            the certificate fits the module, holds, and is the least one that does
+--   IsSameStated a b                           both state the same availabilities, and each one's edges are below the other's
+--   LeastIsOne                                 two least certificates of a module state the same in this sense
 use Rattle.std.specs.Prelude.{◌≡◌, ℕ, List, Option, Some, slice_get, IsTrue}
 use Rattle.mv_move_types.specs.declared.borrow.Availability.{Availability}
 use Rattle.mv_move_types.specs.Module.{Module}

@@ -1,4 +1,10 @@
 -- What a search over one function gives, and what is stated by two of them.
+--   without_edges, locals_alone            availabilities with no edges, of a block and of all blocks
+--   known_with, with_edges                 the same with these edges
+--   error_of phase e                       what the error of a search says in a phase
+--   IsErrorAt m f phase Passes Complex e   nothing passes at f, or that function is too complex, or memory ran out
+--   IsSimpleAt, IsComplexAt m f            no local of the function at f is a reference; or one is, and the search meets a limit
+--   EndsLocals, EndsEdges m f e            the search for availabilities, or for edges, ends with this error
 use Rattle.std.specs.Prelude.{◌≡◌, ⊤, ℕ, List, [], ◌∷◌, map, option_map, Option, Some, None, slice_get}
 use Rattle.mv_move_types.specs.declared.borrow.Availability.{Availability}
 use Rattle.mv_move_types.specs.Module.{Module, FunctionDefinition}
@@ -7,7 +13,7 @@ use Rattle.mv_lattice.specs.declared.search.SolveError.{SolveError}
 use Rattle.mv_lattice.specs.declared.search.SolveError.TheVariants.{Need as NeedFails, TooComplex as SearchTooComplex, Memory as MemoryOut}
 use Rattle.mv_certificate.specs.Certificate.{Known, Stated}
 use Rattle.mv_certificate.specs.Reads.{FitsAt}
-use Rattle.mv_analyser.specs.Principal.{HasPlainLocals, MeetsLimitAt}
+use Rattle.mv_analyser.specs.Principal.{HasPlainLocals, FailsLocals, FailsEdges, MeetsLimitAt}
 use Rattle.mv_analyser.specs.declared.ProveError.{ProveError}
 use Rattle.mv_analyser.specs.declared.ProveError.TheVariants.{Refused, TooComplex, Memory}
 
@@ -50,3 +56,14 @@ IsSimpleAt m f = (d : FunctionDefinition) → slice_get m.functions f ≡ Some d
 -- some local of that function is a reference, and the search for its edges meets a limit
 abbrev pub IsComplexAt : Module → ℕ → Type 0
 IsComplexAt m f = (IsSimpleAt m f → ⊥) × MeetsLimitAt m f
+
+-- the function's search for availabilities has this error in phase 10, or its search for edges in phase 11; or memory ran out
+abbrev pub EndsLocals : Module → ℕ → ProveError → Type 0
+EndsLocals m f (Refused p) = (p ≡ 10) × FailsLocals m f
+EndsLocals m f TooComplex = ⊥
+EndsLocals m f Memory = ⊤
+
+abbrev pub EndsEdges : Module → ℕ → ProveError → Type 0
+EndsEdges m f (Refused p) = (p ≡ 11) × FailsEdges m f
+EndsEdges m f TooComplex = MeetsLimitAt m f
+EndsEdges m f Memory = ⊤

@@ -1,5 +1,5 @@
 // The least edges of each function that hold.
-ghost use Rattle.std.specs.Prelude.{◌≡◌, ◌<◌, not, length, Some, slice_get, nat_le, IfOk, IfErr, IsTrue};
+ghost use Rattle.std.specs.Prelude.{◌≡◌, ◌<◌, not, length, Some, slice_get, nat_le, IfOk, IfErr, OnOk, IsTrue};
 ghost use Rattle.std.specs.List.{list_all};
 ghost use Rattle.mv_borrow_graph.specs.BorrowRules.{is_reference_token};
 ghost use Rattle.mv_certificate.specs.Certificate.{all_locals_hold, certificate_holds};
@@ -7,14 +7,14 @@ ghost use Rattle.mv_certificate.specs.Functions.{LocalsHoldAt, EdgesHoldAt};
 ghost use Rattle.mv_certificate.specs.Reads.{FitsAt};
 ghost use Rattle.mv_certificate.specs.Shape.{AllStatedFit};
 ghost use Rattle.mv_analyser.specs.Least.{HasLeastLocals, HasLeastEdges, AreLeastLocals, IsLeastCertificate};
-ghost use Rattle.mv_analyser.specs.Principal.{IsUnproved};
-ghost use Rattle.mv_analyser.specs.States.{known_with, with_edges, IsErrorAt, IsComplexAt};
+ghost use Rattle.mv_analyser.specs.Principal.{AllBefore, FindsEdges, FindsLocals, IsUnproved};
+ghost use Rattle.mv_analyser.specs.States.{known_with, with_edges, EndsEdges, IsErrorAt, IsComplexAt};
 
 use crate::{ProveError, error_in};
 use mv_borrow_graph::BorrowDomain;
 use mv_certificate::{Cert, Known, Stated, function_at, function_count, graph_of, has_start};
 use mv_edges::Edges;
-use mv_lattice::solve;
+use mv_lattice::{search_is_least, solve};
 use mv_type_states::Typed;
 use std::alloc::{AllocError, Global};
 
@@ -71,7 +71,9 @@ fn state_edges(
     ensures edges { IfOk result (EdgesHoldAt m.now f) }
     ensures least_locals { IfOk result (HasLeastLocals m.now f) }
     ensures least_edges { IfOk result (HasLeastEdges m.now f) }
+    ensures found { OnOk result (FindsEdges m.now f) }
     ensures refused { IfErr result (IsErrorAt m.now f 11 (EdgesHoldAt m.now f) (IsComplexAt m.now f)) }
+    ensures ends { IfErr result (EndsEdges m.now f) }
 {
     let domain = BorrowDomain::of_function(m, f);
     let start = domain.start(alloc);
@@ -79,6 +81,7 @@ fn state_edges(
     let graph = graph_of(m, f, function);
     has_start(m, f, function);
     has_plain_fields(m);
+    search_is_least(&domain, graph, &start);
     match solve(alloc, &domain, graph, &start) {
         Ok(least) => Ok(stated_and(alloc, stated, &least)?),
         Err(e) => Err(error_in(11, e)),
@@ -112,6 +115,7 @@ pub fn with_least_edges(alloc: Global, m: &Typed<'_>, c: &Cert) -> Result<Cert, 
     requires shape { AllStatedFit m.now m.now.functions c.now }
     requires locals { IsTrue (all_locals_hold m.now c.now) }
     requires least { AreLeastLocals m.now c.now }
+    requires found { AllBefore (FindsLocals m.now) (length m.now.functions) }
     ensures shape { IfOk result (λ v. AllStatedFit m.now m.now.functions v) }
     ensures holds { IfOk result (λ v. IsTrue (certificate_holds m.now v)) }
     ensures least { IfOk result (IsLeastCertificate m.now) }

@@ -101,8 +101,9 @@ fn find(alloc: Global, m: &Typed<'_>) -> Result<Cert, ProveError>
 /// # Errors
 /// `Refused` with the first of phases 10, 11 and 12 that no certificate passes. `TooComplex` where the search for some function's
 /// edges reaches its limits: it would visit a block a 257th time, or would state for a block more than 1,024 edges or a label of
-/// more than 8 positions. In a module without a local of reference type, parameters included, it never does. `Memory` if an
-/// allocation failed.
+/// more than 8 positions. In a module without a local of reference type, parameters included, it never does. Of the functions
+/// in order the first whose edges are too complex or fail is answered, after all availabilities and before the acquires lists.
+/// `Memory` if an allocation failed.
 pub fn prove(alloc: Global, m: &Typed<'_>) -> Result<Cert, ProveError>
     ensures shape { IfOk result (λ c. AllStatedFit m.now m.now.functions c) }
     ensures passes { IfOk result (PassesCheck m.now) }

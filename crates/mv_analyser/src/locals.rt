@@ -1,17 +1,17 @@
 // The least availabilities of each function that hold.
-ghost use Rattle.std.specs.Prelude.{◌≡◌, ◌<◌, length, IfOk, IfErr, IsTrue};
+ghost use Rattle.std.specs.Prelude.{◌≡◌, ◌<◌, length, IfOk, IfErr, OnOk, IsTrue};
 ghost use Rattle.mv_certificate.specs.Certificate.{all_locals_hold};
 ghost use Rattle.mv_certificate.specs.Functions.{LocalsHoldAt};
 ghost use Rattle.mv_certificate.specs.Reads.{FitsAt};
 ghost use Rattle.mv_certificate.specs.Shape.{AllStatedFit};
 ghost use Rattle.mv_analyser.specs.Least.{HasLeastLocals, AreLeastLocals};
-ghost use Rattle.mv_analyser.specs.Principal.{IsUnproved};
-ghost use Rattle.mv_analyser.specs.States.{locals_alone, IsErrorAt};
+ghost use Rattle.mv_analyser.specs.Principal.{AllBefore, FindsLocals, IsUnproved};
+ghost use Rattle.mv_analyser.specs.States.{locals_alone, EndsLocals, IsErrorAt};
 
 use crate::{ProveError, error_in};
 use mv_certificate::{Cert, Known, Stated, function_at, function_count, graph_of};
 use mv_edges::Edges;
-use mv_lattice::solve;
+use mv_lattice::{search_is_least, solve};
 use mv_locals_safety::{Availabilities, LocalsDomain};
 use mv_type_states::Typed;
 use std::alloc::{AllocError, Global};
@@ -40,12 +40,15 @@ fn state_locals(alloc: Global, m: &Typed<'_>, f: usize) -> Result<Stated, ProveE
     ensures fits { IfOk result (FitsAt m.now f) }
     ensures holds { IfOk result (LocalsHoldAt m.now f) }
     ensures least { IfOk result (HasLeastLocals m.now f) }
+    ensures found { OnOk result (FindsLocals m.now f) }
     ensures refused { IfErr result (IsErrorAt m.now f 10 (LocalsHoldAt m.now f) ⊥) }
+    ensures ends { IfErr result (EndsLocals m.now f) }
 {
     let domain = LocalsDomain::of_function(alloc, m, f)?;
     let start = domain.start(alloc)?;
     let function = function_at(m, f);
     let graph = graph_of(m, f, function);
+    search_is_least(&domain, graph, &start);
     match solve(alloc, &domain, graph, &start) {
         Ok(least) => Ok(alone(alloc, &least)?),
         Err(e) => Err(error_in(10, e)),
@@ -57,6 +60,7 @@ pub fn least_locals(alloc: Global, m: &Typed<'_>) -> Result<Cert, ProveError>
     ensures shape { IfOk result (λ c. AllStatedFit m.now m.now.functions c) }
     ensures holds { IfOk result (λ c. IsTrue (all_locals_hold m.now c)) }
     ensures least { IfOk result (AreLeastLocals m.now) }
+    ensures found { OnOk result (AllBefore (FindsLocals m.now) (length m.now.functions)) }
     ensures refused { IfErr result (IsUnproved m.now) }
 {
     let count = function_count(m);

@@ -1,4 +1,12 @@
 -- The text of a whole module: its headers, its tables in some order, and its own handle.
+--   Table, Header                 a table's kind and bytes, and where its bytes stand
+--   all_tables m, tables m        a module's tables by ascending kind; and those that have entries (why only those: decision 6)
+--   headers_from offset ts        the headers of tables that follow one another
+--   laid_out m headers contents   a module's bytes, with its headers and its tables in these orders
+--   HasText m                     each part of the module has a text
+--   IsModuleText bytes m          the bytes are the module's, in any order of headers and of tables
+--   ordered_text m                its text with both in ascending order
+-- The others are parts of these.
 use Rattle.std.specs.Prelude.{ℕ, ◌==◌, ◌||◌, List, length, flat_map, nat_lt, [], ◌∷◌, filter, ◌+◌, ◌++◌, nat_le, IsTrue, sum_by, ◌≡◌, IsPermutation}
 use Rattle.std.specs.List.{list_all}
 use Rattle.std.specs.Int.{w32, to_le_bytes}

@@ -1,4 +1,13 @@
 -- The module that bytes are the text of.
+-- This finds the module by reading; ModuleText.antt defines which bytes are a module's (why both: decision 12).
+--   magic                                         the bytes that each module begins with
+--   version_from, kinds, header_from              a version, the kinds of tables, and a header
+--   contents_from turns offset headers            the tables, which follow one another without a gap or an overlap
+--   content_of kind ts, entries_of kind each ts   a table's bytes, and its entries
+--   module_from version own ts                    the module with these tables
+--   module_of bytes                               the module that the bytes spell, if they spell one
+--   tables_of bytes                               the same; one without tables if they spell none
+-- The others are parts of these.
 use Rattle.std.specs.Prelude.{ℕ, zero, suc, Bool, ◌+◌, ◌==◌, ◌&&◌, ◌||◌, nat_lt, nat_le, cond, List, [], ◌∷◌, length, Option, Some, None, option_map, unwrap_or}
 use Rattle.std.specs.Bool.{then_some}
 use Rattle.std.specs.List.{find, list_any}

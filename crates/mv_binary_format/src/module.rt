@@ -16,7 +16,7 @@ use super::names::{Identifier, Signature};
 use super::{FunctionDefinition, StructDefinition};
 use mv_module_text::Constant;
 use mv_move_types::{
-    FieldHandle, FunctionHandle, ModuleHandle, Refusal, StructHandle, Token, Version,
+    Address, FieldHandle, FunctionHandle, ModuleHandle, Refusal, StructHandle, Token, Version,
 };
 use std::alloc::Global;
 use std::marker::Model;
@@ -34,7 +34,7 @@ pub(crate) struct Parts<'a> {
     signatures: Vec<Signature>,
     constants: Vec<Constant<'a>>,
     identifiers: Vec<Identifier<'a>>,
-    addresses: Vec<u128>,
+    addresses: Vec<Address>,
     structs: Vec<StructDefinition>,
     functions: Vec<FunctionDefinition>,
     field_handles: Vec<FieldHandle>,
@@ -210,7 +210,7 @@ impl<'a> Module<'a> {
     }
 
     /// The addresses that it names, each as the number that its 16 bytes are, big-endian.
-    pub fn addresses(&self) -> &[u128]
+    pub fn addresses(&self) -> &[Address]
         ensures { result.now ≡ self.now.addresses }
     {
         &self.parts().addresses

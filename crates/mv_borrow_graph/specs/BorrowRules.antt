@@ -1,4 +1,16 @@
 -- The rules for borrows, as a partial step on edges.
+-- First nodes and tests of edges, then the rule of each family, then calls and returns, then all instructions.
+--   next_temp, top_temp p                        the next place on the stack, and the topmost operand
+--   is_mutable_token, is_reference_token         whether a type is a mutable reference, or any
+--   is_mutable p n                               whether a node is a mutable reference
+--   no_edge_out n, no_mutable_from p n           no edge leads out of the node; or none to a mutable reference
+--   copy_edges, move_edges, store_edges          CopyLoc, MoveLoc and StLoc
+--   mutable_field_edges, immutable_field_edges   the borrows of fields
+--   global_edges p i                             the reference to a stored value
+--   call_edges p i                               Call: no edge leads out of mutable arguments and acquired globals; results get edges
+--   return_edges p                               Ret: no result leads into what the frame or the storage holds, or into a mutable result
+--   edges_after p i edges                        phase 11: the edges after an instruction, if those before it are what it needs
+-- The others are parts of these. Within a block the edges are held otherwise: decision 52.
 use Rattle.std.specs.Prelude.{ℕ, ◌+◌, ◌-◌, Bool, true, false, not, ◌&&◌, ◌||◌, ◌==◌, List, [], ◌∷◌, ◌++◌, filter, flat_map, length, reverse, Option, Some, slice_get, if◌then◌else◌}
 use Rattle.std.specs.Bool.{then_some}
 use Rattle.std.specs.List.{list_all, list_any}

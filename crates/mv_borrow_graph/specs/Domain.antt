@@ -1,4 +1,13 @@
 -- The edges of a function's borrow graph as a domain of states.
+--   Function                   a function, with the tables of its module
+--   ordered found              edges in their order
+--   edges_step m d at edges    what the instruction at a place makes of the edges
+--   is_low types               the stack is within its limit
+--   is_picked mutable t        whether a type is a reference, or a mutable one
+--   Finds result found         this is found, or a need fails
+--   Follows result new after   the new state is the one after, or a need fails, or memory runs out where none does
+--   places_reference m d i     whether an instruction puts a reference where none stood, which takes memory
+-- is_reference_local is a part of these.
 use Rattle.std.specs.Prelude.{◌≡◌, ℕ, Bool, true, false, nat_le, List, length, Option, Some, None, Result, Ok, Err, slice_get, IsSome}
 use Rattle.std.specs.Option.{option_map_or}
 use Rattle.mv_move_types.specs.Limits.{most_operands}

@@ -1,4 +1,4 @@
--- What the search for certificates rests on (edges_lawful): the order of edges is one, a step is defined on each state below one on which
+-- What the search for certificates rests on (edges_lawful): the order of edges is one, the union of two is the least above both, a step is defined on each state below one on which
 -- it is, with a result below, it leaves ascending edges, and a block that goes on leads to a state with which a block may begin.
 --
 -- The laws' proofs stand in Laws/. They stay below specs/, since a trait's laws may cite nothing of their own crate but its specs/.
@@ -20,7 +20,7 @@ pub mod CallThere
 pub mod KeptThere
 pub mod Standing
 pub mod BlocksThere
-use Rattle.std.specs.Prelude.{◌≡◌, List, true, Option, Some, None, length, slice_get, IsTrue}
+use Rattle.std.specs.Prelude.{◌≡◌, List, [], ◌++◌, true, Option, Some, None, length, slice_get, IsTrue}
 use Rattle.std.proofs.Common.{refl, subst}
 use Rattle.mv_move_types.specs.Options.{◌>>=◌}
 use Rattle.mv_move_types.specs.Module.{Module, FunctionDefinition}
@@ -29,11 +29,12 @@ use Rattle.mv_edges.specs.Edges.{Edge, edges_leq}
 use Rattle.mv_edges.specs.Ascending.{are_ascending}
 use Rattle.mv_edges.specs.Sorted.{sorted}
 use Rattle.mv_edges.proofs.Sorting.{ascending-sorted}
-use Rattle.mv_edges.proofs.Order.{edges_leq_itself, edges_leq-transitive}
+use Rattle.mv_edges.proofs.Order.{edges_leq_itself, edges_leq-transitive, join-sorted}
 use Rattle.mv_lattice.specs.Laws.{IsLawful}
 use Rattle.mv_borrow_graph.specs.BorrowRules.{edges_after}
 use Rattle.mv_borrow_graph.specs.Laws.Rising.{step_below}
-use Rattle.mv_borrow_graph.specs.Nodes.{may_begin_with, IsGraphOf}
+use Rattle.mv_borrow_graph.specs.Nodes.{edge_is_there, may_begin_with, IsGraphOf}
+use Rattle.mv_borrow_graph.specs.Laws.There.{each_append, each_sorted}
 use Rattle.mv_borrow_graph.specs.Laws.BlocksThere.{begins_again}
 use Rattle.mv_borrow_graph.specs.Domain.{edges_step, ordered}
 use Rattle.mv_module_text.proofs.Texts.{on_bind}
@@ -44,10 +45,14 @@ ordered_ascend None b e = cc
 ordered_ascend (Some edges) b e = let same : sorted edges ≡ b = cc in subst (λ es. are_ascending es ≡ true) same (ascending-sorted edges)
 
 pub edges_lawful : (m : Module) (d : FunctionDefinition)
-    → IsLawful (length d.code) (λ s. IsTrue (are_ascending s)) (λ s. IsTrue (may_begin_with m d s)) (λ a b. IsTrue (edges_leq a b)) (edges_step m d) (IsGraphOf m d)
+    → IsLawful (length d.code) (λ s. IsTrue (are_ascending s)) (λ s. IsTrue (may_begin_with m d s)) (λ a b. IsTrue (edges_leq a b)) (λ a b. sorted (a ++ b)) (edges_step m d) (IsGraphOf m d)
 edges_lawful m d = record {
   reflexive = λ a _. edges_leq_itself a;
   transitive = λ a b c _ _ _ p q. edges_leq-transitive a b c p q;
+  joins = λ a b _ _.
+      let union = join-sorted a b in
+      record { valid = ascending-sorted (a ++ b); left = union.left; right = union.right; least = λ u _ p q. union.least u p q };
+  joins_begin = λ a b _ _ p q. each_sorted (edge_is_there (point_at m d [])) (a ++ b) (each_append (edge_is_there (point_at m d [])) a b p q);
   monotone = λ at a b v _ _ _ le e. step_below m d at a b le v e;
   begins = λ g k n b a t graph block next _ begin e. begins_again m d g k n b a t graph block next begin e;
   keeps = λ at a b _ _ e.

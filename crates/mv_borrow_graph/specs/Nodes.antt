@@ -1,4 +1,11 @@
 -- Between which nodes edges lead, and which edges a search may state.
+--   has_local test p l, has_place test types k   a local, or a place on the stack, is there and its type passes the test
+--   leads_out p n                                an edge may lead from the node: a mutable reference, a local's value or a global
+--   leads_in p n                                 an edge may lead to the node: a reference
+--   edge_is_there, are_there                     edges lead between two such nodes, by positions of fields
+--   may_begin_with m d edges                     they do where a block begins, with nothing on the stack (why asked there: decision 29)
+--   are_few edges                                the edges are within the limits of a certificate
+--   IsGraphOf m d g                              the flow graph of a function that is well typed
 use Rattle.std.specs.Prelude.{ℕ, Bool, false, not, ◌&&◌, nat_lt, nat_le, List, [], length, reverse, slice_get, IsTrue}
 use Rattle.std.specs.List.{list_all}
 use Rattle.std.specs.Option.{option_map_or}

@@ -1,23 +1,13 @@
 // The changes that several instructions make, each where a need holds.
-ghost use Rattle.std.specs.Prelude.{◌≡◌, ◌++◌, ◌∷◌, [], Err, OnOk, IsTrue};
+ghost use Rattle.std.specs.Prelude.{◌≡◌, ◌++◌, ◌∷◌, [], Err, IsTrue};
 ghost use Rattle.std.specs.Bool.{then_some};
-ghost use Rattle.mv_edges.specs.Edges.{here, an_edge, renamed, without};
+ghost use Rattle.mv_edges.specs.Edges.{here, an_edge, without};
 ghost use Rattle.mv_edges.specs.Ascending.{are_ascending};
-ghost use Rattle.mv_edges.specs.Sorted.{sorted};
 ghost use Rattle.mv_borrow_graph.specs.Domain.{Follows, ordered};
 
-use mv_edges::{Edges, Graph};
+use mv_edges::Graph;
 use mv_lattice::StepError;
 use mv_move_types::Node;
-use std::alloc::{AllocError, Global};
-use std::mem;
-
-/// The graph, which is left without an edge.
-pub fn taken(alloc: Global, s: &mut Graph) -> Graph
-    ensures { result ≡ s.old }
-{
-    mem::replace(s, Graph::of_edges(Edges::new(alloc)))
-}
 
 /// Leaves the edges as they are.
 #[tactic(auto, using(crate::proofs::Rows::kept_order))]
@@ -42,26 +32,11 @@ pub fn release(holds: bool, node: Node, s: &mut Graph) -> Result<(), StepError>
 }
 
 /// Adds an edge from what is borrowed to the new reference to it.
-pub fn lend(
-    alloc: Global,
-    holds: bool,
-    from: Node,
-    to: Node,
-    s: &mut Graph,
-) -> Result<(), StepError>
+pub fn lend(holds: bool, from: Node, to: Node, s: &mut Graph) -> Result<(), StepError>
     ensures { Follows result s.new (ordered (then_some holds (s.old ++ an_edge from here to ∷ []))) }
 {
     if !holds {
         return Err(StepError::Need);
     }
-    *s = taken(alloc, s).lent(alloc, from, to)?;
-    Ok(())
-}
-
-/// Puts one node in place of another, where no need is.
-pub fn rename(alloc: Global, old: Node, new: Node, s: &mut Graph) -> Result<(), AllocError>
-    ensures { OnOk result (s.new ≡ sorted (renamed old new s.old)) }
-{
-    *s = taken(alloc, s).renamed(alloc, old, new)?;
-    Ok(())
+    Ok(s.lend(from, to)?)
 }

@@ -148,9 +148,9 @@ fn are_few(edges: &[Edge]) -> bool
 }
 
 impl<'t, 'm> Domain for BorrowDomain<'t, 'm> {
-    ghost use Rattle.std.specs.Prelude.{◌≡◌, ◌++◌, List, Option, length, slice_get, false, IfOk, IsErrOf, IsSome, IsTrue};
+    ghost use Rattle.std.specs.Prelude.{◌≡◌, ◌++◌, Option, length, slice_get, false, IfOk, IsErrOf, IsSome, IsTrue};
     ghost use Rattle.std.specs.Option.{option_map_or};
-    ghost use Rattle.mv_edges.specs.Edges.{Edge as EdgeRecord, edges_leq};
+    ghost use Rattle.mv_edges.specs.Edges.{edges_leq};
     ghost use Rattle.mv_edges.specs.Sorted.{sorted};
     ghost use Rattle.mv_edges.specs.Ascending.{are_ascending};
     ghost use Rattle.mv_borrow_graph.specs.Domain.{edges_step, places_reference};
@@ -159,7 +159,7 @@ impl<'t, 'm> Domain for BorrowDomain<'t, 'm> {
 
     type State = Edges;
 
-    /// Where there are many edges, they aren't carried as a list.
+    /// Within a block edges aren't carried as a list, but as ways by which references came about.
     type Carried = Graph;
 
     ghost size = { λ d. length d.function.code };
@@ -171,6 +171,8 @@ impl<'t, 'm> Domain for BorrowDomain<'t, 'm> {
     ghost may_begin = { λ d s. IsTrue (may_begin_with d.home d.function s) };
 
     ghost below = { λ d a b. IsTrue (edges_leq a b) };
+
+    ghost joined = { λ d a b. sorted (a ++ b) };
 
     ghost steps = { λ d at s. edges_step d.home d.function at s };
 
@@ -189,15 +191,7 @@ impl<'t, 'm> Domain for BorrowDomain<'t, 'm> {
     }
 
     /// The edges of both, each of them.
-    fn join(&self, alloc: Global, a: &Edges, b: &Edges) -> Result<Edges, AllocError>
-        ensures union { IfOk result (λ c. c ≡ sorted (a.now ++ b.now)) }
-        ensures state { IfOk result (λ c. IsTrue (are_ascending c)) }
-        ensures left { IfOk result (λ c. IsTrue (edges_leq a.now c)) }
-        ensures right { IfOk result (λ c. IsTrue (edges_leq b.now c)) }
-        ensures least { IfOk result (λ c. (u : List EdgeRecord) → IsTrue (are_ascending u) → IsTrue (edges_leq a.now u) → IsTrue (edges_leq b.now u) → IsTrue (edges_leq c u)) }
-        ensures begins { IfOk result (λ c. IsTrue (may_begin_with self.now.home self.now.function a.now)
-            → IsTrue (may_begin_with self.now.home self.now.function b.now) → IsTrue (may_begin_with self.now.home self.now.function c)) }
-    {
+    fn join(&self, alloc: Global, a: &Edges, b: &Edges) -> Result<Edges, AllocError> {
         Edges::join(alloc, a, b)
     }
 
@@ -205,16 +199,12 @@ impl<'t, 'm> Domain for BorrowDomain<'t, 'm> {
         requires { IsTrue (are_ascending s.now) }
         ensures { IfOk result (λ c. c ≡ s.now) }
     {
-        let edges = s.copy(alloc)?;
-        Graph::of_edges(edges).eased(alloc)
+        Graph::of_edges(alloc, s)
     }
 
     #[inline(always)]
     fn pass(&self, alloc: Global, mut c: Graph, at: usize) -> Result<Graph, StepError> {
         self.change(alloc, &mut c, at)?;
-        if c.is_long() {
-            return Ok(c.eased(alloc)?);
-        }
         Ok(c)
     }
 

@@ -178,20 +178,20 @@ impl<'d, 'm> Site<'d, 'm> {
             }
             Instruction::Ret => self.hand_out(s),
             Instruction::Call(callee) => self.call(alloc, callee, s),
-            Instruction::CopyLoc(local) => self.copy_local(alloc, local, s),
-            Instruction::MoveLoc(local) => self.move_local(alloc, local, s),
-            Instruction::StLoc(local) => self.store_local(alloc, local, s),
-            Instruction::MutBorrowLoc(local) => self.borrow_local_mutably(alloc, local, s),
-            Instruction::ImmBorrowLoc(local) => self.borrow_local(alloc, local, s),
+            Instruction::CopyLoc(local) => self.copy_local(local, s),
+            Instruction::MoveLoc(local) => self.move_local(local, s),
+            Instruction::StLoc(local) => self.store_local(local, s),
+            Instruction::MutBorrowLoc(local) => self.borrow_local_mutably(local, s),
+            Instruction::ImmBorrowLoc(local) => self.borrow_local(local, s),
             Instruction::MutBorrowField(field) => self.borrow_field_mutably(alloc, field, s),
             Instruction::ImmBorrowField(field) => self.borrow_field(alloc, field, s),
             Instruction::ReadRef => release(self.is_readable(self.top(), s), self.top(), s),
             Instruction::WriteRef => release(is_free(self.top(), s), self.top(), s),
             Instruction::FreezeRef => self.freeze(s),
             Instruction::MutBorrowGlobal(definition) => {
-                self.borrow_global_mutably(alloc, definition, s)
+                self.borrow_global_mutably(definition, s)
             }
-            Instruction::ImmBorrowGlobal(definition) => self.borrow_global(alloc, definition, s),
+            Instruction::ImmBorrowGlobal(definition) => self.borrow_global(definition, s),
             Instruction::MoveFrom(definition) => keep(is_free(Node::Glob(definition), s), s),
             Instruction::MoveTo(_) => {
                 s.remove_at(self.second());

@@ -1,4 +1,12 @@
 -- Every index is below the length of its table.
+-- Most names end in `_in`: whether what an entry of that kind names is there.
+--   below i entries                         an index is in a table
+--   token_in m t                            a type's handle is there
+--   module_handle_in, .., field_handle_in   the entries of tables other than functions
+--   instruction_in m locals size i          what an instruction names is there, in a function of so many locals and instructions
+--   local_count m d                         how many locals a function has, parameters included (why: decision 4)
+--   function_in m d                         a function, with its code
+--   InBounds m                              phase 3: every index of the module is below the length of its table
 use Rattle.std.specs.Prelude.{ℕ, Bool, nat_lt, List, length, true, false, ◌&&◌, IsTrue, slice_get}
 use Rattle.std.specs.List.{list_all}
 use Rattle.std.specs.Option.{option_map_or}

@@ -1,4 +1,14 @@
 -- Certificates, and when one holds of a module.
+--   Known, known_at_start m d             what is known at a place: availabilities and edges; and at a function's start
+--   Stated, Certificate                   what is stated of the blocks of a function, and of all functions
+--   Rule S                                a partial step on what is known
+--   through rule m d is at                what is known after these instructions, with the types on the stack
+--   block_holds                           a block meets every need, and ends below what is stated of each successor
+--   flow_holds                            each reached block holds, and the start is below what is stated of the first block
+--   locals_hold, edges_hold m d stated    the stated availabilities, and the stated edges, of a function hold
+--   all_locals_hold, all_edges_hold m c   phase 10, and phase 11: for every function (why one after the other: decision 17)
+--   certificate_holds m c                 the certificate holds of the module
+-- The others are parts of these.
 use Rattle.std.specs.Prelude.{List, Bool, ◌&&◌, Option, Some, ◌+◌, [], ◌∷◌, slice_range, ℕ, ◌==◌, find, option_and_then, false, true, zip, map, option_map}
 use Rattle.std.specs.Option.{option_map_or}
 use Rattle.std.specs.List.{list_all}

@@ -1,4 +1,9 @@
 -- The text of a certificate.
+--   availability_code a           the byte of an availability
+--   node_text, edge_text          a node, and an edge
+--   known_text, stated_text       what is known at a place; and what is stated of a block, after a mark
+--   certificate_text c            the text of a certificate: block by block, function by function
+--   IsCertificateText m bytes c   phase 9: the bytes are the certificate's, and it fits the module
 use Rattle.std.specs.Prelude.{ℕ, List, ◌∷◌, cond, [], ◌++◌, map, Option, Some, None, flat_map, ◌≡◌}
 use Rattle.mv_move_types.specs.declared.borrow.Availability.{Availability}
 use Rattle.mv_move_types.specs.declared.borrow.Availability.TheVariants.{Unavailable, Available, Maybe}

@@ -1,4 +1,13 @@
 -- The part of a certificate that stands at the front of bytes, and the bytes after it.
+-- These read what CertificateText.antt writes. Most names end in `_from`: what stands at the front of the bytes, with those after it, or
+-- nothing.
+--   availability_from, node_from, label_from   an availability, a node and a label
+--   edge_from m d                              an edge that fits the function
+--   edges_from m d                             edges after their number, which ascend (why: decision 27)
+--   known_from m d                             an availability for each local, and the edges
+--   block_from m d reached                     what is stated of a block that is reached, or isn't
+--   stated_from m d reached                    what is stated of the blocks of a function
+-- The others are parts of these.
 use Rattle.std.specs.Prelude.{ℕ, ◌==◌, Bool, true, false, cond, List, [], ◌∷◌, length, Option, Some, None}
 use Rattle.std.specs.Bool.{then_some}
 use Rattle.mv_uleb.specs.Parsing.{number_from}

@@ -1,4 +1,11 @@
 -- The blocks of a function's code, where they lead, and how code ends.
+--   BasicBlock                    a block: its first and last instruction, and the blocks that it leads to
+--   leads_to code i               where the instruction at a place leads
+--   blocks code                   the blocks of the code, by ascending first instruction
+--   IsReached code i              a path leads to the block that begins here
+--   may_be_last, ends_well code   control never goes on behind the last instruction
+--   FlowHolds m                   phase 7: this holds in every function
+-- The others are parts of `blocks`.
 use Rattle.std.specs.Prelude.{ℕ, Bool, not, ◌==◌, List, ◌+◌, ◌||◌, cond, [], ◌∷◌, ◌++◌, slice_get, ◌-◌, length, true, Contains, false, IsTrue}
 use Rattle.std.specs.List.{list_any, list_all}
 use Rattle.std.specs.Option.{option_map_or}

@@ -22,21 +22,15 @@ pub use Rattle.std.specs.Vec.{with_items}
 pub use Rattle.mv_move_types.specs.Paths.{begins}
 pub use Rattle.mv_move_types.specs.declared.borrow.Node.{Node}
 pub use Rattle.mv_move_types.specs.declared.borrow.Node.TheVariants.{Glob, Own, Slot, Temp}
-pub use Rattle.mv_edges.specs.Ascending.{are_ascending, edge_before, edge_height, edge_order, height, label_before, list_before, node_code, nodes_code}
-pub use Rattle.mv_edges.specs.Composition.{Bundle, Composition, agrees_if, any_between, bundle_edges, but_at, composed, edges_of, gone, is_below_count, is_here, is_live, is_numbered}
-pub use Rattle.mv_edges.specs.Composition.{is_whole, moved, numbered, origin_passes, root_edges, severed, strand_edges, strand_passes, strands_at, with_bundle}
+pub use Rattle.mv_edges.specs.Ascending.{are_ascending, edge_before, edge_order, label_before, list_before, node_code, nodes_code}
+pub use Rattle.mv_edges.specs.Between.{agrees_if, any_between, but_at, composed, is_here}
 pub use Rattle.mv_edges.specs.Counts.{IsCounted, IsWithin, counted}
 pub use Rattle.mv_edges.specs.Edges.{Edge, Label, agrees, an_edge, but_out_of, changed, edge_leq, edges_leq, extended, here, inherited, into, is_global_node, label_leq, longest, opened, without_each}
 pub use Rattle.mv_edges.specs.Edges.{opened_at, out_of, renamed, renamed_node, same_edge, same_node, without}
 pub use Rattle.mv_edges.specs.Equality.{same_edge_decides, same_node_decides}
-pub use Rattle.mv_edges.specs.Graph.{Heir, edges_held, taken_over}
+pub use Rattle.mv_edges.specs.Graph.{Heir, taken_over}
 pub use Rattle.mv_edges.specs.Joins.{IsJoin}
-pub use Rattle.mv_edges.specs.Origins.{bundle_of, bundles_from, led_into, led_to, unnumbered}
-pub use Rattle.mv_edges.specs.Passing.{lets_pass, may_pass}
 pub use Rattle.mv_edges.specs.Related.{edge_related, edges_related}
 pub use Rattle.mv_edges.specs.Sorted.{inserted, sorted}
-pub use Rattle.mv_edges.specs.Sought.{ComeBefore, FailUpTo}
-pub use Rattle.mv_edges.specs.declared.composition.passing.Passing.{Passing}
-pub use Rattle.mv_edges.specs.declared.composition.passing.Passing.TheVariants.{Agreeing, Always, Never}
 pub use Rattle.mv_edges.specs.declared.label.Change.{Change}
 pub use Rattle.mv_edges.specs.declared.label.Change.TheVariants.{Extended, Kept, Opened}

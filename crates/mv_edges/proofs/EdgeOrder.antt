@@ -57,7 +57,7 @@ same_start m n xs ys h = cc
 
 pub same_edges : (a b : Edge) → nodes_code a ≡ nodes_code b → a.label.path ≡ b.label.path → a.label.is_open ≡ b.label.is_open → a ≡ b
 same_edges a b h p o =
-    let nodes : node_code a.from ++ node_code a.to ≡ node_code b.from ++ node_code b.to = ap (drop 1) h in
+    let nodes : node_code a.from ++ node_code a.to ≡ node_code b.from ++ node_code b.to = h in
     let first = same_start a.from b.from (node_code a.to) (node_code b.to) nodes in
     let second = same_start a.to b.to [] [] (ap (λ xs. xs ++ []) first.rest) in
     λ i. record { from = first.node i; label = record { path = p i; is_open = o i }; to = second.node i }

@@ -19,7 +19,7 @@ first_of e = an_edge e.from here e.to
 abbrev pub not_before : Edge → Edge → Bool
 not_before e x = not (list_before (nodes_code x) (nodes_code e))
 
-same_codes : (a b : Edge) → a.from ≡ b.from → a.to ≡ b.to → nodes_code a ≡ nodes_code b
+pub same_codes : (a b : Edge) → a.from ≡ b.from → a.to ≡ b.to → nodes_code a ≡ nodes_code b
 same_codes a b h g = ap (λ n. nodes_code (an_edge n here a.to)) h ∙ ap (λ n. nodes_code (an_edge b.from here n)) g
 
 nothing_before_none : (xs : List ℕ) → list_before xs [] ≡ false
@@ -35,7 +35,7 @@ no_label_before l = ap (λ b. b || bytes_eq l.path [] && not l.is_open && false)
     last false b = refl
 
 -- no edge between the nodes comes before the first possible one
-above_not_before : (e x : Edge) → edge_leq e x ≡ true → edge_before x (first_of e) ≡ false
+pub above_not_before : (e x : Edge) → edge_leq e x ≡ true → edge_before x (first_of e) ≡ false
 above_not_before e x h =
     let below = related_parts label_leq e x h in
     let codes : nodes_code (first_of e) ≡ nodes_code x = same_codes (first_of e) x below.from below.to in
@@ -100,7 +100,7 @@ none_from e es i x h inside is behind other passed =
   where
     same_nodes : (a b : Edge) → nodes_code a ≡ nodes_code b → (a.from ≡ b.from) × (a.to ≡ b.to)
     same_nodes a b k =
-        let nodes : node_code a.from ++ node_code a.to ≡ node_code b.from ++ node_code b.to = ap (drop 1) k in
+        let nodes : node_code a.from ++ node_code a.to ≡ node_code b.from ++ node_code b.to = k in
         let first = same_start a.from b.from (node_code a.to) (node_code b.to) nodes in
         let second = same_start a.to b.to [] [] (ap (λ xs. xs ++ []) first.rest) in
         (first.node, second.node)

@@ -1,5 +1,12 @@
 -- The order in which edges are listed.
-use Rattle.std.specs.Prelude.{ℕ, max, ◌+◌, Bool, true, false, ◌&&◌, ◌||◌, ◌==◌, nat_lt, List, [], ◌∷◌, ◌++◌, not}
+--   list_before xs ys                  the order of lists of positions
+--   node_code, node_kind, node_index   a node as two numbers, and each of them
+--   nodes_code e                       an edge's nodes as four numbers
+--   label_before a b                   the order of labels
+--   edge_before a b                    the order of edges: by nodes, then by labels
+--   edge_order a b                     the same with three answers
+--   are_ascending edges                the edges ascend strictly
+use Rattle.std.specs.Prelude.{ℕ, Bool, true, false, ◌&&◌, ◌||◌, ◌==◌, nat_lt, List, [], ◌∷◌, ◌++◌, not}
 use Rattle.std.specs.Str.{bytes_eq}
 use Rattle.std.specs.declared.cmp.Ordering.{Ordering}
 use Rattle.std.specs.Ordering.{ordering_then, nat_cmp, bool_cmp}
@@ -35,27 +42,15 @@ node_index (Own l) = l
 node_index (Glob t) = t
 node_index (Temp k) = k
 
--- how high a node stands on the stack: an operand as high as there are operands up to it, and any other node below them
-abbrev pub height : Node → ℕ
-height (Slot l) = 0
-height (Own l) = 0
-height (Glob t) = 0
-height (Temp k) = k + 1
-
--- how high the higher of an edge's nodes stands
-abbrev pub edge_height : Edge → ℕ
-edge_height e = max (height e.from) (height e.to)
-
--- an edge's nodes as five numbers: how high it stands, and both nodes
+-- an edge's nodes as four numbers
 abbrev pub nodes_code : Edge → List ℕ
-nodes_code e = edge_height e ∷ node_code e.from ++ node_code e.to
+nodes_code e = node_code e.from ++ node_code e.to
 
 -- labels ascend by their lists, then exact before open
 abbrev pub label_before : Label → Label → Bool
 label_before a b = list_before a.path b.path || bytes_eq a.path b.path && not a.is_open && b.is_open
 
--- edges ascend by the higher of their nodes, so that those at the topmost operand come last, then by their nodes, then by
--- their labels; those at no operand ascend by their nodes and labels alone
+-- edges ascend by their nodes, then by their labels
 abbrev pub edge_before : Edge → Edge → Bool
 edge_before a b = list_before (nodes_code a) (nodes_code b) || bytes_eq (nodes_code a) (nodes_code b) && label_before a.label b.label
 

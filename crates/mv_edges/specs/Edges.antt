@@ -1,4 +1,17 @@
 -- Labels, edges and their order.
+-- First labels and edges, then what is made of a label, then the order, then edges at a node, then edges with other nodes.
+--   Label, Edge                        a list of field positions, exact or open; and an edge by its nodes and its label
+--   same_node, same_label, same_edge   whether two are one
+--   here                               the label of the place itself
+--   extended f label, opened label     the label of a field, and that of anything below
+--   agrees f label                     whether the label's list is empty or begins with the position
+--   label_leq, edge_leq, edges_leq     the order: what is below says at least as much
+--   out_of, into, but_out_of           the edges out of a node, into it, and all but those out of it
+--   without n, without_each ns         the edges without those at a node, or at any of these
+--   renamed old new                    the edges with one node in place of another
+--   inherited change old new           the edges into one node, changed, for another one
+--   an_edge from label to              an edge
+-- The others are parts of these, or words of single contracts.
 use Rattle.std.specs.Prelude.{ℕ, max, Bool, true, false, List, [], ◌∷◌, ◌++◌, length, take, ◌==◌, ◌&&◌, ◌||◌, filter, not, if◌then◌else◌, map, fold}
 use Rattle.std.specs.Bool.{beq}
 use Rattle.std.specs.Str.{bytes_eq}

@@ -1,9 +1,9 @@
 // An edge, and the order of edges.
-ghost use Rattle.std.specs.Prelude.{◌≡◌, ◌≤◌, max, length, true, IfOk};
+ghost use Rattle.std.specs.Prelude.{◌≡◌, ◌≤◌, length, true, IfOk};
 ghost use Rattle.std.specs.Ordering.{ordering_then, nat_cmp, bool_cmp};
 ghost use Rattle.std.specs.Cmp.Lexicographic.{slice_cmp};
 ghost use Rattle.mv_edges.specs.Edges.{here, an_edge, is_global_node, same_node, renamed_node, changed, edge_leq, opened_at};
-ghost use Rattle.mv_edges.specs.Ascending.{node_code, height, edge_height, nodes_code, edge_before, edge_order};
+ghost use Rattle.mv_edges.specs.Ascending.{node_code, nodes_code, edge_before, edge_order};
 
 use super::label::{Change, Label};
 use mv_move_types::Node;
@@ -71,23 +71,6 @@ pub(crate) fn node_numbers(node: Node) -> [u32; 2]
         Node::Glob(definition) => [2, u32::from(definition)],
         Node::Temp(place) => [3, u32::from(place)],
     }
-}
-
-/// How high a node stands on the stack: an operand as high as there are operands up to it, and any other node at 0.
-pub(crate) fn height(node: Node) -> u32
-    ensures { result ≡ height node }
-{
-    match node {
-        Node::Temp(place) => u32::from(place) + 1,
-        Node::Slot(_) | Node::Own(_) | Node::Glob(_) => 0,
-    }
-}
-
-/// The larger of two numbers.
-pub(crate) fn larger(a: u32, b: u32) -> u32
-    ensures { result ≡ max a b }
-{
-    if a < b { b } else { a }
 }
 
 impl Edge {
@@ -258,23 +241,16 @@ impl<'a> EdgeView<'a> {
         }
     }
 
-    /// How high the higher of the nodes stands.
-    pub(crate) fn height(&self) -> u32
-        ensures { result ≡ edge_height self.now }
-    {
-        larger(height(self.from), height(self.to))
-    }
-
-    /// The numbers of the nodes, behind how high the higher one stands.
-    pub(crate) fn nodes(&self) -> [u32; 5]
+    /// The numbers of the nodes.
+    pub(crate) fn nodes(&self) -> [u32; 4]
         ensures { result ≡ nodes_code self.now }
     {
         let [from_kind, from_index] = node_numbers(self.from);
         let [to_kind, to_index] = node_numbers(self.to);
-        [self.height(), from_kind, from_index, to_kind, to_index]
+        [from_kind, from_index, to_kind, to_index]
     }
 
-    /// Which of two edges comes first by the higher of the nodes, then by the nodes.
+    /// Which of two edges comes first by the nodes.
     #[tactic(auto, using(crate::proofs::Comparisons::order_of_same_nodes))]
     #[inline(always)]
     fn nodes_order(&self, other: &EdgeView<'_>) -> Ordering
@@ -295,7 +271,7 @@ impl<'a> EdgeView<'a> {
         paths.then(self.is_open.cmp(&other.is_open))
     }
 
-    /// Which of two edges comes first: by the higher of the nodes, then by the nodes, then by the positions, then exact before open.
+    /// Which of two edges comes first: by the nodes, then by the positions, then exact before open.
     #[inline(always)]
     pub(crate) fn order(&self, other: &EdgeView<'_>) -> Ordering
         ensures { result ≡ edge_order self.now other.now }

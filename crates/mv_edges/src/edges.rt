@@ -6,9 +6,6 @@ ghost use Rattle.mv_edges.specs.Ascending.{are_ascending};
 ghost use Rattle.mv_edges.specs.Sorted.{inserted, sorted};
 
 use super::Edge;
-use super::ends::{remove_at, remove_out_of};
-use super::renaming::renamed_at;
-use super::sought::{any_agrees, any_out_of};
 use super::unordered::{add_in_order, put_in_order};
 use mv_move_types::Node;
 use std::alloc::{AllocError, Global};
@@ -36,18 +33,20 @@ fn longest_of(items: &[Edge]) -> usize
 #[derive(Drop, Debug)]
 pub struct Edges {
     items: Vec<Edge>,
+    // The length of the longest list among the labels.
+    longest: usize,
 }
 
 impl Model for Edges {
-    ghost use Rattle.std.specs.Prelude.{List, IsTrue};
-    ghost use Rattle.mv_edges.specs.Edges.{Edge as EdgeRecord};
+    ghost use Rattle.std.specs.Prelude.{◌≡◌, List, IsTrue};
+    ghost use Rattle.mv_edges.specs.Edges.{Edge as EdgeRecord, longest as longest_path};
     ghost use Rattle.mv_edges.specs.Ascending.{are_ascending};
 
     ghost Value = { List EdgeRecord };
 
     ghost view = { λ s. s.items.items };
 
-    ghost invariant = { λ s. IsTrue (are_ascending s.items.items) };
+    ghost invariant = { λ s. IsTrue (are_ascending s.items.items) × (s.longest ≡ longest_path s.items.items) };
 }
 
 impl PartialEq for Edges {
@@ -79,6 +78,7 @@ impl Edges {
     {
         Edges {
             items: Vec::new(alloc),
+            longest: 0,
         }
     }
 
@@ -87,7 +87,8 @@ impl Edges {
         requires { IsTrue (are_ascending items.items) }
         ensures { result ≡ items.items }
     {
-        Edges { items }
+        let longest = longest_of(&items);
+        Edges { items, longest }
     }
 
     /// Edges in any order, put in theirs, each once.
@@ -104,7 +105,7 @@ impl Edges {
         ensures value { result.items ≡ self }
         ensures ascending { IsTrue (are_ascending result.items) }
     {
-        let Edges { items } = self;
+        let Edges { items, .. } = self;
         items
     }
 
@@ -141,7 +142,7 @@ impl Edges {
     pub fn longest(&self) -> usize
         ensures { result ≡ longest self.now }
     {
-        longest_of(&self.items)
+        self.longest
     }
 
     /// Whether the edges still ascend with another at their end.
@@ -155,6 +156,7 @@ impl Edges {
     }
 
     /// Adds an edge at the end where the edges still ascend, and says whether they do.
+    #[tactic(auto, using(crate::proofs::Lengths::longest_push))]
     pub fn push_last(&mut self, e: Edge) -> Result<bool, AllocError>
         ensures answer { IfOk result (λ pushed. pushed ≡ are_ascending (self.old ++ e ∷ [])) }
         ensures edges { IfOk result (λ pushed. self.new ≡ (if pushed then self.old ++ e ∷ [] else self.old)) }
@@ -162,7 +164,9 @@ impl Edges {
     {
         let ascend = self.ascend_with(&e);
         if ascend {
+            let depth = e.view().depth();
             self.items.push(e)?;
+            self.longest = larger(self.longest, depth);
         }
         Ok(ascend)
     }
@@ -178,6 +182,7 @@ impl Edges {
             Ok(_) => Ok(()),
             Err(place) => {
                 self.items.insert(place, e)?;
+                self.longest = longest_of(&self.items);
                 Ok(())
             }
         }
@@ -192,37 +197,8 @@ impl Edges {
         ensures err { OnErr result (self.new ≡ self.old) }
     {
         add_in_order(&mut self.items, others.into_items())?;
+        self.longest = longest_of(&self.items);
         Ok(())
-    }
-
-    /// Takes away the edges at a node. Those at the topmost operand go without a look at the others.
-    pub fn remove_at(&mut self, n: Node)
-        ensures edges { self.new ≡ without n self.old }
-        ensures sorted { self.new ≡ sorted (without n self.old) }
-    {
-        remove_at(&mut self.items, n);
-    }
-
-    /// Takes away the edges that lead out of a node. Those out of the topmost operand go without a look at the others.
-    pub fn remove_out_of(&mut self, n: Node)
-        ensures edges { self.new ≡ but_out_of n self.old }
-        ensures sorted { self.new ≡ sorted (but_out_of n self.old) }
-    {
-        remove_out_of(&mut self.items, n);
-    }
-
-    /// Whether an edge leads out of a node.
-    pub fn has_out_of(&self, n: Node) -> bool
-        ensures { result ≡ not (length (out_of n self.now) == 0) }
-    {
-        any_out_of(self.as_slice(), n)
-    }
-
-    /// Whether an edge that leads out of a node agrees with a position.
-    pub fn has_agreeing_out_of(&self, n: Node, position: u8) -> bool
-        ensures { result ≡ list_any (λ e. agrees position e.label) (out_of n self.now) }
-    {
-        any_agrees(self.as_slice(), n, position)
     }
 
     /// Equal edges.
@@ -234,20 +210,7 @@ impl Edges {
         for e in &self.items {
             items.push(e.copy(alloc)?)?;
         }
-        Ok(Edges { items })
-    }
-
-    /// The edges with one node in place of another, in their order: those at it are taken out, renamed and put back.
-    #[tactic(auto, using(crate::proofs::Renamed::renamed_whole))]
-    pub fn rename(self, alloc: Global, old: Node, new: Node) -> Result<Self, AllocError>
-        ensures edges { IfOk result (λ s. s ≡ sorted (renamed old new self)) }
-        ensures ascending { IfOk result (λ s. IsTrue (are_ascending s)) }
-    {
-        let pieces = renamed_at(alloc, self.as_slice(), old, new)?;
-        let moved = Edges::of_unordered(pieces)?;
-        let mut edges = self;
-        edges.remove_at(old);
-        edges.add_all(moved)?;
-        Ok(edges)
+        let longest = self.longest;
+        Ok(Edges { items, longest })
     }
 }

@@ -2,7 +2,7 @@
 ghost use Rattle.std.specs.Prelude.{◌≡◌, ◌≤◌, ◌&&◌, length, IsOk, IfOk};
 ghost use Rattle.mv_move_types.specs.Paths.{begins};
 ghost use Rattle.mv_edges.specs.Edges.{here, extended, opened, changed, agrees, label_leq};
-ghost use Rattle.mv_edges.specs.Composition.{agrees_if, composed, is_here};
+ghost use Rattle.mv_edges.specs.Between.{agrees_if, composed, is_here};
 
 use super::path::Path;
 use std::alloc::{AllocError, Global};
@@ -55,6 +55,17 @@ impl Label {
         }
     }
 
+    /// The same, with no allocator.
+    pub(crate) fn itself() -> Self
+        ensures { result ≡ here }
+    {
+        let path = Path::new();
+        Label {
+            path,
+            is_open: false,
+        }
+    }
+
     /// The label of the place itself and of anything below it.
     pub(crate) fn anything() -> Self
         ensures { result ≡ opened here }
@@ -95,37 +106,6 @@ impl Label {
         ensures { result ≡ label_leq self.now other.now }
     {
         self == other || other.is_open && self.path().starts_with(other.path())
-    }
-
-    /// Whether the label is open and begins these positions.
-    #[tactic(auto, using(crate::proofs::Comparisons::starts_with_begins))]
-    fn is_open_at(&self, path: &[u8]) -> bool
-        ensures { result ≡ (self.now.is_open && begins self.now.path path.now) }
-    {
-        self.is_open && path.starts_with(self.path())
-    }
-
-    /// Whether the label is below the one of these positions.
-    #[tactic(auto, using(crate::proofs::Comparisons::starts_with_begins))]
-    fn is_below_at(&self, path: &[u8], is_open: bool) -> bool
-        ensures { result ≡ label_leq self.now (record { path = path.now; is_open = is_open }) }
-    {
-        self.path() == path && self.is_open == is_open || is_open && self.path().starts_with(path)
-    }
-
-    /// Whether the label with another behind it is below a third one.
-    pub(crate) fn is_below_with(&self, next: &Label, other: &Label) -> bool
-        ensures { result ≡ label_leq (composed self.now next.now) other.now }
-    {
-        if self.is_open {
-            return self.is_below(other);
-        }
-        let count = self.path().len();
-        if other.path().len() < count {
-            return other.is_open_at(self.path());
-        }
-        let rest = &other.path()[count..];
-        other.path().starts_with(self.path()) && next.is_below_at(rest, other.is_open)
     }
 
     /// Whether the list is empty or begins with the position.

@@ -1,7 +1,7 @@
-//! Edges of the borrow graph, as ascending lists.
+//! Edges of the borrow graph: as ascending lists where they are stated, and as ways by which references came about within a block.
 //!
 //! ```
-//! use mv_edges::{Edge, Edges, Label};
+//! use mv_edges::{Edge, Edges, Graph, Label};
 //! use mv_move_types::Node;
 //! use std::alloc::{AllocError, Global};
 //!
@@ -11,27 +11,24 @@
 //!     let field = Label::here(alloc).extended(alloc, 2)?;
 //!     edges.insert(Edge::new(Node::Slot(1), field, Node::Temp(0)))?;
 //!     // While that operand is there, what stands in the field 2 isn't written through local 1; field 3 may be.
-//!     let agrees = edges.has_agreeing_out_of(Node::Slot(1), 2);
-//!     let other = edges.has_agreeing_out_of(Node::Slot(1), 3);
+//!     let graph = Graph::of_edges(alloc, &edges)?;
+//!     let agrees = graph.has_agreeing_out_of(Node::Slot(1), 2);
+//!     let other = graph.has_agreeing_out_of(Node::Slot(1), 3);
 //!     Ok(agrees && !other)
 //! }
 //! ```
 #![tactic(auto)]
 
-mod composition;
 mod edge;
 mod edges;
-mod ends;
 mod graph;
 mod label;
-mod listed;
 mod nodes;
 mod path;
-mod renaming;
 mod search;
-mod sought;
 mod union;
 mod unordered;
+mod ways;
 
 /// How many edges are stated of a block at most: a certificate has no more, and a search states no more.
 pub const MOST_EDGES: usize = 1024;

@@ -30,6 +30,21 @@ impl NodeSet for One {
     }
 }
 
+/// The set of some nodes.
+#[derive(Drop, Clone, Copy)]
+pub(crate) struct Each<'a>(pub(crate) &'a [Node]);
+
+impl<'a> NodeSet for Each<'a> {
+    ghost use Rattle.std.specs.List.{list_any};
+    ghost use Rattle.mv_edges.specs.Edges.{same_node};
+
+    ghost test = { λ s n. list_any (λ m. same_node m n) s.0.now };
+
+    fn has(&self, node: Node) -> bool {
+        self.0.iter().any(|n| *n == node)
+    }
+}
+
 /// The set of all nodes.
 #[derive(Drop, Clone, Copy)]
 pub struct All;

@@ -1,13 +1,10 @@
 // Edges of two lists as one.
 ghost use Rattle.std.specs.Prelude.{◌≡◌, ◌++◌, length, take, IfOk, OnOk, IsTrue};
-ghost use Rattle.mv_edges.specs.Edges.{Edge as EdgeRecord, changed, inherited};
 ghost use Rattle.mv_edges.specs.Ascending.{are_ascending};
 ghost use Rattle.mv_edges.specs.Sorted.{sorted};
 ghost use Rattle.mv_edges.specs.Joins.{IsJoin};
 
-use super::sought::next_into;
-use super::{Change, Edge, Edges};
-use mv_move_types::Node;
+use super::{Edge, Edges};
 use std::alloc::{AllocError, Global};
 use std::cmp::Ordering;
 
@@ -65,34 +62,5 @@ impl Edges {
         let right = b.as_slice();
         let items = merged(alloc, left, right)?;
         Ok(Edges::of_items(items))
-    }
-
-    /// The incoming edges of a node, with a change made to their labels, for another node.
-    pub fn inherited(
-        &self,
-        alloc: Global,
-        change: Change,
-        old: Node,
-        new: Node,
-    ) -> Result<Self, AllocError>
-        ensures edges { IfOk result (λ s. s ≡ sorted (inherited (changed change) old new self.now)) }
-        ensures ascending { IfOk result (λ s. IsTrue (are_ascending s)) }
-    {
-        let edges = self.as_slice();
-        let mut items = Vec::new(alloc);
-        let mut place = 0;
-        while place < edges.len() {
-            let e = &edges[place];
-            if e.ends_at(old) {
-                items.push(e.inherited(alloc, change, new)?)?;
-                place += 1;
-            } else {
-                place = next_into(edges, old, place + 1);
-            }
-        }
-        match change {
-            Change::Kept => Ok(Edges::of_items(items)),
-            Change::Extended(_) | Change::Opened => Edges::of_unordered(items),
-        }
     }
 }

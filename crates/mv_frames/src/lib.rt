@@ -1,4 +1,5 @@
-//! Frames: the words of a run's functions at work, one list for them all, and the functions that wait.
+//! Frames: the words of a run's functions at work, their locals in one list and their operands in another, and the
+//! functions that wait.
 //!
 //! ```
 //! use mv_frames::{Halt, Words};
@@ -6,11 +7,11 @@
 //!
 //! /// The sum of two operands takes their place.
 //! fn example(alloc: Global) -> Result<u128, Halt> {
-//!     let mut words = Words::new(alloc);
-//!     words.extend(&[1, 2])?;
-//!     let (second, first) = (words.pop()?, words.pop()?);
-//!     words.push(first.saturating_add(second))?;
-//!     words.pop()
+//!     let mut operands = Words::new(alloc);
+//!     operands.extend(&[1, 2])?;
+//!     let (second, first) = (operands.pop()?, operands.pop()?);
+//!     operands.push(first.saturating_add(second))?;
+//!     operands.pop()
 //! }
 //! ```
 #![tactic(auto)]

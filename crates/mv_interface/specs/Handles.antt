@@ -1,4 +1,9 @@
 -- Where the structs and functions that a module's handles name are defined.
+--   IsFunctionIn m handle n index   the function that a handle names stands at an index of a module
+--   IsStructAt modules m h d        where the struct that a handle names is defined: a place and an index
+--   IsFunctionAt modules m h d      the same of a function
+--   EachAt P xs                     a fact of each element and its place
+--   AreStructsAt, AreFunctionsAt    the same of all handles of a module, in order
 use Rattle.std.specs.Prelude.{◌≡◌, ℕ, List, length, Some, slice_get}
 use Rattle.mv_move_types.specs.declared.tables.Definition.{Definition}
 use Rattle.mv_move_types.specs.declared.tables.FunctionHandle.{FunctionHandle}

@@ -1,4 +1,9 @@
 -- Types by names, so that types of two modules can be compared.
+--   value_type_named, token_named m t   a type by names, without references and with them; nothing if a handle isn't there
+--   tokens_named, signature_named       the same of a list and of a signature
+--   both_there same a b                 two values are there, and are one by the test
+--   same_signature m i n j              two signatures of two modules list the same types
+--   same_types m ts n us                two lists of types are the same, type by type
 use Rattle.std.specs.Prelude.{ℕ, Bool, true, false, ◌&&◌, List, [], ◌∷◌, Option, Some, slice_get}
 use Rattle.std.specs.Option.{option_map_or}
 use Rattle.mv_move_types.specs.declared.token.ValueType.{ValueType}

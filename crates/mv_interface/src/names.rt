@@ -8,12 +8,13 @@ ghost use Rattle.mv_move_types.specs.Named.{function_place as place_of_function,
 ghost use Rattle.mv_interface.specs.TypesByName.{both_there};
 
 use mv_binary_format::{FunctionDefinition, Module};
+use mv_move_types::Address;
 use std::marker::Model;
 
 /// A struct, by the address and the identifier of the module that defines it, and its identifier there.
 #[derive(Drop)]
 pub struct StructName<'a> {
-    address: u128,
+    address: Address,
     home: &'a [u8],
     identifier: &'a [u8],
 }
@@ -28,7 +29,7 @@ impl<'a> Model for StructName<'a> {
 
 impl<'a> StructName<'a> {
     /// The struct of an identifier in the module of an address and an identifier.
-    pub fn new(address: u128, home: &'a [u8], identifier: &'a [u8]) -> Self
+    pub fn new(address: Address, home: &'a [u8], identifier: &'a [u8]) -> Self
         ensures { result ≡ record { home = record { address = address; name = home.entry.now }; name = identifier.entry.now } }
     {
         StructName {
@@ -39,7 +40,7 @@ impl<'a> StructName<'a> {
     }
 
     /// The address of the module that defines it.
-    pub fn address(&self) -> u128
+    pub fn address(&self) -> Address
         ensures { result ≡ self.now.home.address }
     {
         self.address
@@ -77,7 +78,7 @@ impl<'a> StructName<'a> {
 }
 
 /// The address and the identifier of the module that a handle names, if they are there.
-pub fn module_name<'a>(m: &Module<'a>, h: usize) -> Option<(u128, &'a [u8])>
+pub fn module_name<'a>(m: &Module<'a>, h: usize) -> Option<(Address, &'a [u8])>
     ensures { option_map (λ p. record { address = p.0; name = p.1.now }) result ≡ name_of_module m.now h }
 {
     let handle = m.module_handles().get(h)?;
@@ -87,14 +88,14 @@ pub fn module_name<'a>(m: &Module<'a>, h: usize) -> Option<(u128, &'a [u8])>
 }
 
 /// The module's own address and identifier, if they are there.
-pub fn name_of<'a>(m: &Module<'a>) -> Option<(u128, &'a [u8])>
+pub fn name_of<'a>(m: &Module<'a>) -> Option<(Address, &'a [u8])>
     ensures { option_map (λ p. record { address = p.0; name = p.1.now }) result ≡ own_name m.now }
 {
     module_name(m, m.own() as usize)
 }
 
 /// Whether it is the module of this address and identifier.
-fn is_module(m: &Module<'_>, address: u128, name: &[u8]) -> bool
+fn is_module(m: &Module<'_>, address: Address, name: &[u8]) -> bool
     ensures { result ≡ has_this_name (record { address = address; name = name.now }) m.now }
 {
     match name_of(m) {

@@ -1,27 +1,20 @@
--- How the code's search follows the one of blocks, states and marks.
+-- What a state raises, what flows into blocks one after the other, and how the code's search goes on.
 use Rattle.std.proofs.Common.{◌≡◌, ℕ, ◌+◌, ◌-◌, ◌<◌, Bool, true, false, List, [], ◌∷◌, ◌++◌, length, set, replicate, Option, Some, None, Contains}
-use Rattle.std.proofs.Common.{◌⊎◌, ⊎_elim, inl, inr, refl, sym, ap, ◌∙◌, subst, arith, slice_get}
+use Rattle.std.proofs.Common.{⊎_elim, refl, sym, ap, ◌∙◌, subst, arith, slice_get}
 use Rattle.std.proofs.lemmas.Bool.{cases_eq}
 use Rattle.std.proofs.lemmas.List.Elements.{Contains-push, Contains-push_cases, Contains-append_left}
 use Rattle.std.proofs.lemmas.Option.{slice_get_within}
 use Rattle.mv_bounds.specs.Removal.{times}
-use Rattle.mv_bounds.proofs.TimesLemmas.{is_one, is_none, times_of, contains_from_times}
+use Rattle.mv_bounds.proofs.TimesLemmas.{is_one, is_none}
 use Rattle.mv_cfg.specs.declared.Block.{Block}
 use Rattle.mv_cfg.specs.declared.Cfg.{Cfg}
 use Rattle.mv_cfg.specs.Graph.{IsBlock, HasEdge}
 use Rattle.mv_lattice.specs.Flow.{IsAt, IsStated, through}
+use Rattle.mv_lattice.specs.Laws.{IsLawful}
 use Rattle.mv_lattice.specs.Search.{Search, IsSameAt, Raises, nothing, lower, FlowsInto, stays, rises, FlowsIntoEach, ExceedsAt, Makes, IsVisit}
 use Rattle.mv_lattice.specs.Search.{Exceeds, Reaches, begins, goes_on, IsTurn, EndsWith, MeetsLimit, too_often, too_large, MeetsNeed, need}
-use Rattle.mv_lattice.specs.Work.{standing, IsSearch}
-use Rattle.mv_lattice.proofs.Rises.{set_same, set_other}
-use Rattle.mv_lattice.proofs.Visits.{replicate_at}
-
--- a number stands in a list, or doesn't
-contains_or_not : (xs : List ℕ) (n : ℕ) → Contains xs n ⊎ (Contains xs n → ⊥)
-contains_or_not xs n = ⊎_elim
-    (λ (none : times n xs ≡ 0). inr (λ h. let some = times_of n xs h in let no : ⊥ = omega (arith, some, none) in no))
-    (λ (some : times n xs ≡ 0 → ⊥). inl (contains_from_times n xs (omega (arith, some))))
-    (cases_eq (times n xs) 0)
+use Rattle.mv_lattice.specs.Work.{AllStated, standing, IsSearch}
+use Rattle.mv_lattice.proofs.Rises.{set_same, set_other, replicate_at, contains_or_not}
 
 one_alone : (m n : ℕ) → Contains (m ∷ []) n → m ≡ n
 one_alone m n h = ⊎_elim
@@ -29,100 +22,138 @@ one_alone m n h = ⊎_elim
     (λ is. is)
     (Contains-push_cases [] m n h)
 
-module _ {S : Type 0} (IsState IsSmall : S → Type 0) (below : S → S → Type 0) where
-  raised_above : (t : S) (old : Option S) (u : S) → below t t → Raises IsState below t old u → below t u
-  raised_above t _ _ itself nothing = itself
-  raised_above t _ _ itself (lower above join) = join.right
+module _ {S : Type 0} {size : ℕ} {IsState MayBegin : S → Type 0} {below : S → S → Type 0} {join : S → S → S} {step : ℕ → S → Option S} {IsGraphOf : Cfg → Type 0}
+    (laws : IsLawful size IsState MayBegin below join step IsGraphOf) (t : S) (valid : IsState t) where
+  -- what t raises a state to: it is a state, and above t
+  pub raised_state : (old : Option S) (u : S) → ((s : S) → old ≡ Some s → IsState s) → Raises below join t old u → IsState u
+  raised_state _ _ states nothing = valid
+  raised_state _ _ states (lower {s} above) = (laws.joins s t (states s refl) valid).valid
+
+  pub raised_above : (old : Option S) (u : S) → ((s : S) → old ≡ Some s → IsState s) → Raises below join t old u → below t u
+  raised_above _ _ states nothing = laws.reflexive t valid
+  raised_above _ _ states (lower {s} above) = (laws.joins s t (states s refl) valid).right
+
+  -- a block may begin with it, where one may with both
+  pub raised_begins : (old : Option S) (u : S) → ((s : S) → old ≡ Some s → IsState s × MayBegin s) → MayBegin t → Raises below join t old u → MayBegin u
+  raised_begins _ _ states begin nothing = begin
+  raised_begins _ _ states begin (lower {s} above) = let known = states s refl in laws.joins_begin s t known.0 valid known.1 begin
+
+  -- it is above the state that is raised, which isn't above it
+  pub raised_over : (old : Option S) (r u : S) → old ≡ Some r → IsState r → Raises below join t old u → below r u × (below u r → ⊥)
+  raised_over _ r _ is state nothing = cc
+  raised_over _ r _ is state (lower {s} above) =
+      let same : s ≡ r = cc in
+      let there : IsState s = subst IsState (sym same) state in
+      let up = laws.joins s t there valid in
+      subst (λ z. below z (join s t) × (below (join s t) z → ⊥)) same (up.left, λ under. above (laws.transitive t (join s t) s valid up.valid there up.right under))
+
+  -- it is below each state that is above both
+  pub raised_least : (old : Option S) (u v : S) → ((s : S) → old ≡ Some s → IsState s × below s v) → IsState v → below t v → Raises below join t old u → below u v
+  raised_least _ _ v states high over nothing = over
+  raised_least _ _ v states high over (lower {s} above) = let known = states s refl in (laws.joins s t known.0 valid).least v high known.1 over
 
   -- nothing is raised that is above t
-  not_raised : (t : S) (old : Option S) (s u : S) → old ≡ Some s → below t s → Raises IsState below t old u → ⊥
-  not_raised t _ s _ is above nothing = cc
-  not_raised t _ s _ is above (lower {s = r} not_above join) = not_above (let same : s ≡ r = cc in subst (below t) same above)
+  not_raised : (old : Option S) (s u : S) → old ≡ Some s → below t s → Raises below join t old u → ⊥
+  not_raised _ s _ is above nothing = cc
+  not_raised _ s _ is above (lower {s = r} not_above) = not_above (let same : s ≡ r = cc in subst (below t) same above)
 
+  module _ (IsSmall : S → Type 0) where
+    flows_first : (n : ℕ) (x y z : Search S) → IsSameAt n x y → FlowsInto IsSmall below join t n y z → FlowsInto IsSmall below join t n x z
+    flows_first n x y z same (stays s is above after) = stays s (sym same.0 ∙ is) above (after.0 ∙ same.0, after.1 ∙ same.1)
+    flows_first n x y z same (rises old u at raised small is waits) = rises old u (sym same.0 ∙ at) raised small is waits
+
+    flows_last : (n : ℕ) (x y z : Search S) → FlowsInto IsSmall below join t n x y → IsSameAt n y z → FlowsInto IsSmall below join t n x z
+    flows_last n x y z (stays s is above before) same = stays s is above (same.0 ∙ before.0, same.1 ∙ before.1)
+    flows_last n x y z (rises old u at raised small is waits) same = rises old u at raised small (same.0 ∙ is) (same.1 ∙ waits)
+
+    -- a second time changes nothing
+    flows_twice : (n : ℕ) (x y z : Search S) → AllStated IsState x.flow → FlowsInto IsSmall below join t n x y → FlowsInto IsSmall below join t n y z → FlowsInto IsSmall below join t n x z
+    flows_twice n x y z all first (stays s is above after) = flows_last n x y z first after
+    flows_twice n x y z all (stays s is above before) (rises old u at raised small there waits) = flows_first n x y z before (rises old u at raised small there waits)
+    flows_twice n x y z all (rises old u at raised small is waits) (rises old' u' at' raised' small' is' waits') =
+        let same : old' ≡ Some u = cc (at', is) in
+        absurd (not_raised old' u u' same (raised_above old u (λ s e. all n s (at ∙ ap Some e)) raised) raised')
+
+    pub flows_none : (x : Search S) → FlowsIntoEach IsSmall below join (Contains []) t x x
+    flows_none x = record {
+      inside = λ n h. let low : h.0 < 0 = h.1 in absurd (omega (arith, low));
+      outside = λ n no. (refl, refl);
+    }
+
+    -- t has flowed into some blocks, and then into one more
+    pub flows_more : (xs : List ℕ) (m : ℕ) (x y z : Search S) → AllStated IsState x.flow → FlowsIntoEach IsSmall below join (Contains xs) t x y
+        → FlowsIntoEach IsSmall below join (Contains (m ∷ [])) t y z
+        → FlowsIntoEach IsSmall below join (Contains (xs ++ m ∷ [])) t x z
+    flows_more xs m x y z all p q = record {
+      inside = λ n h. ⊎_elim
+          (λ (is : m ≡ n).
+          let here : FlowsInto IsSmall below join t n y z = q.inside n (0, omega arith, is) in
+          ⊎_elim (λ old. flows_twice n x y z all (p.inside n old) here) (λ new. flows_first n x y z (p.outside n new) here) (contains_or_not xs n))
+          (λ (other : m ≡ n → ⊥).
+          let old : Contains xs n = ⊎_elim (λ o. o) (λ is. absurd (other is)) (Contains-push_cases xs m n h) in
+          flows_last n x y z (p.inside n old) (q.outside n (λ k. other (one_alone m n k))))
+          (cases_eq m n);
+      outside = λ n no.
+          let first = p.outside n (λ h. no (Contains-append_left xs (m ∷ []) n h)) in
+          let last = q.outside n (λ h. no (subst (Contains (xs ++ m ∷ [])) (one_alone m n h) (Contains-push xs m))) in
+          (last.0 ∙ first.0, last.1 ∙ first.1);
+    }
+
+    -- what is stated afterwards are states
+    pub flows_valid : (xs : List ℕ) (x y : Search S) → AllStated IsState x.flow → FlowsIntoEach IsSmall below join (Contains xs) t x y → AllStated IsState y.flow
+    flows_valid xs x y all flows n u e = ⊎_elim
+        (λ inside. by_flow (flows.inside n inside))
+        (λ outside. all n u (sym (flows.outside n outside).0 ∙ e))
+        (contains_or_not xs n)
+      where
+        by_flow : FlowsInto IsSmall below join t n x y → IsState u
+        by_flow (stays s is above same) = all n u (sym same.0 ∙ e)
+        by_flow (rises old v at raised small is waits) =
+            let same : v ≡ u = cc (is, e) in
+            subst IsState same (raised_state old v (λ s h. all n s (at ∙ ap Some h)) raised)
+
+    -- what t would raise too high was so before t flowed into other blocks
+    pub exceeds_before : (xs : List ℕ) (n : ℕ) (x y : Search S) → AllStated IsState x.flow → FlowsIntoEach IsSmall below join (Contains xs) t x y
+        → ExceedsAt IsSmall below join t n y.flow → ExceedsAt IsSmall below join t n x.flow
+    exceeds_before xs n x y all p e = ⊎_elim
+        (λ old. by_flow (p.inside n old))
+        (λ new. unchanged (p.outside n new))
+        (contains_or_not xs n)
+      where
+        unchanged : IsSameAt n x y → ExceedsAt IsSmall below join t n x.flow
+        unchanged same = record { old = e.old; new = e.new; at = sym same.0 ∙ e.at; raises = e.raises; large = e.large }
+
+        by_flow : FlowsInto IsSmall below join t n x y → ExceedsAt IsSmall below join t n x.flow
+        by_flow (stays s is above same) = unchanged same
+        by_flow (rises old u at raised small is waits) =
+            let at' : slice_get y.flow n ≡ Some e.old = e.at in
+            let same : e.old ≡ Some u = cc (at', is) in
+            absurd (not_raised e.old u e.new same (raised_above old u (λ s h. all n s (at ∙ ap Some h)) raised) e.raises)
+
+module _ {S : Type 0} (IsSmall : S → Type 0) (below : S → S → Type 0) (join : S → S → S) where
   -- what the code joins is a state that t raises the old one to
-  pub nothing_raised : (t : S) (old : Option S) (u : S) → old ≡ None → u ≡ t → Raises IsState below t old u
-  nothing_raised t old u none same = subst (λ o. Raises IsState below t o u) (sym none) (subst (λ z. Raises IsState below t None z) (sym same) nothing)
+  pub nothing_raised : (t : S) (old : Option S) (u : S) → old ≡ None → u ≡ t → Raises below join t old u
+  nothing_raised t old u none same = subst (λ o. Raises below join t o u) (sym none) (subst (λ z. Raises below join t None z) (sym same) nothing)
 
-  pub state_raised : (s t : S) (old : Option S) (u : S) → old ≡ Some s → (below t s → ⊥) → IsState u → below s u → below t u
-      → ((v : S) → IsState v → below s v → below t v → below u v) → Raises IsState below t old u
-  state_raised s t old u some above valid left right least =
-      subst (λ o. Raises IsState below t o u) (sym some) (lower above (record { valid = valid; left = left; right = right; least = least }))
+  pub state_raised : (s t : S) (old : Option S) (u : S) → old ≡ Some s → (below t s → ⊥) → u ≡ join s t → Raises below join t old u
+  state_raised s t old u some above is = subst (λ o. Raises below join t o u) (sym some) (subst (λ z. Raises below join t (Some s) z) (sym is) (lower above))
 
-  flows_first : (t : S) (n : ℕ) (x y z : Search S) → IsSameAt n x y → FlowsInto IsState IsSmall below t n y z → FlowsInto IsState IsSmall below t n x z
-  flows_first t n x y z same (stays s is above after) = stays s (sym same.0 ∙ is) above (after.0 ∙ same.0, after.1 ∙ same.1)
-  flows_first t n x y z same (rises old u at raised small is waits) = rises old u (sym same.0 ∙ at) raised small is waits
-
-  flows_last : (t : S) (n : ℕ) (x y z : Search S) → FlowsInto IsState IsSmall below t n x y → IsSameAt n y z → FlowsInto IsState IsSmall below t n x z
-  flows_last t n x y z (stays s is above before) same = stays s is above (same.0 ∙ before.0, same.1 ∙ before.1)
-  flows_last t n x y z (rises old u at raised small is waits) same = rises old u at raised small (same.0 ∙ is) (same.1 ∙ waits)
-
-  -- a second time changes nothing
-  flows_twice : (t : S) (n : ℕ) (x y z : Search S) → below t t → FlowsInto IsState IsSmall below t n x y → FlowsInto IsState IsSmall below t n y z → FlowsInto IsState IsSmall below t n x z
-  flows_twice t n x y z itself first (stays s is above after) = flows_last t n x y z first after
-  flows_twice t n x y z itself (stays s is above before) (rises old u at raised small there waits) = flows_first t n x y z before (rises old u at raised small there waits)
-  flows_twice t n x y z itself (rises old u at raised small is waits) (rises old' u' at' raised' small' is' waits') =
-      let same : old' ≡ Some u = cc (at', is) in
-      absurd (not_raised t old' u u' same (raised_above t old u itself raised) raised')
-
-  pub flows_none : (t : S) (x : Search S) → FlowsIntoEach IsState IsSmall below (Contains []) t x x
-  flows_none t x = record {
-    inside = λ n h. let low : h.0 < 0 = h.1 in absurd (omega (arith, low));
-    outside = λ n no. (refl, refl);
-  }
-
-  -- t has flowed into some blocks, and then into one more
-  pub flows_more : (t : S) (xs : List ℕ) (m : ℕ) (x y z : Search S) → below t t → FlowsIntoEach IsState IsSmall below (Contains xs) t x y
-      → FlowsIntoEach IsState IsSmall below (Contains (m ∷ [])) t y z
-      → FlowsIntoEach IsState IsSmall below (Contains (xs ++ m ∷ [])) t x z
-  flows_more t xs m x y z itself p q = record {
-    inside = λ n h. ⊎_elim
-        (λ (is : m ≡ n).
-        let here : FlowsInto IsState IsSmall below t n y z = q.inside n (0, omega arith, is) in
-        ⊎_elim (λ old. flows_twice t n x y z itself (p.inside n old) here) (λ new. flows_first t n x y z (p.outside n new) here) (contains_or_not xs n))
-        (λ (other : m ≡ n → ⊥).
-        let old : Contains xs n = ⊎_elim (λ o. o) (λ is. absurd (other is)) (Contains-push_cases xs m n h) in
-        flows_last t n x y z (p.inside n old) (q.outside n (λ k. other (one_alone m n k))))
-        (cases_eq m n);
-    outside = λ n no.
-        let first = p.outside n (λ h. no (Contains-append_left xs (m ∷ []) n h)) in
-        let last = q.outside n (λ h. no (subst (Contains (xs ++ m ∷ [])) (one_alone m n h) (Contains-push xs m))) in
-        (last.0 ∙ first.0, last.1 ∙ first.1);
-  }
-
-  pub exceeds_at : (t : S) (n : ℕ) (old : Option S) (flow : List (Option S)) → IsAt flow n old → (u : S) × (Raises IsState below t old u × (IsSmall u → ⊥)) → ExceedsAt IsState IsSmall below t n flow
+  pub exceeds_at : (t : S) (n : ℕ) (old : Option S) (flow : List (Option S)) → IsAt flow n old → (u : S) × (Raises below join t old u × (IsSmall u → ⊥)) → ExceedsAt IsSmall below join t n flow
   exceeds_at t n old flow at h = record { old = old; new = h.0; at = at; raises = h.1.0; large = h.1.1 }
-
-  -- what t would raise too high was so before t flowed into other blocks
-  pub exceeds_before : (t : S) (xs : List ℕ) (n : ℕ) (x y : Search S) → below t t → FlowsIntoEach IsState IsSmall below (Contains xs) t x y
-      → ExceedsAt IsState IsSmall below t n y.flow → ExceedsAt IsState IsSmall below t n x.flow
-  exceeds_before t xs n x y itself p e = ⊎_elim
-      (λ old. by_flow (p.inside n old))
-      (λ new. unchanged (p.outside n new))
-      (contains_or_not xs n)
-    where
-      unchanged : IsSameAt n x y → ExceedsAt IsState IsSmall below t n x.flow
-      unchanged same = record { old = e.old; new = e.new; at = sym same.0 ∙ e.at; raises = e.raises; large = e.large }
-
-      by_flow : FlowsInto IsState IsSmall below t n x y → ExceedsAt IsState IsSmall below t n x.flow
-      by_flow (stays s is above same) = unchanged same
-      by_flow (rises old u at raised small is waits) =
-          let at' : slice_get y.flow n ≡ Some e.old = e.at in
-          let same : e.old ≡ Some u = cc (at', is) in
-          absurd (not_raised t e.old u e.new same (raised_above t old u itself raised) e.raises)
 
   -- one block: its state stays, or it gets another
   pub flows_stays : (t : S) (n : ℕ) (s : S) (states : List (Option S)) (waiting : List Bool) → IsStated states n s → below t s
-      → FlowsIntoEach IsState IsSmall below (Contains (n ∷ [])) t (standing states waiting) (standing states waiting)
+      → FlowsIntoEach IsSmall below join (Contains (n ∷ [])) t (standing states waiting) (standing states waiting)
   flows_stays t n s states waiting is above = record {
     inside = λ k h. stays s (subst (λ i. IsStated states i s) (one_alone n k h) is) above (refl, refl);
     outside = λ k no. (refl, refl);
   }
 
   pub flows_rises : (t : S) (n : ℕ) (old : Option S) (u : S) (states : List (Option S)) (waiting : List Bool) → n < length states → n < length waiting
-      → IsAt states n old → Raises IsState below t old u → IsSmall u
-      → FlowsIntoEach IsState IsSmall below (Contains (n ∷ [])) t (standing states waiting) (standing (set states n (Some u)) (set waiting n true))
+      → IsAt states n old → Raises below join t old u → IsSmall u
+      → FlowsIntoEach IsSmall below join (Contains (n ∷ [])) t (standing states waiting) (standing (set states n (Some u)) (set waiting n true))
   flows_rises t n old u states waiting inside marked at raised small = record {
-    inside = λ k h. subst (λ i. FlowsInto IsState IsSmall below t i (standing states waiting) (standing (set states n (Some u)) (set waiting n true))) (one_alone n k h)
+    inside = λ k h. subst (λ i. FlowsInto IsSmall below join t i (standing states waiting) (standing (set states n (Some u)) (set waiting n true))) (one_alone n k h)
         (rises old u at raised small (set_same states n (Some u) inside) (set_same waiting n true marked));
     outside = λ k no.
         let other : k ≡ n → ⊥ = λ is. no (0, omega arith, sym is) in
@@ -130,7 +161,7 @@ module _ {S : Type 0} (IsState IsSmall : S → Type 0) (below : S → S → Type
   }
 
   module _ (step : ℕ → S → Option S) (g : Cfg) (k : ℕ) (b : Block) (s : S) (block : IsBlock g k b) where
-    makes : (flow : List (Option S)) → IsStated flow k s → (made : Option S) → through step b s ≡ made → Makes IsState IsSmall below step g k flow made
+    makes : (flow : List (Option S)) → IsStated flow k s → (made : Option S) → through step b s ≡ made → Makes IsSmall below join step g k flow made
     makes flow stated made is = record { block = b; is_block = block; state = s; stated = stated; comes_out = is }
 
     successor : (n : ℕ) → Contains b.successors.items n → HasEdge g k n
@@ -144,7 +175,7 @@ module _ {S : Type 0} (IsState IsSmall : S → Type 0) (below : S → S → Type
 
     -- the block's visit, by its list of successors
     pub visit_made : (t : S) (x y : Search S) → IsStated x.flow k s → through step b s ≡ Some t
-        → FlowsIntoEach IsState IsSmall below (Contains b.successors.items) t x y → IsVisit IsState IsSmall below step g k x y
+        → FlowsIntoEach IsSmall below join (Contains b.successors.items) t x y → IsVisit IsSmall below join step g k x y
     visit_made t x y stated out flows = record {
       out = t;
       makes = makes x.flow stated (Some t) out;
@@ -155,49 +186,49 @@ module _ {S : Type 0} (IsState IsSmall : S → Type 0) (below : S → S → Type
     }
 
     pub visit_exceeds : (t : S) (flow : List (Option S)) → IsStated flow k s → through step b s ≡ Some t → (n : ℕ) → Contains b.successors.items n
-        → ExceedsAt IsState IsSmall below t n flow → Exceeds IsState IsSmall below step g k flow
+        → ExceedsAt IsSmall below join t n flow → Exceeds IsSmall below join step g k flow
     visit_exceeds t flow stated out n h e = record { out = t; makes = makes flow stated (Some t) out; successor = n; edge = successor n h; exceeds = e }
 
-    pub visit_fails : (flow : List (Option S)) → IsStated flow k s → through step b s ≡ None → Makes IsState IsSmall below step g k flow None
+    pub visit_fails : (flow : List (Option S)) → IsStated flow k s → through step b s ≡ None → Makes IsSmall below join step g k flow None
     visit_fails flow stated out = makes flow stated None out
 
   module _ (step : ℕ → S → Option S) (g : Cfg) (start : S) where
     -- the code's search at its start, by what its lists were made of
     pub search_begins : (s : S) (n : ℕ) (states : List (Option S)) (waiting : List Bool) (left : List ℕ) → n ≡ length g.blocks.items → s ≡ start → IsSmall start
-        → states ≡ set (replicate n None) 0 (Some s) → waiting ≡ set (replicate n false) 0 true → left ≡ replicate n 256 → IsSearch IsState IsSmall below step g start left states waiting
+        → states ≡ set (replicate n None) 0 (Some s) → waiting ≡ set (replicate n false) 0 true → left ≡ replicate n 256 → IsSearch IsSmall below join step g start left states waiting
     search_begins s n states waiting left long same small is marks full =
         let states_are : states ≡ set (replicate (length g.blocks.items) None) 0 (Some start) =
         is ∙ ap (λ m. set (replicate m None) 0 (Some s)) long ∙ ap (λ x. set (replicate (length g.blocks.items) None) 0 (Some x)) same in
         let waiting_is : waiting ≡ set (replicate (length g.blocks.items) false) 0 true = marks ∙ ap (λ m. set (replicate m false) 0 true) long in
         record {
           visited = [];
-          reached = subst (λ xs. Reaches IsState IsSmall below step g start [] (standing xs waiting)) (sym states_are)
-              (subst (λ ws. Reaches IsState IsSmall below step g start [] (standing (set (replicate (length g.blocks.items) None) 0 (Some start)) ws)) (sym waiting_is) (begins small));
+          reached = subst (λ xs. Reaches IsSmall below join step g start [] (standing xs waiting)) (sym states_are)
+              (subst (λ ws. Reaches IsSmall below join step g start [] (standing (set (replicate (length g.blocks.items) None) 0 (Some start)) ws)) (sym waiting_is) (begins small));
           count = λ k l at.
               let l_is : 256 ≡ l = replicate_at n k 256 l (subst (λ ls. IsAt ls k l) full at) in
               omega (arith, l_is);
         }
 
-    module _ (left : List ℕ) (states : List (Option S)) (waiting : List Bool) (has : IsSearch IsState IsSmall below step g start left states waiting)
+    module _ (left : List ℕ) (states : List (Option S)) (waiting : List Bool) (has : IsSearch IsSmall below join step g start left states waiting)
         (k l : ℕ) (waits : IsAt waiting k true) (first : (j : ℕ) → j < k → IsAt waiting j false) (at : IsAt left k l) where
-      next : IsTurn IsState IsSmall below step g start has.visited k (standing states waiting)
+      next : IsTurn IsSmall below join step g start has.visited k (standing states waiting)
       next = record { reached = has.reached; next = record { waits = waits; first = first } }
 
       few : 0 < l → times k has.visited < 256
       few some = let all = has.count k l at in omega (arith, all)
 
-      pub turn_over : l ≡ 0 → MeetsLimit IsState IsSmall below step g start
+      pub turn_over : l ≡ 0 → MeetsLimit IsSmall below join step g start
       turn_over none = too_often next (let all = has.count k l at in omega (arith, all))
 
       module _ (some : 0 < l) where
-        pub turn_exceeds : Exceeds IsState IsSmall below step g k states → MeetsLimit IsState IsSmall below step g start
+        pub turn_exceeds : Exceeds IsSmall below join step g k states → MeetsLimit IsSmall below join step g start
         turn_exceeds e = too_large next (few some) e
 
-        pub turn_fails : Makes IsState IsSmall below step g k states None → MeetsNeed IsState IsSmall below step g start
+        pub turn_fails : Makes IsSmall below join step g k states None → MeetsNeed IsSmall below join step g start
         turn_fails e = need next (few some) e
 
-        pub turn_done : (new : List (Option S)) (new_waiting : List Bool) → IsVisit IsState IsSmall below step g k (standing states (set waiting k false)) (standing new new_waiting)
-            → IsSearch IsState IsSmall below step g start (set left k (l - 1)) new new_waiting
+        pub turn_done : (new : List (Option S)) (new_waiting : List Bool) → IsVisit IsSmall below join step g k (standing states (set waiting k false)) (standing new new_waiting)
+            → IsSearch IsSmall below join step g start (set left k (l - 1)) new new_waiting
         turn_done new new_waiting visit = record {
           visited = k ∷ has.visited;
           reached = goes_on has.reached (next.next) (few some) visit;
@@ -218,8 +249,8 @@ module _ {S : Type 0} (IsState IsSmall : S → Type 0) (below : S → S → Type
 
     -- the code's search, when nothing waits
     pub search_ends : (left : List ℕ) (states : List (Option S)) (waiting : List Bool)
-        → IsSearch IsState IsSmall below step g start left states waiting → ((j : ℕ) → j < length waiting → IsAt waiting j false)
-        → EndsWith IsState IsSmall below step g start states
+        → IsSearch IsSmall below join step g start left states waiting → ((j : ℕ) → j < length waiting → IsAt waiting j false)
+        → EndsWith IsSmall below join step g start states
     search_ends left states waiting has rests = record {
       visited = has.visited;
       last = standing states waiting;

@@ -1,4 +1,13 @@
 -- What a closed flow over a graph is, when its blocks go on, and what rises.
+--   carried, through step b s          what instructions, and a block, make of a state; none where a need fails
+--   states_of inner stated             the states in what is stated
+--   IsAt xs k x, IsStated flow k s     an element stands at a place; and a state is stated of a block
+--   IsFlow IsState g flow              a state of the function is stated of each reached block, and of no other
+--   IsClosedAt below step flow b s     a block carries its state to one below each that is stated of a successor
+--   IsClosed below step g start flow   the flow is closed: the start state is below the first block's, and each block is closed
+--   IsFlowBelow below low high         each state of one flow is below the other's
+--   IsRisen P below n s                the last of n + 1 states that rise one after the other
+-- IsBelowEach is a part of IsClosedAt.
 use Rattle.std.specs.Prelude.{◌≡◌, ℕ, zero, suc, ◌+◌, ◌-◌, List, length, slice_get, map, option_and_then, option_map, Option, Some, All}
 use Rattle.mv_cfg.specs.declared.Block.{Block}
 use Rattle.mv_cfg.specs.declared.Cfg.{Cfg}

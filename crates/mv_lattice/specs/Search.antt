@@ -1,6 +1,16 @@
 -- The search for the least closed flow. Blocks, which have their numbers in the order of the code, are visited one by one, of those that wait always the
 -- one with the least number: the state that is stated of it is carried through it, and what comes out flows into its successors. A block whose stated
 -- state rises waits again.
+-- First where a search stands, then a visit of a block, then whole searches from a start state, and how they end.
+--   Search, IsNext x k            what is stated and which blocks wait; and the block that is visited next
+--   Raises t old new              a state raises what is stated of a block
+--   FlowsInto, FlowsIntoEach      a state flows into a block, and into each of some
+--   IsVisit k x y                 a block is visited
+--   Exceeds k flow                a visit would state a state that isn't small
+--   at_start, Reaches visited x   the search begins, and comes to x by these visits
+--   EndsWith flow                 it ends with this flow
+--   MeetsLimit, MeetsNeed         otherwise a limit ends it, or a need that fails
+-- The others are parts of these.
 use Rattle.std.specs.Prelude.{◌≡◌, ℕ, ◌<◌, Bool, true, false, List, [], ◌∷◌, length, replicate, slice_get, slice_set, Option, Some, None}
 use Rattle.mv_bounds.specs.Removal.{times}
 use Rattle.mv_cfg.specs.declared.Block.{Block}
@@ -26,24 +36,17 @@ resting k x = record { flow = x.flow; waiting = slice_set x.waiting k false }
 abbrev pub IsSameAt : {S : Type 0} → ℕ → Search S → Search S → Type 0
 IsSameAt n x y = (slice_get y.flow n ≡ slice_get x.flow n) × (slice_get y.waiting n ≡ slice_get x.waiting n)
 
-module _ {S : Type 0} (IsState : S → Type 0) (below : S → S → Type 0) where
-  -- u is a least state above s and t
-  pub record IsLeastAbove (s t u : S) : Type 0 where
-    pub valid : IsState u
-    pub left : below s u
-    pub right : below t u
-    pub least : (v : S) → IsState v → below s v → below t v → below u v
-
-  -- t raises what is stated of a block to u: where nothing is, to t itself; where a state is that isn't above t, to a least state above both
+module _ {S : Type 0} (below : S → S → Type 0) (join : S → S → S) where
+  -- t raises what is stated of a block: where nothing is, to t itself; where a state is that isn't above t, to the join of that state and t
   pub data Raises (t : S) : Option S → S → Type 0 where
     nothing : Raises t None t
-    lower : {s u : S} → ¬ below t s → IsLeastAbove s t u → Raises t (Some s) u
+    lower : {s : S} → ¬ below t s → Raises t (Some s) (join s t)
 
-module _ {S : Type 0} (IsState IsSmall : S → Type 0) (below : S → S → Type 0) where
+module _ {S : Type 0} (IsSmall : S → Type 0) (below : S → S → Type 0) (join : S → S → S) where
   -- t flows into block n: where the stated state is above t, nothing changes; else t raises it, to a small state, and the block waits
   pub data FlowsInto (t : S) (n : ℕ) (x y : Search S) : Type 0 where
     stays : (s : S) → IsStated x.flow n s → below t s → IsSameAt n x y → FlowsInto t n x y
-    rises : (old : Option S) (u : S) → IsAt x.flow n old → Raises IsState below t old u → IsSmall u → IsStated y.flow n u → IsAt y.waiting n true → FlowsInto t n x y
+    rises : (old : Option S) (u : S) → IsAt x.flow n old → Raises below join t old u → IsSmall u → IsStated y.flow n u → IsAt y.waiting n true → FlowsInto t n x y
 
   -- t flows into these blocks, and no other changes
   pub record FlowsIntoEach (blocks : ℕ → Type 0) (t : S) (x y : Search S) : Type 0 where
@@ -55,7 +58,7 @@ module _ {S : Type 0} (IsState IsSmall : S → Type 0) (below : S → S → Type
     pub old : Option S
     pub new : S
     pub at : IsAt flow n old
-    pub raises : Raises IsState below t old new
+    pub raises : Raises below join t old new
     pub large : ¬ IsSmall new
 
   module _ (step : ℕ → S → Option S) (g : Cfg) where

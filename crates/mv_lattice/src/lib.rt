@@ -24,7 +24,7 @@ ghost use Rattle.mv_lattice.specs.Laws.{IsLawful};
 mod search;
 
 use mv_cfg::{Block, Cfg};
-pub use search::{SolveError, solve};
+pub use search::{SolveError, search_is_least, solve};
 use std::alloc::{AllocError, Global};
 use thiserror::Error;
 
@@ -72,6 +72,9 @@ pub trait Domain {
     /// The first state is below the second.
     ghost below: { Self → Self.State → Self.State → Type 0 };
 
+    /// The join of two states.
+    ghost joined: { Self → Self.State → Self.State → Self.State };
+
     /// What an instruction makes of a state, none where a need of it fails.
     ghost steps: { Self → ℕ → Self.State → Option Self.State };
 
@@ -92,7 +95,7 @@ pub trait Domain {
         requires b { is_state self.now b.now }
         ensures { IsTrue result ↔ below self.now a.now b.now };
 
-    /// The least state above both.
+    /// The join of both, which is the least state above both.
     fn join(
         &self,
         alloc: Global,
@@ -101,6 +104,7 @@ pub trait Domain {
     ) -> Result<Self::State, AllocError>
         requires a { is_state self.now a.now }
         requires b { is_state self.now b.now }
+        ensures join { IfOk result (λ c. c ≡ joined self.now a.now b.now) }
         ensures state { IfOk result (λ c. is_state self.now c) }
         ensures left { IfOk result (λ c. below self.now a.now c) }
         ensures right { IfOk result (λ c. below self.now b.now c) }
@@ -144,8 +148,8 @@ pub trait Domain {
         requires { is_state self.now s.now }
         ensures { IsTrue result ↔ is_small self.now s.now };
 
-    /// The laws of the order and of the steps.
-    ghost laws: { (d : Self) → IsLawful (size d) (is_state d) (may_begin d) (below d) (steps d) (is_graph d) };
+    /// The laws of the order, of the join and of the steps.
+    ghost laws: { (d : Self) → IsLawful (size d) (is_state d) (may_begin d) (below d) (joined d) (steps d) (is_graph d) };
 }
 
 /// An entry of a list that states something of blocks, among it a state.

@@ -1,9 +1,9 @@
 // The search for the least closed flow.
 ghost use Rattle.std.specs.Prelude.{◌≡◌, ℕ, ◌<◌, ◌≤◌, Option, length, IfOk, IfSome, IfNone, OnOk, IsErrOf, Contains, All, [], ◌∷◌, List, replicate, slice_set, sum, ◌⊎◌, true, false};
 ghost use Rattle.mv_cfg.specs.Graph.{IsGraph};
-ghost use Rattle.mv_lattice.specs.Flow.{IsAt, IsFlow, IsClosed, IsFlowBelow, through};
+ghost use Rattle.mv_lattice.specs.Flow.{IsAt, IsFlow, IsClosed, through};
 ghost use Rattle.mv_lattice.specs.Search.{Raises, ExceedsAt, FlowsIntoEach, Exceeds, IsVisit, Makes, EndsWith, MeetsLimit, MeetsNeed};
-ghost use Rattle.mv_lattice.specs.Work.{HasLarge, HasChain, AllStated, IsWork, IsCounted, IsNewState, IsRaised, IsHigher, IsLeast, standing, IsSearch};
+ghost use Rattle.mv_lattice.specs.Work.{HasLarge, HasChain, AllStated, IsLeastFlow, IsNewState, standing, IsSearch, IsUnderway};
 
 use crate::{Domain, StepError, pass_through};
 use mv_cfg::{Block, Cfg};
@@ -73,14 +73,10 @@ fn joined<D: Domain>(
     t: &D::State,
 ) -> Result<Option<D::State>, SolveError>
     requires state { D.is_state d.now t.now }
-    requires begins { D.may_begin d.now t.now }
     requires old_state { (s : D.State) → old.now ≡ Option.Some s → D.is_state d.now s }
-    requires old_begins { (s : D.State) → old.now ≡ Option.Some s → D.may_begin d.now s }
-    ensures ok { IfOk result (λ r. IsNewState (D.is_state d.now) (D.may_begin d.now) (D.is_small d.now) (D.below d.now) old.now t.now r) }
+    ensures ok { IfOk result (IsNewState (D.is_small d.now) (D.below d.now) (D.joined d.now) old.now t.now) }
     ensures need { ¬ IsErrOf result SolveError.Need }
-    ensures large { IsErrOf result SolveError.TooComplex → HasLarge (D.is_state d.now) (D.may_begin d.now) (D.is_small d.now) }
-    ensures raises { IfOk result (λ r. (u : D.State) → r ≡ Option.Some u → Raises (D.is_state d.now) (D.below d.now) t.now old.now u) }
-    ensures exceeds { IsErrOf result SolveError.TooComplex → (u : D.State) × (Raises (D.is_state d.now) (D.below d.now) t.now old.now u × ¬ D.is_small d.now u) }
+    ensures exceeds { IsErrOf result SolveError.TooComplex → (u : D.State) × (Raises (D.below d.now) (D.joined d.now) t.now old.now u × ¬ D.is_small d.now u) }
 {
     match old {
         None => Ok(Some(small(d, d.copy(alloc, t)?)?)),
@@ -105,14 +101,10 @@ fn raise<D: Domain>(
     requires inside { n < length states.old }
     requires marked { n < length waiting.old }
     requires state { D.is_state d.now t.now }
-    requires begins { D.may_begin d.now t.now }
     requires states { AllStated (D.is_state d.now) states.old }
-    requires starts { AllStated (D.may_begin d.now) states.old }
-    ensures ok { OnOk result (IsRaised (D.is_state d.now) (D.may_begin d.now) (D.is_small d.now) (D.below d.now) (n ∷ []) t.now states.old states.new waiting.old waiting.new) }
+    ensures ok { OnOk result (FlowsIntoEach (D.is_small d.now) (D.below d.now) (D.joined d.now) (Contains (n ∷ [])) t.now (standing states.old waiting.old) (standing states.new waiting.new)) }
     ensures need { ¬ IsErrOf result SolveError.Need }
-    ensures large { IsErrOf result SolveError.TooComplex → HasLarge (D.is_state d.now) (D.may_begin d.now) (D.is_small d.now) }
-    ensures flows { OnOk result (FlowsIntoEach (D.is_state d.now) (D.is_small d.now) (D.below d.now) (Contains (n ∷ [])) t.now (standing states.old waiting.old) (standing states.new waiting.new)) }
-    ensures exceeds { IsErrOf result SolveError.TooComplex → ExceedsAt (D.is_state d.now) (D.is_small d.now) (D.below d.now) t.now n states.old }
+    ensures exceeds { IsErrOf result SolveError.TooComplex → ExceedsAt (D.is_small d.now) (D.below d.now) (D.joined d.now) t.now n states.old }
 {
     if let Some(u) = joined(alloc, d, &states[n], t)? {
         states[n] = Some(u);
@@ -133,14 +125,10 @@ fn raise_each<D: Domain>(
     requires inside { All (λ n. n < length states.old) blocks.now }
     requires marked { length waiting.old ≡ length states.old }
     requires state { D.is_state d.now t.now }
-    requires begins { (n : ℕ) → Contains blocks.now n → D.may_begin d.now t.now }
     requires states { AllStated (D.is_state d.now) states.old }
-    requires starts { AllStated (D.may_begin d.now) states.old }
-    ensures ok { OnOk result (IsRaised (D.is_state d.now) (D.may_begin d.now) (D.is_small d.now) (D.below d.now) blocks.now t.now states.old states.new waiting.old waiting.new) }
+    ensures ok { OnOk result (FlowsIntoEach (D.is_small d.now) (D.below d.now) (D.joined d.now) (Contains blocks.now) t.now (standing states.old waiting.old) (standing states.new waiting.new)) }
     ensures need { ¬ IsErrOf result SolveError.Need }
-    ensures large { IsErrOf result SolveError.TooComplex → HasLarge (D.is_state d.now) (D.may_begin d.now) (D.is_small d.now) }
-    ensures flows { OnOk result (FlowsIntoEach (D.is_state d.now) (D.is_small d.now) (D.below d.now) (Contains blocks.now) t.now (standing states.old waiting.old) (standing states.new waiting.new)) }
-    ensures exceeds { IsErrOf result SolveError.TooComplex → (n : ℕ) × (Contains blocks.now n × ExceedsAt (D.is_state d.now) (D.is_small d.now) (D.below d.now) t.now n states.old) }
+    ensures exceeds { IsErrOf result SolveError.TooComplex → (n : ℕ) × (Contains blocks.now n × ExceedsAt (D.is_small d.now) (D.below d.now) (D.joined d.now) t.now n states.old) }
 {
     for n in blocks {
         raise(alloc, d, states, waiting, *n, t)?;
@@ -178,22 +166,14 @@ fn visit<D: Domain>(
     waiting: &mut [bool],
 ) -> Result<(), SolveError>
     requires graph { IsGraph g.now (D.size d.now) }
-    requires same { D.is_graph d.now g.now }
     requires inside { k < length g.now.blocks.items }
-    requires work { IsWork (D.is_state d.now) (D.may_begin d.now) (D.is_small d.now) (D.below d.now) (D.steps d.now) g.now k states.old waiting.old }
+    requires entries { length states.old ≡ length g.now.blocks.items }
+    requires marks { length waiting.old ≡ length g.now.blocks.items }
+    requires states { AllStated (D.is_state d.now) states.old }
     requires stated { (s : D.State) × IsAt states.old k (Option.Some s) }
-    ensures work { OnOk result (IsWork (D.is_state d.now) (D.may_begin d.now) (D.is_small d.now) (D.below d.now) (D.steps d.now) g.now (length g.now.blocks.items) states.new waiting.new) }
-    ensures higher { OnOk result (IsHigher (D.below d.now) states.old states.new) }
-    ensures least { OnOk result (IsLeast (D.is_state d.now) (D.below d.now) (D.steps d.now) g.now states.old states.new) }
-    ensures counts { OnOk result ((left : List ℕ)
-        → IsCounted (λ r. D.is_state d.now r × D.may_begin d.now r) (D.below d.now) left states.old waiting.old
-        → IsCounted (λ r. D.is_state d.now r × D.may_begin d.now r) (D.below d.now) left states.new waiting.new) }
-    ensures need { IsErrOf result SolveError.Need → (start : D.State) (flow : List (Option D.State)) → IsFlow (D.is_state d.now) g.now flow
-        → IsFlowBelow (D.below d.now) states.old flow → ¬ IsClosed (D.below d.now) (D.steps d.now) g.now start flow }
-    ensures large { IsErrOf result SolveError.TooComplex → HasLarge (D.is_state d.now) (D.may_begin d.now) (D.is_small d.now) }
-    ensures visited { OnOk result (IsVisit (D.is_state d.now) (D.is_small d.now) (D.below d.now) (D.steps d.now) g.now k (standing states.old waiting.old) (standing states.new waiting.new)) }
-    ensures fails { IsErrOf result SolveError.Need → Makes (D.is_state d.now) (D.is_small d.now) (D.below d.now) (D.steps d.now) g.now k states.old Option.None }
-    ensures exceeds { IsErrOf result SolveError.TooComplex → Exceeds (D.is_state d.now) (D.is_small d.now) (D.below d.now) (D.steps d.now) g.now k states.old }
+    ensures ok { OnOk result (IsVisit (D.is_small d.now) (D.below d.now) (D.joined d.now) (D.steps d.now) g.now k (standing states.old waiting.old) (standing states.new waiting.new)) }
+    ensures fails { IsErrOf result SolveError.Need → Makes (D.is_small d.now) (D.below d.now) (D.joined d.now) (D.steps d.now) g.now k states.old Option.None }
+    ensures exceeds { IsErrOf result SolveError.TooComplex → Exceeds (D.is_small d.now) (D.below d.now) (D.joined d.now) (D.steps d.now) g.now k states.old }
 {
     let block = &g.blocks[k];
     let Some(s) = &states[k] else {
@@ -229,30 +209,20 @@ fn turn<D: Domain>(
     waiting: &mut [bool],
     left: &mut [u16],
 ) -> Result<(), SolveError>
-    requires graph { IsGraph g.now (D.size d.now) }
-    requires same { D.is_graph d.now g.now }
     requires waits { IsAt waiting.old k true }
     requires first { (j : ℕ) → j < k → IsAt waiting.old j false }
+    requires graph { IsGraph g.now (D.size d.now) }
+    requires same { D.is_graph d.now g.now }
+    requires marks { length waiting.old ≡ length g.now.blocks.items }
     requires lefts { length left.old ≡ length g.now.blocks.items }
-    requires work { IsWork (D.is_state d.now) (D.may_begin d.now) (D.is_small d.now) (D.below d.now) (D.steps d.now) g.now (length g.now.blocks.items) states.old waiting.old }
-    requires counts { IsCounted (λ r. D.is_state d.now r × D.may_begin d.now r) (D.below d.now) left.old states.old waiting.old }
-    ensures work { OnOk result (IsWork (D.is_state d.now) (D.may_begin d.now) (D.is_small d.now) (D.below d.now) (D.steps d.now) g.now (length g.now.blocks.items) states.new waiting.new) }
-    ensures counts { OnOk result (IsCounted (λ r. D.is_state d.now r × D.may_begin d.now r) (D.below d.now) left.new states.new waiting.new) }
-    ensures higher { OnOk result (IsHigher (D.below d.now) states.old states.new) }
-    ensures least { OnOk result (IsLeast (D.is_state d.now) (D.below d.now) (D.steps d.now) g.now states.old states.new) }
+    requires search { IsUnderway (D.is_state d.now) (D.may_begin d.now) (D.is_small d.now) (D.below d.now) (D.joined d.now) (D.steps d.now) g.now left.old states.old waiting.old }
+    ensures search { OnOk result ((start : D.State) → IsSearch (D.is_small d.now) (D.below d.now) (D.joined d.now) (D.steps d.now) g.now start left.old states.old waiting.old
+        → IsSearch (D.is_small d.now) (D.below d.now) (D.joined d.now) (D.steps d.now) g.now start left.new states.new waiting.new) }
+    ensures fails { IsErrOf result SolveError.Need → (start : D.State) → IsSearch (D.is_small d.now) (D.below d.now) (D.joined d.now) (D.steps d.now) g.now start left.old states.old waiting.old
+        → MeetsNeed (D.is_small d.now) (D.below d.now) (D.joined d.now) (D.steps d.now) g.now start }
+    ensures limit { IsErrOf result SolveError.TooComplex → (start : D.State) → IsSearch (D.is_small d.now) (D.below d.now) (D.joined d.now) (D.steps d.now) g.now start left.old states.old waiting.old
+        → MeetsLimit (D.is_small d.now) (D.below d.now) (D.joined d.now) (D.steps d.now) g.now start }
     ensures fewer { OnOk result (sum left.new < sum left.old) }
-    ensures need { IsErrOf result SolveError.Need → (start : D.State) (flow : List (Option D.State)) → IsFlow (D.is_state d.now) g.now flow
-        → IsFlowBelow (D.below d.now) states.old flow → ¬ IsClosed (D.below d.now) (D.steps d.now) g.now start flow }
-    ensures complex { IsErrOf result SolveError.TooComplex → HasLarge (D.is_state d.now) (D.may_begin d.now) (D.is_small d.now) ⊎ HasChain (D.is_state d.now) (D.may_begin d.now) (D.below d.now) }
-    ensures search { OnOk result ((start : D.State)
-        → IsSearch (D.is_state d.now) (D.is_small d.now) (D.below d.now) (D.steps d.now) g.now start left.old states.old waiting.old
-        → IsSearch (D.is_state d.now) (D.is_small d.now) (D.below d.now) (D.steps d.now) g.now start left.new states.new waiting.new) }
-    ensures fails { IsErrOf result SolveError.Need → (start : D.State)
-        → IsSearch (D.is_state d.now) (D.is_small d.now) (D.below d.now) (D.steps d.now) g.now start left.old states.old waiting.old
-        → MeetsNeed (D.is_state d.now) (D.is_small d.now) (D.below d.now) (D.steps d.now) g.now start }
-    ensures limit { IsErrOf result SolveError.TooComplex → (start : D.State)
-        → IsSearch (D.is_state d.now) (D.is_small d.now) (D.below d.now) (D.steps d.now) g.now start left.old states.old waiting.old
-        → MeetsLimit (D.is_state d.now) (D.is_small d.now) (D.below d.now) (D.steps d.now) g.now start }
 {
     if left[k] == 0 {
         return Err(SolveError::TooComplex);
@@ -273,25 +243,16 @@ fn search_flow<D: Domain>(
 ) -> Result<(), SolveError>
     requires graph { IsGraph g.now (D.size d.now) }
     requires same { D.is_graph d.now g.now }
+    requires marks { length waiting.old ≡ length g.now.blocks.items }
     requires lefts { length left.old ≡ length g.now.blocks.items }
-    requires work { IsWork (D.is_state d.now) (D.may_begin d.now) (D.is_small d.now) (D.below d.now) (D.steps d.now) g.now (length g.now.blocks.items) states.old waiting.old }
-    requires counts { IsCounted (λ r. D.is_state d.now r × D.may_begin d.now r) (D.below d.now) left.old states.old waiting.old }
-    ensures work { OnOk result (IsWork (D.is_state d.now) (D.may_begin d.now) (D.is_small d.now) (D.below d.now) (D.steps d.now) g.now (length g.now.blocks.items) states.new waiting.new) }
+    requires search { IsUnderway (D.is_state d.now) (D.may_begin d.now) (D.is_small d.now) (D.below d.now) (D.joined d.now) (D.steps d.now) g.now left.old states.old waiting.old }
+    ensures search { OnOk result ((start : D.State) → IsSearch (D.is_small d.now) (D.below d.now) (D.joined d.now) (D.steps d.now) g.now start left.old states.old waiting.old
+        → IsSearch (D.is_small d.now) (D.below d.now) (D.joined d.now) (D.steps d.now) g.now start left.new states.new waiting.new) }
+    ensures fails { IsErrOf result SolveError.Need → (start : D.State) → IsSearch (D.is_small d.now) (D.below d.now) (D.joined d.now) (D.steps d.now) g.now start left.old states.old waiting.old
+        → MeetsNeed (D.is_small d.now) (D.below d.now) (D.joined d.now) (D.steps d.now) g.now start }
+    ensures limit { IsErrOf result SolveError.TooComplex → (start : D.State) → IsSearch (D.is_small d.now) (D.below d.now) (D.joined d.now) (D.steps d.now) g.now start left.old states.old waiting.old
+        → MeetsLimit (D.is_small d.now) (D.below d.now) (D.joined d.now) (D.steps d.now) g.now start }
     ensures rests { OnOk result ((j : ℕ) → j < length waiting.new → IsAt waiting.new j false) }
-    ensures higher { OnOk result (IsHigher (D.below d.now) states.old states.new) }
-    ensures least { OnOk result (IsLeast (D.is_state d.now) (D.below d.now) (D.steps d.now) g.now states.old states.new) }
-    ensures need { IsErrOf result SolveError.Need → (start : D.State) (flow : List (Option D.State)) → IsFlow (D.is_state d.now) g.now flow
-        → IsFlowBelow (D.below d.now) states.old flow → ¬ IsClosed (D.below d.now) (D.steps d.now) g.now start flow }
-    ensures complex { IsErrOf result SolveError.TooComplex → HasLarge (D.is_state d.now) (D.may_begin d.now) (D.is_small d.now) ⊎ HasChain (D.is_state d.now) (D.may_begin d.now) (D.below d.now) }
-    ensures search { OnOk result ((start : D.State)
-        → IsSearch (D.is_state d.now) (D.is_small d.now) (D.below d.now) (D.steps d.now) g.now start left.old states.old waiting.old
-        → IsSearch (D.is_state d.now) (D.is_small d.now) (D.below d.now) (D.steps d.now) g.now start left.new states.new waiting.new) }
-    ensures fails { IsErrOf result SolveError.Need → (start : D.State)
-        → IsSearch (D.is_state d.now) (D.is_small d.now) (D.below d.now) (D.steps d.now) g.now start left.old states.old waiting.old
-        → MeetsNeed (D.is_state d.now) (D.is_small d.now) (D.below d.now) (D.steps d.now) g.now start }
-    ensures limit { IsErrOf result SolveError.TooComplex → (start : D.State)
-        → IsSearch (D.is_state d.now) (D.is_small d.now) (D.below d.now) (D.steps d.now) g.now start left.old states.old waiting.old
-        → MeetsLimit (D.is_state d.now) (D.is_small d.now) (D.below d.now) (D.steps d.now) g.now start }
 {
     while let Some(k) = first_waiting(waiting) {
         turn(alloc, d, g, k, states, waiting, left)?;
@@ -329,16 +290,15 @@ fn first_counts(alloc: Global, n: usize) -> Result<Vec<u16>, AllocError>
     vec![in alloc; VISITS; n]
 }
 
-/// The least closed flow above the start state: it is below every closed flow. It is the one with which this search ends. The
-/// start state is stated of block 0, which waits. Of the blocks that wait always the one with the least first instruction is
+/// The flow with which this search ends, which is the least closed flow above the start state (`search_is_least`). The start
+/// state is stated of block 0, which waits. Of the blocks that wait always the one with the least first instruction is
 /// visited, and waits no more; its state is carried through it. A successor's state that is not above what comes out is replaced
-/// by the least one above both, and where none is stated what comes out is; then the successor waits.
+/// by its join with that, and where none is stated what comes out is; then the successor waits.
 ///
 /// # Errors
-/// `Need` where the search comes to a block in which a need fails; then there is no closed flow. `TooComplex` where it would
-/// visit a block a 257th time, or would state a state that does not meet `fits`, and not where what comes out is below a stated
-/// state, however large it is. Then some state with which a block may begin is too large, or 257 of them rise one after the
-/// other. `Memory` if an allocation failed.
+/// `Need` where the search comes to a block in which a need fails. `TooComplex` where it would visit a block a 257th time, or
+/// would state a state that does not meet `fits`, and not where what comes out is below a stated state, however large it is.
+/// `Memory` if an allocation failed.
 pub fn solve<D: Domain>(
     alloc: Global,
     d: &D,
@@ -349,17 +309,9 @@ pub fn solve<D: Domain>(
     requires same { D.is_graph d.now g.now }
     requires start { D.is_state d.now start.now }
     requires begins { D.may_begin d.now start.now }
-    ensures flow { IfOk result (λ v. IsFlow (D.is_state d.now) g.now v.items) }
-    ensures closed { IfOk result (λ v. IsClosed (D.below d.now) (D.steps d.now) g.now start.now v.items) }
-    ensures starts { IfOk result (λ v. AllStated (D.may_begin d.now) v.items) }
-    ensures small { IfOk result (λ v. AllStated (D.is_small d.now) v.items) }
-    ensures least { IfOk result (λ v. (flow : List (Option D.State)) → IsFlow (D.is_state d.now) g.now flow
-        → IsClosed (D.below d.now) (D.steps d.now) g.now start.now flow → IsFlowBelow (D.below d.now) v.items flow) }
-    ensures need { IsErrOf result SolveError.Need → (flow : List (Option D.State)) → IsFlow (D.is_state d.now) g.now flow → ¬ IsClosed (D.below d.now) (D.steps d.now) g.now start.now flow }
-    ensures complex { IsErrOf result SolveError.TooComplex → HasLarge (D.is_state d.now) (D.may_begin d.now) (D.is_small d.now) ⊎ HasChain (D.is_state d.now) (D.may_begin d.now) (D.below d.now) }
-    ensures ends { IfOk result (λ v. EndsWith (D.is_state d.now) (D.is_small d.now) (D.below d.now) (D.steps d.now) g.now start.now v.items) }
-    ensures fails { IsErrOf result SolveError.Need → MeetsNeed (D.is_state d.now) (D.is_small d.now) (D.below d.now) (D.steps d.now) g.now start.now }
-    ensures limit { IsErrOf result SolveError.TooComplex → MeetsLimit (D.is_state d.now) (D.is_small d.now) (D.below d.now) (D.steps d.now) g.now start.now }
+    ensures ends { IfOk result (λ v. EndsWith (D.is_small d.now) (D.below d.now) (D.joined d.now) (D.steps d.now) g.now start.now v.items) }
+    ensures fails { IsErrOf result SolveError.Need → MeetsNeed (D.is_small d.now) (D.below d.now) (D.joined d.now) (D.steps d.now) g.now start.now }
+    ensures limit { IsErrOf result SolveError.TooComplex → MeetsLimit (D.is_small d.now) (D.below d.now) (D.joined d.now) (D.steps d.now) g.now start.now }
 {
     let first = small(d, d.copy(alloc, start)?)?;
     let n = g.blocks.len();
@@ -369,3 +321,17 @@ pub fn solve<D: Domain>(
     search_flow(alloc, d, g, &mut states, &mut waiting, &mut left)?;
     Ok(states)
 }
+
+/// What a search ends with. Its flow is closed, of states that are small and with which a block may begin, and below every
+/// closed flow. Where a need ends it there is no closed flow. Where a limit does, some state with which a block may begin is too
+/// large, or 257 of them rise one after the other.
+pub fn search_is_least<D: Domain>(d: &D, g: &Cfg, start: &D::State)
+    requires graph { IsGraph g.now (D.size d.now) }
+    requires same { D.is_graph d.now g.now }
+    requires start { D.is_state d.now start.now }
+    requires begins { D.may_begin d.now start.now }
+    ensures found { (flow : List (Option D.State)) → EndsWith (D.is_small d.now) (D.below d.now) (D.joined d.now) (D.steps d.now) g.now start.now flow
+        → IsLeastFlow (D.is_state d.now) (D.may_begin d.now) (D.is_small d.now) (D.below d.now) (D.steps d.now) g.now start.now flow }
+    ensures need { MeetsNeed (D.is_small d.now) (D.below d.now) (D.joined d.now) (D.steps d.now) g.now start.now → (flow : List (Option D.State)) → IsFlow (D.is_state d.now) g.now flow → ¬ IsClosed (D.below d.now) (D.steps d.now) g.now start.now flow }
+    ensures complex { MeetsLimit (D.is_small d.now) (D.below d.now) (D.joined d.now) (D.steps d.now) g.now start.now → HasLarge (D.is_state d.now) (D.may_begin d.now) (D.is_small d.now) ⊎ HasChain (D.is_state d.now) (D.may_begin d.now) (D.below d.now) }
+{}

@@ -176,8 +176,8 @@ pub use Rattle.mv_ledger.specs.Parts.Saving.{AddsValue, AreSections, HasOneMore,
 pub use Rattle.mv_ledger.specs.Parts.Saving.{sections_of, stored_in, written}
 pub use Rattle.mv_ledger.specs.Payloads.{argument_from, bundle_from, leaf_from, offer_from, offers_from, run_from, sized_from}
 pub use Rattle.mv_ledger.specs.Plain.{IsPlain, is_plain}
-pub use Rattle.mv_ledger.specs.Publishing.{AllPass, FailsAmong, FailsAt, IsPublished, IsRefusedAmong, IsRefusedOffer, Passes, Spells, in_linking, in_offer, in_room, no_acquires, no_bounds}
-pub use Rattle.mv_ledger.specs.Publishing.{no_certificate, no_edges, no_flow, no_locals, no_text, not_able, not_defined, not_signed, not_typed, offered}
+pub use Rattle.mv_ledger.specs.Publishing.{AllPass, FailsAmong, FailsAt, FirstFails, IsPublished, IsRefusedAmong, IsRefusedOffer, OfCertificate, OfModule, Passes, Spells, in_linking, in_offer}
+pub use Rattle.mv_ledger.specs.Publishing.{in_room, offered, phases}
 pub use Rattle.mv_ledger.specs.RecordText.{Asks, IsShaped, IsShapeless, argument_fits, argument_text, format_text, leaf_bytes, offer_fits, offer_text, publish_fits, publish_text, run_fits}
 pub use Rattle.mv_ledger.specs.RecordText.{run_text, sized}
 pub use Rattle.mv_ledger.specs.Running.{IsAdmission, IsAdmitted, IsSettled, run_of}

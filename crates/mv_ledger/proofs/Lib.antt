@@ -2,7 +2,7 @@
 -- stays sound). The rooms, after what the calls do: Bundles, Runs, Shows, Saves, Loads. Of use in several:
 --   Shapes, ShapesOfArguments, Spelling   payloads and texts are read exactly where they have their shape
 --   Phases, Replying, Ledgers             which phase is answered, what is replied, and that what a ledger holds stays as it has to
---   SavedOnce, SavedFails                 one ledger to a text, and one reason where there is none
+--   SavedOnce, SavedFails, NeverRefused   one ledger to a text, one reason where there is none, and none against what is saved
 pub mod Common
 pub mod Lists
 pub mod Spelling
@@ -19,4 +19,5 @@ pub mod Bundles
 pub mod Runs
 pub mod Shows
 pub mod Saves
+pub mod NeverRefused
 pub mod Loads

@@ -1,12 +1,9 @@
 -- Bytes are loaded as one ledger at most, and none that are loaded have a reason against them: what passes fails in no phase.
-use Rattle.mv_ledger.proofs.Common.{[], ◌++◌, ◌∙◌, ◌∷◌, ◌≡◌, IsTrue, List, ap, ap₂, map, refl, subst, sym, true, ℕ, and_parts, list_all-append, list_all, Module, PublishedModule, IsReadByText}
-use Rattle.mv_ledger.proofs.Common.{InBounds, WellDefined, WellSigned, FlowHolds, AcquiresHold, AbilitiesHold, AreBytes, LedgerState, Offer, Certificate, all_edges_hold, all_locals_hold}
-use Rattle.mv_ledger.proofs.Common.{IsCertificateText, AreLinked, AreTallied, FailsLoad, HasHead, IsLoaded, no_body, no_head, no_links, no_module, no_tallies, AllPass, FailsAmong, FailsAt, Passes}
-use Rattle.mv_ledger.proofs.Common.{Spells, no_acquires, no_bounds, no_certificate, no_edges, no_flow, no_locals, no_text, not_able, not_defined, not_signed, not_typed, offered, offer_fits}
+use Rattle.mv_ledger.proofs.Common.{[], ◌++◌, ◌∙◌, ◌∷◌, ◌≡◌, List, ap, ap₂, map, refl, subst, sym, ℕ, Module, PublishedModule, IsReadByText, LedgerState, Offer, Certificate, AreLinked, AreTallied}
+use Rattle.mv_ledger.proofs.Common.{FailsLoad, HasHead, IsLoaded, no_body, no_head, no_links, no_module, no_tallies, AllPass, FailsAmong, Passes, offered}
 use Rattle.mv_ledger.proofs.Common.{EachLoadIsOne, EachSecondFormComesBack, NoLoadFails, Form, IsSavedText, Second, body_text, saved_text}
-use Rattle.mv_type_states.specs.TypesHold.{TypesHold}
-use Rattle.mv_certificate.proofs.OneCertificate.{one-certificate}
-use Rattle.mv_ledger.proofs.Spelling.{OffersAreBytes, text_bytes, offers_bytes, module-one}
+use Rattle.mv_ledger.proofs.Phases.{never-fails}
+use Rattle.mv_ledger.proofs.Spelling.{OffersAreBytes, offers_bytes, module-one}
 use Rattle.mv_ledger.proofs.Saves.Saved.{heads-one, ledgers-one}
 
 -- bytes are loaded as one ledger at most
@@ -16,43 +13,6 @@ loads-one reads bytes s t a b = ledgers-one reads a.form b.form bytes s t a.text
 -- what is loaded from a text of the second form is saved as that text
 pub comes-back : IsReadByText → EachSecondFormComesBack
 comes-back reads bytes s t a text = ap (saved_text Second) (ledgers-one reads a.form Second bytes s t a.text text) ∙ sym text.text
-
--- ---- what passes fails in no phase
-
--- what holds of a module and its certificate holds of the same two
-pub locals-same : (m n : Module) (c d : Certificate) → n ≡ m → d ≡ c → IsTrue (all_locals_hold m c) → IsTrue (all_locals_hold n d)
-locals-same m n c d i j h = rw (i, j) h
-
-pub edges-same : (m n : Module) (c d : Certificate) → n ≡ m → d ≡ c → IsTrue (all_edges_hold m c) → IsTrue (all_edges_hold n d)
-edges-same m n c d i j h = rw (i, j) h
-
-module _ (reads : IsReadByText) (o : Offer) (m : Module) (c : Certificate) (are : AreBytes o.text) (passes : Passes o m c) where
-  -- an offer spells one module
-  module-is : (n : Module) → Spells o.text n → n ≡ m
-  module-is n e = module-one reads o.text n m are e passes.text
-
-  -- and one certificate
-  certificate-one : (n : Module) (d : Certificate) → n ≡ m → IsCertificateText n o.certificate d → d ≡ c
-  certificate-one n d is written = one-certificate m o.certificate d c passes.text.fits (subst (λ (k : Module). IsCertificateText k o.certificate d) is written) passes.certificate
-
-  -- what holds of the one holds of the other
-  moved : (P : Module → Type 0) (n : Module) → Spells o.text n → P m → P n
-  moved P n e h = subst P (sym (module-is n e)) h
-
-  pub never-fails : {p : ℕ} → FailsAt o p → ⊥
-  never-fails (no_text none) = none m passes.text
-  never-fails (no_bounds n e out) = out (moved InBounds n e passes.sound.bounds)
-  never-fails (not_defined n e bounds out) = out (moved WellDefined n e passes.sound.defined)
-  never-fails (not_signed n e bounds defined out) = out (moved WellSigned n e passes.sound.signed)
-  never-fails (not_able n e bounds defined signed out) = out (moved AbilitiesHold n e passes.sound.abilities)
-  never-fails (no_flow n e bounds defined signed able out) = out (moved FlowHolds n e passes.sound.flow)
-  never-fails (not_typed n e bounds defined signed able flow out) = out (moved TypesHold n e passes.sound.types)
-  never-fails (no_certificate n e sound out) = out c (moved (λ (k : Module). IsCertificateText k o.certificate c) n e passes.certificate)
-  never-fails (no_locals n d e sound written out) =
-      out (locals-same m n c d (module-is n e) (certificate-one n d (module-is n e) written) (and_parts (all_locals_hold m c) (all_edges_hold m c) passes.holds).0)
-  never-fails (no_edges n d e sound written locals out) =
-      out (edges-same m n c d (module-is n e) (certificate-one n d (module-is n e) written) (and_parts (all_locals_hold m c) (all_edges_hold m c) passes.holds).1)
-  never-fails (no_acquires n d e sound written holds out) = out (moved AcquiresHold n e passes.acquires)
 
 -- ---- the modules that passed
 
@@ -74,13 +34,10 @@ passes_at (b ∷ before) o after (p ∷ ps) all = passes_at before o after ps al
 passes_at _ _ _ _ all = absurd all
 
 -- none of offers that passed fails
-none_fails : IsReadByText → (os : List Offer) (ps : List PublishedModule) (phase : ℕ) → IsTrue (list_all offer_fits os) → AllPass os ps → FailsAmong os phase → ⊥
-none_fails reads os ps phase sized all fails =
+pub none_fails : (os : List Offer) (ps : List PublishedModule) (phase : ℕ) → AllPass os ps → FailsAmong os phase → ⊥
+none_fails os ps phase all fails =
     let at = passes_at fails.before fails.offer fails.after ps (subst (λ (xs : List Offer). AllPass xs ps) fails.are all) in
-    let fit : list_all offer_fits (fails.before ++ fails.offer ∷ fails.after) ≡ true = subst (λ (xs : List Offer). list_all offer_fits xs ≡ true) fails.are sized in
-    let behind = and_parts (list_all offer_fits fails.before) (list_all offer_fits (fails.offer ∷ fails.after)) (sym (list_all-append offer_fits fails.before (fails.offer ∷ fails.after)) ∙ fit) in
-    let here = and_parts (offer_fits fails.offer) (list_all offer_fits fails.after) behind.1 in
-    never-fails reads fails.offer at.0 at.1 (text_bytes fails.offer here.0) at.2 fails.fails
+    never-fails fails.offer at.0 at.1 at.2 phase fails.fails
 
 -- ---- what is loaded has no reason against it
 
@@ -106,7 +63,7 @@ module _ (reads : IsReadByText) (bytes : List ℕ) (s : LedgerState) (loaded : I
   no_reason (no_head none) = none loaded.form s.runs (map offered s.published) (head_of loaded.form bytes s loaded.text)
   no_reason (no_module form runs offers phase head fails) =
       let own = own_head loaded.form form bytes s runs offers loaded.text head in
-      none_fails reads (map offered s.published) s.published phase loaded.text.head.sized loaded.passed (subst (λ (os : List Offer). FailsAmong os phase) (sym own.1) fails)
+      none_fails (map offered s.published) s.published phase loaded.passed (subst (λ (os : List Offer). FailsAmong os phase) (sym own.1) fails)
   no_reason (no_links form runs offers ps head passed out) = out (subst AreLinked (own_modules form runs offers ps head passed) loaded.linked)
   no_reason (no_body form runs offers ps head passed linked none) =
       let own = own_head loaded.form form bytes s runs offers loaded.text head in

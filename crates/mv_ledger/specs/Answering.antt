@@ -1,4 +1,11 @@
 -- What the ledger's replies say, and when a call of the ledger answers a record.
+--   told reply, told_lines result              what a reply, and what a show or an audit, says; memory that ran out says nothing
+--   ended lines                                lines, each with a line end
+--   AnswersRecord kind payload reply old new   the machine's ledger may reply this, the run ends well, and the ledger is sound after it
+--   IsReplied kind payload reply old new       the same of what a ledger holds; what has to stay stays, and a bundle gets the right answer
+--   Replies kind payload told old new          the same, or nothing is said and the ledger stays as it was
+--   RepliesText kind payload result held       the same of the text of a show or an audit, or of its refusal
+-- told_ending is a part of these.
 use Rattle.std.specs.Prelude.{◌≡◌, ℕ, List, [], ◌∷◌, ◌++◌, Option, Some, None, Result, Ok, Err, ⊤, flat_map, string_bytes, String}
 use Rattle.std.specs.Global.{Global}
 use Rattle.mv_move_types.specs.declared.refusal.Refusal.{Refusal}

@@ -1,4 +1,10 @@
--- Which bytes are loaded, as which ledger, and else the first reason against them.
+-- Which bytes are loaded, as which ledger, and otherwise the first reason against them.
+--   HasHead bytes form runs offers         how the bytes begin: a form, a number of runs, and modules with their certificates
+--   AreLinked ps                           no two modules have one name, and they name each other as they are
+--   AreTallied s                           the tallies are those of what is stored, and no more than the runs can have made
+--   IsLoaded bytes s                       the bytes are loaded as this ledger (why all is verified anew: decision 45)
+--   FailsLoad bytes number                 the first of five reasons against the bytes
+--   load_number e, IsLoadRefusal bytes e   a reason's number, and that the reason answered is the first one
 use Rattle.std.specs.Prelude.{◌≡◌, ℕ, ◌+◌, ◌*◌, ◌≤◌, IsTrue, List, ◌++◌, map, Option, Some, None, ⊤}
 use Rattle.std.specs.List.{AllByRecursion}
 use Rattle.mv_move_types.specs.Limits.{most_steps}

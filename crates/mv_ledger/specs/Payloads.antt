@@ -1,4 +1,10 @@
 -- The bundle or the run that stands at the front of bytes, and the bytes after it.
+-- These read what RecordText.antt writes: each gives what stands at the front and the bytes after it, or nothing.
+--   sized_from most                 bytes after their number
+--   offer_from, offers_from         a module with its certificate, and the modules of a bundle
+--   bundle_from                     the payload of a publish record
+--   leaf_from kind, argument_from   a leaf, and an argument
+--   run_from                        the payload of a run record
 use Rattle.std.specs.Prelude.{ℕ, nat_lt, List, Some, None, map, nat_le, length}
 use Rattle.std.specs.Bool.{then_some}
 use Rattle.mv_uleb.specs.Parsing.{number_from}

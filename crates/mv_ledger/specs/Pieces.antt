@@ -1,9 +1,15 @@
 -- Pieces of lines, and what is left of a line of JSON.
+--   TakesPiece ends piece old new   a piece was taken off the front of the first of these lines
+--   piece_text ends piece           what is written for it
+--   rest_after before objects       the rest of a list of objects in JSON
+--   comma_at place                  what stands before the next object
+--   json_left key place objects     what is left of a line of JSON
+--   TellsPiece left line told       a piece of the line was told; where memory ran out, none
 use Rattle.std.specs.Prelude.{◌≡◌, ℕ, ◌<◌, Bool, true, false, List, [], ◌∷◌, ◌++◌, codes, length, Option, MatchOption, Result, MatchResult}
 use Rattle.std.specs.Global.{Vec}
-use Rattle.mv_machine.specs.Lines.{json_line}
+use Rattle.mv_machine.specs.Lines.{json_line, with_commas}
 use Rattle.mv_ledger.specs.declared.json_pieces.Place.{Place}
-use Rattle.mv_ledger.specs.declared.json_pieces.Place.TheVariants.{Opening, First, Later}
+use Rattle.mv_ledger.specs.declared.json_pieces.Place.TheVariants.{Opening, Entries}
 
 -- A piece was taken off the front of the first of these lines. The line ends with it, or goes on; then the piece has bytes.
 abbrev pub TakesPiece : Bool → List ℕ → List (List ℕ) → List (List ℕ) → Type 0
@@ -16,22 +22,10 @@ abbrev pub piece_text : Bool → List ℕ → List ℕ
 piece_text true piece = piece ++ 10 ∷ []
 piece_text false piece = piece
 
--- the rest of a list of objects, of which the next stands behind this text and each later one behind a comma
-abbrev pub rest_after : List ℕ → List (List ℕ) → List ℕ
-rest_after before [] = codes "]}"
-rest_after before (o ∷ os) = before ++ o ++ rest_after (codes ",") os
-
--- what stands before the next object
-abbrev pub comma_at : Place → List ℕ
-comma_at Opening = []
-comma_at First = []
-comma_at Later = codes ","
-
 -- what is left of a line of JSON with this key and these objects to come
 abbrev pub json_left : List ℕ → Place → List (List ℕ) → List ℕ
 json_left key Opening objects = json_line key objects
-json_left key First objects = rest_after (comma_at First) objects
-json_left key Later objects = rest_after (comma_at Later) objects
+json_left key Entries objects = with_commas objects ++ codes "]}"
 
 -- A piece of this line was told: all of it, or bytes in front of what is left. Where memory ran out all of it is left.
 abbrev pub TellsPiece : {S : Type 0} → (S → List ℕ) → List ℕ → Result (Vec ℕ × Option S) S → Type 0

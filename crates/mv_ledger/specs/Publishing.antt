@@ -1,5 +1,5 @@
--- Whether a bundle is published, and else the first phase that it fails.
-use Rattle.std.specs.Prelude.{◌≡◌, ℕ, ◌≤◌, IsTrue, List, [], ◌∷◌, ◌++◌, length, Some, ⊤}
+-- Whether a bundle is published, and otherwise the first phase that it fails.
+use Rattle.std.specs.Prelude.{◌≡◌, ℕ, ◌≤◌, IsTrue, List, [], ◌∷◌, ◌++◌, length, Some, ⊤, ◌⊎◌}
 use Rattle.mv_move_types.specs.Limits.{most_modules}
 use Rattle.mv_move_types.specs.Module.{Module}
 use Rattle.mv_move_types.specs.Published.{PublishedModule, with_modules}
@@ -31,19 +31,38 @@ pub record Passes (o : Offer) (m : Module) (c : Certificate) : Type 0 where
   pub holds : IsTrue (certificate_holds m c)
   pub acquires : AcquiresHold m
 
+-- the offer's text spells a module of which this holds
+abbrev pub OfModule : Offer → (Module → Type 0) → Type 0
+OfModule o Holds = (m : Module) × Spells o.text m × Holds m
+
+-- and its certificate's bytes are a text of a certificate for that module, and this holds of the two
+abbrev pub OfCertificate : Offer → (Module → Certificate → Type 0) → Type 0
+OfCertificate o Holds = (m : Module) × (c : Certificate) × Spells o.text m × IsCertificateText m o.certificate c × Holds m c
+
+-- the phases that are asked of one offer, in order: the number of each, and what it asks
+abbrev pub phases : Offer → List (ℕ × Type 0)
+phases o =
+    (2, OfModule o (λ m. ⊤))
+    ∷ (3, OfModule o InBounds)
+    ∷ (4, OfModule o WellDefined)
+    ∷ (5, OfModule o WellSigned)
+    ∷ (6, OfModule o AbilitiesHold)
+    ∷ (7, OfModule o FlowHolds)
+    ∷ (8, OfModule o TypesHold)
+    ∷ (9, OfCertificate o (λ m c. ⊤))
+    ∷ (10, OfCertificate o (λ m c. IsTrue (all_locals_hold m c)))
+    ∷ (11, OfCertificate o (λ m c. IsTrue (all_edges_hold m c)))
+    ∷ (12, OfModule o AcquiresHold)
+    ∷ []
+
+-- the phase of this number fails, and those before it hold
+abbrev pub FirstFails : List (ℕ × Type 0) → ℕ → Type 0
+FirstFails [] number = ⊥
+FirstFails (phase ∷ later) number = ((number ≡ phase.0) × ¬ phase.1) ⊎ (phase.1 × FirstFails later number)
+
 -- the first phase that an offer fails
-pub data FailsAt (o : Offer) : ℕ → Type 0 where
-  no_text : ((m : Module) → ¬ Spells o.text m) → FailsAt o 2
-  no_bounds : (m : Module) → Spells o.text m → ¬ InBounds m → FailsAt o 3
-  not_defined : (m : Module) → Spells o.text m → InBounds m → ¬ WellDefined m → FailsAt o 4
-  not_signed : (m : Module) → Spells o.text m → InBounds m → WellDefined m → ¬ WellSigned m → FailsAt o 5
-  not_able : (m : Module) → Spells o.text m → InBounds m → WellDefined m → WellSigned m → ¬ AbilitiesHold m → FailsAt o 6
-  no_flow : (m : Module) → Spells o.text m → InBounds m → WellDefined m → WellSigned m → AbilitiesHold m → ¬ FlowHolds m → FailsAt o 7
-  not_typed : (m : Module) → Spells o.text m → InBounds m → WellDefined m → WellSigned m → AbilitiesHold m → FlowHolds m → ¬ TypesHold m → FailsAt o 8
-  no_certificate : (m : Module) → Spells o.text m → IsSound m → ((c : Certificate) → ¬ IsCertificateText m o.certificate c) → FailsAt o 9
-  no_locals : (m : Module) (c : Certificate) → Spells o.text m → IsSound m → IsCertificateText m o.certificate c → ¬ IsTrue (all_locals_hold m c) → FailsAt o 10
-  no_edges : (m : Module) (c : Certificate) → Spells o.text m → IsSound m → IsCertificateText m o.certificate c → IsTrue (all_locals_hold m c) → ¬ IsTrue (all_edges_hold m c) → FailsAt o 11
-  no_acquires : (m : Module) (c : Certificate) → Spells o.text m → IsSound m → IsCertificateText m o.certificate c → IsTrue (certificate_holds m c) → ¬ AcquiresHold m → FailsAt o 12
+abbrev pub FailsAt : Offer → ℕ → Type 0
+FailsAt o = FirstFails (phases o)
 
 -- a published module as a bundle offers it
 abbrev pub offered : PublishedModule → Offer
@@ -93,7 +112,7 @@ IsRefusedAmong offers Memory = ⊤
 abbrev pub IsPublished : LedgerState → ℕ → List Offer → List PublishedModule → Type 0
 IsPublished s sender offers bundle = AllPass offers bundle × IsLinked sender s bundle × HasRoom s bundle
 
--- the first phase that a bundle fails: that of its first offer that fails, and else that of linking or of room
+-- the first phase that a bundle fails: that of its first offer that fails, otherwise that of linking or of room
 pub data IsRefusedAt (s : LedgerState) (sender : ℕ) (offers : List Offer) : ℕ → Type 0 where
   in_offer : (phase : ℕ) → FailsAmong offers phase → IsRefusedAt s sender offers phase
   in_linking : (bundle : List PublishedModule) → AllPass offers bundle → ¬ IsLinked sender s bundle → IsRefusedAt s sender offers 13

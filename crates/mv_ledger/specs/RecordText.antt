@@ -1,4 +1,13 @@
 -- The text of records.
+-- First the payloads of publish and run records, part by part, each with what fits in it; then what a payload asks.
+--   leaf_bytes, argument_text, argument_fits   a leaf, and an argument with its token
+--   sized, offer_text, offer_fits              bytes after their number, and a module with its certificate
+--   publish_text, publish_fits                 the payload of a publish record, and its limits
+--   run_text, run_fits                         that of a run record: names have to be identifiers (why: decision 7)
+--   format_text format                         that of a show or an audit
+--   IsShaped kind payload request              the payload has the shape of this request
+--   IsShapeless kind payload                   it has the shape of none
+--   Asks kind payload request                  what a record asks; BadRun and Bad if its payload is shapeless
 use Rattle.std.specs.Prelude.{ℕ, List, [], ◌∷◌, Bool, false, ◌++◌, length, ◌&&◌, nat_le, ◌^◌, nat_lt, ◌≡◌, IsTrue, ◌≢◌}
 use Rattle.std.specs.List.{list_all}
 use Rattle.mv_move_types.specs.Limits.{most_arguments, most_certificate_bytes, most_module_bytes, most_offers}
@@ -59,11 +68,15 @@ run_text r =
     address_text r.sender ++ address_text r.home.address ++ identifier_text r.home.name ++ identifier_text r.function
     ++ uleb r.budget ++ counted argument_text r.arguments
 
+-- what a budget lies below: eight bytes can say it. Whether a run may have that many steps is asked later
+abbrev pub budget_limit : ℕ
+budget_limit = 2 ^ 64
+
 -- a run's parts are within their limits
 abbrev pub run_fits : RunRequest → Bool
 run_fits r =
     address_fits r.sender && address_fits r.home.address && identifier_fits r.home.name && identifier_fits r.function
-    && nat_lt r.budget (2 ^ 64) && nat_le (length r.arguments) most_arguments && list_all argument_fits r.arguments
+    && nat_lt r.budget budget_limit && nat_le (length r.arguments) most_arguments && list_all argument_fits r.arguments
 
 -- how a report is wanted: nothing for text, one byte for JSON
 abbrev pub format_text : Format → List ℕ

@@ -1,9 +1,20 @@
 -- The texts of a saved ledger, in both forms.
-use Rattle.std.specs.Prelude.{◌≡◌, ℕ, ◌^◌, ◌<◌, ◌≤◌, ◌-◌, Bool, ◌&&◌, ◌==◌, nat_le, IsTrue, All, List, [], ◌∷◌, ◌++◌, map, flat_map, length}
+-- First the text of a ledger part by part, in both forms, then what fits in it.
+--   Form, form_byte form                      the two forms, and the byte that tells them apart
+--   head_text form runs offers                how a text begins: the form, the number of runs, the modules with their certificates
+--   tally_text, leaves_text                   a tally, and a value as its leaves
+--   stored_text, struct_text                  a stored value in form 1, and the stored values of a struct in form 2
+--   storage_text form modules storage         all stored values
+--   body_text form s                          what follows the modules: tallies and stored values
+--   saved_text form s                         the whole text
+--   tally_fits form t, HeadFits runs offers   a tally, and how a text begins, are within their limits
+--   IsSavedText form bytes s                  the bytes are the text of this ledger
+-- The others are parts of these.
+use Rattle.std.specs.Prelude.{◌≡◌, ℕ, ◌*◌, ◌^◌, ◌<◌, ◌≤◌, ◌-◌, Bool, ◌&&◌, ◌==◌, nat_le, IsTrue, All, List, [], ◌∷◌, ◌++◌, map, flat_map, length}
 use Rattle.std.specs.List.{list_all, filter, enumerate_from}
 use Rattle.std.specs.Int.{w128, to_le_bytes}
 use Rattle.mv_uleb.specs.Uleb.{uleb}
-use Rattle.mv_move_types.specs.Limits.{most_modules, most_runs}
+use Rattle.mv_move_types.specs.Limits.{most_modules, most_runs, most_steps}
 use Rattle.mv_move_types.specs.declared.tables.Definition.{Definition}
 use Rattle.mv_move_types.specs.Module.{Module}
 use Rattle.mv_module_text.specs.Entries.{address_text, counted}
@@ -84,14 +95,18 @@ body_text form s = flat_map (tally_text form) s.tallies ++ storage_text form (mo
 abbrev pub saved_text : Form → LedgerState → List ℕ
 saved_text form s = head_text form s.runs (map offered s.published) ++ body_text form s
 
--- the greatest count that a form can write
+-- the greatest count that a form can write: what 16 bytes can say, or as many as the most runs make in the most steps of each
 abbrev pub greatest_count : Form → ℕ
 greatest_count First = 2 ^ 128 - 1
-greatest_count Second = 42949672960000000
+greatest_count Second = most_steps * most_runs
 
 -- whether a tally can be written
 abbrev pub tally_fits : Form → Tallied → Bool
 tally_fits form t = nat_le t.packs (greatest_count form) && nat_le t.unpacks (greatest_count form)
+
+-- what the number of stored values lies below, so that ten bytes can say it
+abbrev pub stored_limit : ℕ
+stored_limit = 2 ^ 64
 
 -- the number of runs and the modules are within their limits
 pub record HeadFits (runs : ℕ) (offers : List Offer) : Type 0 where
@@ -110,4 +125,4 @@ pub record IsSavedText (form : Form) (bytes : List ℕ) (s : LedgerState) : Type
   pub counts : IsTrue (list_all (tally_fits form) s.tallies)
   pub ascending : IsAscending s.storage
   pub typed : IsTrue (is_fine_storage (modules_of s) s.storage)
-  pub few : length s.storage < 2 ^ 64
+  pub few : length s.storage < stored_limit

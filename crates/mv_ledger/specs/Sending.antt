@@ -1,4 +1,8 @@
 -- What a report in JSON sends to a serializer.
+--   members_of, items_of         texts under their keys, and the items of a list, as data that is sent
+--   entry_texts, entry_data      a stored value: its texts by key, and the object that they make
+--   count_texts, count_data      the same of a struct's counts
+--   SendsReport key ds old new   what a report sends: an object with one key, under which a list stands (why: decision 33)
 use Rattle.std.specs.Prelude.{ℕ, List, [], ◌∷◌, Some, None, codes, decimal}
 use Rattle.serde.specs.Event.{Log, Logs, map_begins, map_ends, seq_begins, field_key}
 use Rattle.serde.specs.declared.name.Case.TheVariants.{AsIs}

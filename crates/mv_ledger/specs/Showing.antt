@@ -1,4 +1,9 @@
 -- How the lines of a show and of an audit are made, and which of them are left.
+--   fields_text fields                 fields with commas between
+--   PutsText text found rest old new   the text of what was found was put after the old one
+--   key_name_text, key_value_text      the text of a key's struct, and of a value given by its words
+--   show_from modules entries n        the lines of a show that are left, after n others
+--   with_first found entries           a stored value that was read, in front of others
 use Rattle.std.specs.Prelude.{◌≡◌, ℕ, ◌+◌, List, [], ◌∷◌, ◌++◌, map, length, Option, Some, None, option_map, unwrap_or}
 use Rattle.std.specs.Borrow.{Bor}
 use Rattle.mv_move_types.specs.Limits.{most_nesting}

@@ -1,4 +1,15 @@
 -- The tallies after a bundle, and after a run.
+-- First the tallies after a bundle, then those after a run (why they stand by module: decision 21).
+--   AddsTallies old new before after      after a bundle each scarce struct has the tally that it had, or an empty one
+--   tallies_at place m had                the tallies of a module, after those of the one that it replaces
+--   with_placed tss placed                all tallies, with those of a bundle's modules
+--   AreWithin count placed                each list of tallies is of a module that is there, or of the next one
+--   place_for old next m                  where a module is to stand
+--   ArePlacedFor old tss next ms placed   the modules of a bundle are placed in order, each with its tallies
+--   tally_after run t                     a tally after a run
+--   HasRoomLeft, HasRoomFor, IsRoomFor    a tally stays within 128 bits
+--   AreInOrder ts                         tallies of a module ascend by index
+-- The others are parts of these.
 use Rattle.std.specs.Prelude.{◌≡◌, ℕ, ◌+◌, ◌^◌, ◌<◌, ◌≤◌, nat_lt, All, Bool, true, cond, List, [], ◌∷◌, ◌++◌, map, drop, length, option_and_then, unwrap_or, slice_get, fold}
 use Rattle.std.specs.List.{list_any}
 use Rattle.std.specs.List.Sorted.{IsStrictlyIncreasing}

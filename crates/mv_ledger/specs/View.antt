@@ -1,4 +1,14 @@
 -- What a ledger holds, and the machine's state that it stands for.
+--   LedgerView, empty_view                   what a ledger holds, with values as words
+--   state_of view                            the machine's ledger that it stands for (why: decision 15)
+--   tallied modules t                        a tally with its struct's name
+--   view_of published stored tallies runs    what a ledger with these parts holds
+--   IsSmall runs t                           a tally is no more than so many runs can have made
+--   AreScarce modules tallies                each module has the tallies of its scarce structs, in order
+--   EachTallyIsScarce                        therefore each tally is of a scarce struct
+--   AreSized published                       texts and certificates are within the limits of a bundle
+--   IsLedger published stored tallies runs   what holds of a ledger's parts between calls
+-- The others are parts of these.
 use Rattle.std.specs.Prelude.{◌≡◌, ℕ, ◌+◌, ◌*◌, ◌≤◌, List, [], ◌∷◌, map, length, All, IsSome, IsTrue, unwrap_or, true}
 use Rattle.std.specs.List.{flat_map, filter, list_all, enumerate_from}
 use Rattle.mv_move_types.specs.Limits.{most_modules, most_runs, most_steps}

@@ -1,11 +1,11 @@
-// A show and an audit in JSON, piece by piece: how the line begins, each entry with its comma, and the end. serde_json writes each
-// entry; no other one stands in memory then.
-ghost use Rattle.std.specs.Prelude.{◌≡◌, ◌≢◌, ◌++◌, length, map, IfOk};
+// A show and an audit in JSON, piece by piece: how the line begins, each entry with the comma behind it, and the end. serde_json
+// writes each entry; no other one stands in memory then.
+ghost use Rattle.std.specs.Prelude.{◌≡◌, ◌≢◌, ◌++◌, ◌-◌, codes, cond, length, map, take, IfOk};
 ghost use Rattle.mv_linker.specs.Link.{tables_in};
 ghost use Rattle.mv_machine.specs.Flat.{storage_of, value_under};
 ghost use Rattle.mv_machine.specs.Lines.{count_object, entry_object, show_json, struct_text};
 ghost use Rattle.mv_ledger.specs.Auditing.{counted_in, counts_json, stored_of};
-ghost use Rattle.mv_ledger.specs.Pieces.{comma_at, TellsPiece};
+ghost use Rattle.mv_ledger.specs.Pieces.{TellsPiece};
 ghost use Rattle.mv_ledger.specs.Plain.{ArePlain, IsPlain};
 ghost use Rattle.mv_ledger.specs.View.{all_of, tallied};
 
@@ -88,10 +88,8 @@ impl<'a> Serialize for CountAudit<'a> {
 pub enum Place {
     /// Not yet begun.
     Opening,
-    /// Up to the first entry.
-    First,
-    /// Up to an entry with another before it.
-    Later,
+    /// Behind its opening: what is left are entries, and the end.
+    Entries,
 }
 
 /// A stored value with its key as JSON.
@@ -124,37 +122,44 @@ fn counts_in_json(alloc: Global, counted: &Counted<'_>) -> Result<Vec<u8>, Alloc
     }
 }
 
-/// An entry behind its comma, where it has one.
-fn with_comma(place: Place, mut entry: Vec<u8>) -> Result<Vec<u8>, AllocError>
-    ensures { IfOk result (λ text. text.items ≡ comma_at place ++ entry.items) }
+/// An entry with a comma behind it.
+fn with_comma(mut entry: Vec<u8>) -> Result<Vec<u8>, AllocError>
+    ensures { IfOk result (λ text. text.items ≡ entry.items ++ codes ",") }
 {
-    if let Place::Later = place {
-        entry.insert(0, b',')?;
-    }
+    entry.push(b',')?;
     Ok(entry)
 }
 
-/// A stored value with its key as JSON, behind its comma.
-fn entry_behind(
+/// An entry with its comma, or without it where it is the last one.
+fn between(mut entry: Vec<u8>, is_last: bool) -> Vec<u8>
+    ensures { result.items ≡ cond is_last (take (length entry.items - 1) entry.items) entry.items }
+{
+    if is_last {
+        entry.pop();
+    }
+    entry
+}
+
+/// A stored value with its key as JSON, and a comma.
+fn entry_before(
     alloc: Global,
-    place: Place,
     store: &Store,
     key: Key,
     words: &[u128],
 ) -> Result<Vec<u8>, AllocError>
-    ensures { IfOk result (λ text. text.items ≡ comma_at place ++ entry_object (tables_in store.now) (record { key = key; value = value_under (tables_in store.now) key words.now })) }
+    ensures { IfOk result (λ text. text.items ≡ entry_object (tables_in store.now) (record { key = key; value = value_under (tables_in store.now) key words.now }) ++ codes ",") }
 {
     let entry = entry_json(alloc, store, key, words)?;
-    with_comma(place, entry)
+    with_comma(entry)
 }
 
-/// A struct's counts as JSON, behind their comma.
-fn counts_behind(alloc: Global, place: Place, counted: &Counted<'_>) -> Result<Vec<u8>, AllocError>
+/// A struct's counts as JSON, and a comma.
+fn counts_before(alloc: Global, counted: &Counted<'_>) -> Result<Vec<u8>, AllocError>
     requires { IsPlain (struct_text counted.now.name) }
-    ensures { IfOk result (λ text. text.items ≡ comma_at place ++ count_object (stored_of (counted_in counted.now)) (counted_in counted.now)) }
+    ensures { IfOk result (λ text. text.items ≡ count_object (stored_of (counted_in counted.now)) (counted_in counted.now) ++ codes ",") }
 {
     let counts = counts_in_json(alloc, counted)?;
-    with_comma(place, counts)
+    with_comma(counts)
 }
 
 /// What is left of the line of a show.
@@ -185,7 +190,7 @@ impl<'a> StoredJson<'a> {
     {
         match self.place {
             Place::Opening => self.open(alloc),
-            Place::First | Place::Later => self.next_entry(alloc),
+            Place::Entries => self.next_entry(alloc),
         }
     }
 
@@ -197,7 +202,7 @@ impl<'a> StoredJson<'a> {
         match Vec::from_slice(alloc, SHOW) {
             Ok(text) => {
                 let StoredJson { store, entries, .. } = self;
-                let place = Place::First;
+                let place = Place::Entries;
                 Ok((
                     text,
                     Some(StoredJson {
@@ -222,15 +227,17 @@ impl<'a> StoredJson<'a> {
                 Err(_) => Err(self),
             };
         };
-        match entry_behind(alloc, self.place, self.store, key, words) {
-            Ok(text) => {
+        match entry_before(alloc, self.store, key, words) {
+            Ok(entry) => {
                 let StoredJson {
                     store,
                     mut entries,
                     ..
                 } = self;
                 entries.skip();
-                let place = Place::Later;
+                let is_last = entries.first().is_none();
+                let text = between(entry, is_last);
+                let place = Place::Entries;
                 Ok((
                     text,
                     Some(StoredJson {
@@ -275,7 +282,7 @@ impl<'a> CountedJson<'a> {
     {
         match self.place {
             Place::Opening => self.open(alloc),
-            Place::First | Place::Later => self.next_entry(alloc),
+            Place::Entries => self.next_entry(alloc),
         }
     }
 
@@ -287,7 +294,7 @@ impl<'a> CountedJson<'a> {
         match Vec::from_slice(alloc, AUDIT) {
             Ok(text) => {
                 let CountedJson { counts, .. } = self;
-                let place = Place::First;
+                let place = Place::Entries;
                 Ok((text, Some(CountedJson { counts, place })))
             }
             Err(_) => Err(self),
@@ -309,9 +316,11 @@ impl<'a> CountedJson<'a> {
                 Err(_) => Err(self),
             };
         };
-        match counts_behind(alloc, self.place, &counted) {
-            Ok(text) => {
-                let place = Place::Later;
+        match counts_before(alloc, &counted) {
+            Ok(entry) => {
+                let is_last = counts.copied().next().is_none();
+                let text = between(entry, is_last);
+                let place = Place::Entries;
                 Ok((text, Some(CountedJson { counts, place })))
             }
             Err(_) => Err(self),

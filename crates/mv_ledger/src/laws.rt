@@ -4,8 +4,10 @@ ghost use Rattle.mv_ledger.specs.Counting.Headline.{EveryCountIsTallied};
 ghost use Rattle.mv_ledger.specs.Counting.Conservation.{EveryRunIsOwnWork, EveryRunConserves};
 ghost use Rattle.mv_ledger.specs.Accepted.Records.{EachRecordIsWell};
 ghost use Rattle.mv_ledger.specs.Plain.{NoTextIsEscaped};
-ghost use Rattle.mv_ledger.specs.View.{EachTallyIsScarce};
-ghost use Rattle.mv_ledger.specs.SavedLaws.{EachLedgerHasOneText, EachTextHasOneLedger, EachSaveIsLoaded, EachLoadIsSound, EachLoadIsOne, EachLoadIsSaved, EachSecondFormComesBack, NoLoadFails};
+ghost use Rattle.mv_ledger.specs.View.{EachTallyIsScarce, state_of};
+ghost use Rattle.mv_ledger.specs.SavedLaws.{EachLedgerHasOneText, EachTextHasOneLedger, EachSaveIsLoaded, EachLoadIsSound, EachLoadIsOne, EachLoadIsSaved, EachSecondFormComesBack, NoLoadFails, NoSaveIsRefused};
+
+use crate::Ledger;
 
 /// Whatever a record asks of a sound ledger, its run ends as it should, and the ledger that its answer leaves is balanced and
 /// sound.
@@ -93,5 +95,16 @@ pub fn no_load_fails()
     ensures { NoLoadFails }
 {
     // For the prover: bytes are read as a module exactly where they are a text of it.
+    mv_binary_format::modules_are_read_by_text();
+}
+
+/// What is saved of a ledger is never refused: loading it answers the ledger, or want of memory.
+pub fn no_save_is_refused(ledger: &Ledger)
+    ensures { NoSaveIsRefused (state_of ledger.now) }
+{
+    // For the prover: what it stands for is sound, and within the limits of a saved ledger; and bytes are read as a module exactly
+    // where they are a text of it.
+    ledger.is_sound();
+    ledger.is_savable();
     mv_binary_format::modules_are_read_by_text();
 }

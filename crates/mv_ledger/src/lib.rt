@@ -46,7 +46,7 @@ pub use laws::{
     each_ledger_has_one_text, each_load_is_one, each_load_is_saved, each_load_is_sound,
     each_record_is_well, each_save_is_loaded, each_second_form_comes_back, each_tally_is_scarce,
     each_text_has_one_ledger, every_count_is_tallied, every_run_conserves, every_run_is_own_work,
-    no_load_fails, no_text_is_escaped,
+    no_load_fails, no_save_is_refused, no_text_is_escaped,
 };
 pub use lines::{Lines, Piece};
 pub use loading::{LoadError, migrate};

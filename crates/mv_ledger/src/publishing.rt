@@ -5,6 +5,7 @@ ghost use Rattle.mv_move_types.specs.Module.{own_name};
 ghost use Rattle.mv_move_types.specs.Named.{module_place};
 ghost use Rattle.mv_ledger.specs.declared.tallies.Placed.{Placed as Standing};
 ghost use Rattle.mv_binary_format.specs.Parsing.{module_of};
+ghost use Rattle.mv_module_text.specs.Laws.{AreBytes};
 ghost use Rattle.mv_certificate.specs.Certificate.{Certificate};
 ghost use Rattle.mv_certificate.specs.Verified.{IsCertifiedBy};
 ghost use Rattle.mv_machine.specs.Ledger.{Publish};
@@ -29,12 +30,20 @@ use std::alloc::{AllocError, Global};
 // How many modules a ledger has at most.
 const MOST_MODULES: usize = 4096;
 
+/// Bytes are bytes.
+pub fn are_bytes(bytes: &[u8])
+    ensures { AreBytes bytes.now }
+{}
+
 /// The module that bytes are the text of, which passed phases 2 to 8.
 fn typed<'a>(alloc: Global, text: &'a [u8]) -> Result<Typed<'a>, Refusal>
     ensures read { IfOk result (λ m. module_of text.entry.now ≡ Some m) }
     ensures text { IfOk result (λ m. Spells text.entry.now m) }
     ensures refused { (certificate : List ℕ) → IfErr result (IsRefusedOffer (record { text = text.entry.now; certificate = certificate })) }
 {
+    // For the prover: bytes spell one module alone.
+    mv_binary_format::modules_are_read_by_text();
+    are_bytes(text);
     let module = mv_binary_format::decode(alloc, text)?;
     let bounded = mv_bounds::check(alloc, module)?;
     // For the prover: the module is in bounds, and its definitions are its own.
@@ -51,8 +60,10 @@ fn certified<'a>(
     ensures same { IfOk result (λ m. m ≡ typed.entry) }
     ensures certified { IfOk result (λ m. IsCertifiedBy m certificate.now) }
     ensures passes { (text : List ℕ) → Spells text typed.entry → IfOk result (λ m. (c : Certificate) × Passes (record { text = text; certificate = certificate.now }) m c) }
-    ensures refused { (text : List ℕ) → Spells text typed.entry → IfErr result (IsRefusedOffer (record { text = text; certificate = certificate.now })) }
+    ensures refused { (text : List ℕ) → AreBytes text → Spells text typed.entry → IfErr result (IsRefusedOffer (record { text = text; certificate = certificate.now })) }
 {
+    // For the prover: bytes spell one module alone.
+    mv_binary_format::modules_are_read_by_text();
     // For the prover: the module is well typed.
     let _sound = typed.module();
     let stated = mv_certificate::decode(alloc, &typed, certificate)?;
@@ -70,6 +81,8 @@ pub fn verified<'a>(alloc: Global, offer: &Offered<'a>) -> Result<New<'a>, Refus
     ensures texts { IfOk result HasItsTexts }
     ensures refused { IfErr result (IsRefusedOffer (offer_of offer.now)) }
 {
+    // For the prover: what is offered is bytes.
+    are_bytes(offer.text);
     let typed = typed(alloc, offer.text)?;
     let module = certified(alloc, typed, offer.certificate)?;
     Ok(New {

@@ -13,7 +13,7 @@ ghost use Rattle.mv_interface.specs.Shapes.{structs_in};
 ghost use Rattle.mv_ledger.specs.Publishing.{offered};
 ghost use Rattle.mv_ledger.specs.RecordText.{leaf_bytes, offer_text, sized};
 ghost use Rattle.mv_ledger.specs.SavedText.{head_text, keyed_from, struct_text, Second};
-ghost use Rattle.mv_ledger.specs.Parts.Saving.{counts_text, section_at, sections_of, struct_under, AddsValue, AreSections, IsEmpty, IsWritable, KnowsKinds, written};
+ghost use Rattle.mv_ledger.specs.Parts.Saving.{counts_text, leaf_length, section_at, sections_of, struct_under, AddsValue, AreSections, IsEmpty, IsWritable, KnowsKinds, written};
 ghost use Rattle.mv_ledger.specs.View.{all_of};
 
 use crate::layouts::Layouts;
@@ -106,7 +106,9 @@ fn put_leaves(text: &mut Vec<u8>, kinds: &[LeafKind], words: &[u128]) -> Result<
 }
 
 /// How many bytes a leaf of a kind has.
-fn leaf_size(kind: LeafKind) -> usize {
+fn leaf_size(kind: LeafKind) -> usize
+    ensures { result ≡ leaf_length kind }
+{
     match kind {
         LeafKind::Boolean | LeafKind::Number(Width::U8) => 1,
         LeafKind::Number(Width::U16) => 2,

@@ -66,7 +66,7 @@ pub use Rattle.mv_linker.proofs.Counted.{count_after}
 pub use Rattle.mv_linker.proofs.KeptSlots.{IsSlot, KeepsSlots}
 pub use Rattle.mv_linker.specs.Code.{called, entered, entered_in, operation, operations, operations_from, program}
 pub use Rattle.mv_linker.specs.Codes.{IsCallee, IsCode, IsSlotOf}
-pub use Rattle.mv_linker.specs.DependencyGraph.{AreHandlePlaces, IsOrdered, others}
+pub use Rattle.mv_linker.specs.DependencyGraph.{AreHandlePlaces, AreNeeds, IsOrdered, others}
 pub use Rattle.mv_linker.specs.Found.{AreOutlines, AreTargets, IsFound, IsTarget}
 pub use Rattle.mv_linker.specs.FoundStructs.{AreFoundFor, IsFoundAt}
 pub use Rattle.mv_interface.specs.Identifiers.{struct_identifier}
@@ -88,7 +88,8 @@ pub use Rattle.mv_linker.specs.Operations.{Write as WriteOperation}
 pub use Rattle.mv_linker.specs.Relinked.{AreSizesAt, IsSmallAt, IsStruct, Joins}
 pub use Rattle.mv_linker.specs.Resolved.{AreCallees, AreResolved, AreWidths, callee_of, width_of_handle}
 pub use Rattle.mv_linker.specs.Scope.{all_named, found_among, offered, place_for, places_in, with_table, with_tables}
-pub use Rattle.mv_linker.specs.ScopeDependencies.{AreDependenciesIn, ArePlaces}
+pub use Rattle.mv_linker.specs.ScopeDependencies.{AreDependenciesIn, AreNeedsAt}
+pub use Rattle.mv_linker.proofs.Terms.{ArePlaces}
 pub use Rattle.mv_interface.specs.Shapes.{AreFieldsAt, AreParts, IsPart, has_key, is_keyed, part_by, parts_by, structs_in}
 pub use Rattle.mv_linker.specs.Sizes.{AreDefined, AreSizes, AreSmall, IsDefined, IsSized, Total, greater, next_rows, row_of, rows_after, size_at, size_of_struct}
 pub use Rattle.mv_linker.specs.Sizes.{size_of_token, small_size, total_of}
@@ -96,8 +97,7 @@ pub use Rattle.mv_linker.specs.StoreRules.{Links, Reaches, depends_on, directly,
 pub use Rattle.mv_linker.specs.StoreRules.{modules_are_there, names_hold, names_module, struct_is_small, struct_is_there, structs_are_there}
 pub use Rattle.mv_linker.specs.Slots.{AreCarried, AreFilled, AreOnce, AreSlots, GivesSlot, GoOn, IsFilled, IsMoved, IsOpen, IsOpenAt, callee_by, exports_at, exports_from, slot_number, slot_of}
 pub use Rattle.mv_linker.specs.Slotted.{AreSlotted, IsSlotted}
-pub use Rattle.mv_linker.specs.Stored.{AreCodesOf, AreDependenciesOf, AreLowered, AreNames, AreNamesOf, IsLinkedTo, IsSizeAt, KeepsDependencies, LinkedBundle, with_at, with_codes}
-pub use Rattle.mv_linker.specs.Stored.{with_dependencies}
+pub use Rattle.mv_linker.specs.Stored.{AreCodesOf, AreLowered, AreNames, AreNamesOf, IsLinkedTo, IsSizeAt, LinkedBundle, with_at, with_codes}
 pub use Rattle.mv_linker.specs.Targets.{AreFunctionsAt, AreStructsAt, EachAt, IsFunctionAt, IsFunctionIn, IsStructAt, modules_in}
 pub use Rattle.mv_interface.specs.TypesByName.{both_there, same_signature, same_types, signature_named, token_named, tokens_named, value_type_named}
 pub use Rattle.mv_linker.specs.Upgrades.{function_stays, have_one_type, may_replace, same_fields, same_struct_definition, structs_stay}
@@ -107,8 +107,6 @@ pub use Rattle.mv_linker.specs.declared.New.{New}
 pub use Rattle.mv_linker.specs.declared.store.code.Callee.{Callee}
 pub use Rattle.mv_linker.specs.declared.store.code.Code.{Code}
 pub use Rattle.mv_linker.specs.declared.store.code.CodeAt.{CodeAt}
-pub use Rattle.mv_linker.specs.declared.store.dependencies.Dependencies.{Dependencies}
-pub use Rattle.mv_linker.specs.declared.store.dependencies.DependenciesAt.{DependenciesAt}
 pub use Rattle.mv_linker.specs.declared.store.entry.Name.{Name}
 pub use Rattle.mv_linker.specs.declared.store.entry.Texts.{Texts}
 pub use Rattle.mv_interface.specs.declared.interface.Interface.{Interface}

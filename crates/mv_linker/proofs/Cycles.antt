@@ -6,7 +6,7 @@
 --   Graphs            `named_there`: chains of modules, and modules that handles name
 --   JoinedOrder       `names-stay`: the order of modules once a bundle joins
 --   DependencyLemmas  `one-more`, `places-within`: dependencies, place by place
---   DependenciesStay  `those-stay`, `keeps-dependencies`: those of a module that stays are the same
+--   DependenciesStay  `those-stay`: those of a module that stays are the same
 --   PlaceBits         sets of places as bits
 --   Settled           `ordered-by`, `settled-first`: modules that are in order by themselves, and when all are
 --   Searching         `search-loops`, `search-ends`: the search for a chain that leads back

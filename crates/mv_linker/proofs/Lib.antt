@@ -22,3 +22,4 @@ pub mod Cycles
 pub mod StructSizes
 pub mod LinkedCode
 pub mod Kept
+pub mod Terms

@@ -7,6 +7,7 @@ use Rattle.mv_linker.specs.declared.store.code.Callee.{Callee}
 use Rattle.mv_linker.specs.declared.store.code.Callee.TheVariants.{Own, Foreign}
 use Rattle.mv_linker.specs.declared.store.code.Code.{Code}
 use Rattle.mv_interface.specs.Interface.{IsInterface}
+use Rattle.mv_linker.specs.DependencyGraph.{AreNeeds}
 use Rattle.mv_linker.specs.Lowered.{AreOthers, AreOwnSizes, IsCalled, IsLowered}
 use Rattle.mv_linker.specs.Resolved.{AreWidths}
 use Rattle.mv_linker.specs.Slots.{AreSlots, IsOpen}
@@ -36,3 +37,4 @@ pub record IsCode (modules : List Module) (codes : List Code) (place : ℕ) (m :
   pub others : AreOthers modules m code.others.items
   pub sizes : AreOwnSizes modules m code.sizes.items
   pub interface : IsInterface modules m code.interface
+  pub needs : AreNeeds modules m code.needs

@@ -1,4 +1,8 @@
 -- A published module as the store keeps it.
+--   Kept, published_in kept                       a published module with its name; and the modules alone
+--   name_in key                                   the name that a key of the store stands for
+--   published_as texts, published_under entries   the published module that has these texts; and all those of a store
+--   AreKeyed entries                              each module stands under its own name
 use Rattle.std.specs.Prelude.{◌≡◌, List, All, map, Some}
 use Rattle.std.specs.Cow.{cow_slice_items}
 use Rattle.mv_move_types.specs.Names.{ModuleName}

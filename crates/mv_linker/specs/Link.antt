@@ -1,4 +1,13 @@
 -- What a bundle has to be, over the whole store that results.
+--   AreSentBy sender bundle            each module's address is the sender's, if there is one
+--   tables_in published                the modules' tables
+--   IsPublishable p                    what a module of a store passed: phases 2 to 12
+--   IsStore store                      a store: each module passed, names differ, and the modules name each other as they are
+--   are_compatible old bundle          each module of a bundle may replace the one whose place it takes
+--   MayJoin sender old bundle result   a bundle may join the store
+--   replaced_in old n                  the place of the old module that has the name of n
+--   follows, all_follow                are_compatible, asked module by module
+-- is_sent_by is a part of these. Rules c to g are in StoreRules.antt, rule h in Upgrades.antt.
 use Rattle.std.specs.Prelude.{◌≡◌, ℕ, Bool, true, false, not, ◌==◌, ◌||◌, List, map, All, Option, Some, None, IsTrue, ⊤}
 use Rattle.std.specs.Option.{option_map_or}
 use Rattle.std.specs.List.{list_all}

@@ -1,4 +1,9 @@
 -- The modules that a store has once a bundle joins it, and where each of the bundle stands among them.
+--   offered news                        the modules of a bundle
+--   with_table, with_tables             the modules with one more, and with a bundle: each takes the place of its name, or the last one
+--   place_for, places_in                the place that a module takes, and those that a bundle's take
+--   all_named ns                        whether modules have names
+--   found_among name ns places before   where a bundle's last module of a name stands, otherwise what was found before
 use Rattle.std.specs.Prelude.{ℕ, Bool, cond, is_some, List, [], ◌∷◌, length, map, Option, Some, unwrap_or}
 use Rattle.std.specs.List.{list_all}
 use Rattle.mv_move_types.specs.Names.{ModuleName}

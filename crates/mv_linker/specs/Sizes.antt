@@ -1,4 +1,13 @@
 -- Sizes of structs: their leaf values and their nesting.
+-- First what a size is, then the rounds in which sizes are found (why in rounds: decision 30).
+--   IsSized modules name size            a struct has these numbers of leaves and of nesting
+--   IsDefined, AreDefined                what struct handles name: a struct whose size is known, or one of the bundle
+--   AreSizes modules bundle sizes        the sizes of a bundle's structs, which are within the limits
+--   AreSmall modules bundle              each struct of a bundle is within the limits
+--   size_of_struct rows defined fields   a struct's size by those that are known of its fields
+--   next_rows, rows_after                what is known after one more round, and after so many
+--   AreFinalRows bundle handles rows     what is known after the last round
+-- The others are parts of these.
 use Rattle.std.specs.Prelude.{◌≡◌, ℕ, zero, suc, ◌+◌, ◌<◌, ◌≤◌, is_some, ◌⊎◌, ◌&&◌, nat_le, nat_lt, cond, IsTrue, List, [], ◌∷◌, length, map, Option, Some, None, slice_get, unwrap_or}
 use Rattle.std.specs.List.{list_all}
 use Rattle.mv_move_types.specs.Limits.{most_leaves, most_nesting}

@@ -1,4 +1,13 @@
 -- What the modules of a store have to be to each other: rules c to g of linking.
+--   modules_are_there store m h           c: the modules that the handles name are in the store
+--   structs_are_there store m h handles   d: the structs are there, with the same abilities
+--   function_named m name                 the function of a module with this identifier
+--   function_is_there store m handle      e: the function is there, with the same types, and public if it is another module's
+--   depends_on m n, Reaches store         f: a module has a handle of another one, and a chain of such handles
+--   struct_is_small store m d             g: a struct is within the limits of leaves and of nesting
+--   Links store                           the modules of a store keep rules c to g
+--   names_hold store m                    a module keeps c, d and e
+-- The others are parts of these. How c to e are tested: decision 82; f: decision 31; g: decision 30.
 use Rattle.std.specs.Prelude.{ℕ, zero, suc, ◌+◌, Bool, true, false, not, ◌&&◌, ◌||◌, nat_le, IsTrue, List, [], ◌∷◌, length, Option, Contains, slice_get}
 use Rattle.std.specs.List.{list_all, list_any}
 use Rattle.std.specs.Option.{option_map_or}

@@ -1,4 +1,9 @@
 -- What a module has to keep of the one that it replaces: rule h of linking.
+--   same_fields m fs n gs    two lists of fields have the same names and types, in order
+--   structs_stay m ds n es   the old struct definitions stand in their places, with names, abilities and fields
+--   function_stays m n d     a public function stays public, with the same types
+--   may_replace m n          rule h: the module n may take the place of m
+-- The others are parts of these. How this is tested: decision 83.
 use Rattle.std.specs.Prelude.{Bool, true, false, not, ◌&&◌, ◌||◌, List, [], ◌∷◌, slice_get}
 use Rattle.std.specs.List.{list_all}
 use Rattle.std.specs.Option.{option_map_or}

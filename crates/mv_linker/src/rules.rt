@@ -7,7 +7,7 @@ ghost use Rattle.mv_bounds.specs.Definitions.{all_differ};
 ghost use Rattle.mv_linker.specs.Link.{MayJoin, AreSentBy, IsPublishable, tables_in, have_one_name, is_sent_by};
 ghost use Rattle.mv_linker.specs.Kept.{Kept, published_in};
 ghost use Rattle.mv_linker.specs.News.{published_of};
-ghost use Rattle.mv_linker.specs.Stored.{AreLowered, KeepsDependencies};
+ghost use Rattle.mv_linker.specs.Stored.{AreLowered};
 
 mod acyclic;
 mod named_functions;
@@ -21,29 +21,28 @@ mod small_structs;
 pub mod store_rules;
 mod upgrades;
 
+use crate::lowering::to_link::Lowered;
 use crate::rules::scope::Scope;
-use crate::rules::store_rules::Changes;
 use crate::store::entry::Entry;
 use crate::store::indexed::put_name;
 use crate::{New, Store};
 use indexmap::IndexMap;
-use mv_move_types::Refusal;
+use mv_move_types::{Address, Refusal};
 use std::alloc::{AllocError, Global};
 
 /// Tries all the rules for a bundle, and links it.
 pub fn may_join(
     alloc: Global,
     s: &Store,
-    sender: Option<u128>,
+    sender: Option<Address>,
     added: &[Entry],
     new: &[New<'_>],
-) -> Result<Changes, Refusal>
+) -> Result<Vec<Lowered>, Refusal>
     requires same { published_in added.now ≡ published_of new.now }
     requires few { length s.now + length new.now ≤ 65536 }
     requires passed { All IsPublishable (published_of new.now) }
     ensures ok { OnOk result (MayJoin sender (tables_in s.now) (tables_in (published_of new.now)) (tables_in (with_modules s.now (published_of new.now)))) }
-    ensures lowered { IfOk result (λ c. AreLowered (tables_in s.now) (tables_in (published_of new.now)) (tables_in (with_modules s.now (published_of new.now))) c.lowered.items) }
-    ensures dependencies { IfOk result (λ c. KeepsDependencies (tables_in s.now) (tables_in (with_modules s.now (published_of new.now))) c.dependencies.items) }
+    ensures lowered { IfOk result (λ v. AreLowered (tables_in s.now) (tables_in (published_of new.now)) (tables_in (with_modules s.now (published_of new.now))) v.items) }
     ensures refused { IfErr result (IsRefusedIn 13 (MayJoin sender (tables_in s.now) (tables_in (published_of new.now)) (tables_in (with_modules s.now (published_of new.now))))) }
 {
     if !are_sent_by(sender, added) {
@@ -61,7 +60,7 @@ pub fn may_join(
 }
 
 /// Whether the modules are the sender's, where one is given.
-fn are_sent_by(sender: Option<u128>, added: &[Entry]) -> bool
+fn are_sent_by(sender: Option<Address>, added: &[Entry]) -> bool
     ensures { IsTrue result ↔ AreSentBy sender (tables_in (published_in added.now)) }
 {
     match sender {
@@ -71,14 +70,7 @@ fn are_sent_by(sender: Option<u128>, added: &[Entry]) -> bool
 }
 
 /// Whether all the modules are the sender's.
-fn all_sent(sender: u128, added: &[Entry]) -> bool
-    ensures { result ≡ list_all (is_sent_by sender) (tables_in (published_in added.now)) }
-{
-    each_sent(sender, added)
-}
-
-/// Whether each module is the sender's.
-fn each_sent(sender: u128, added: &[Entry]) -> bool
+fn all_sent(sender: Address, added: &[Entry]) -> bool
     ensures { result ≡ list_all (λ (k : Kept). is_sent_by sender k.published.tables) added.now }
 {
     added.iter().all(|e| is_sent(sender, e))
@@ -95,7 +87,7 @@ fn names_differ(alloc: Global, added: &[Entry]) -> Result<bool, AllocError>
 }
 
 /// Whether a module's address is the sender's.
-fn is_sent(sender: u128, e: &Entry) -> bool
+fn is_sent(sender: Address, e: &Entry) -> bool
     ensures { result ≡ is_sent_by sender e.now.published.tables }
 {
     let _name = e.name();

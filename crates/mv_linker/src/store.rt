@@ -13,20 +13,17 @@ pub mod places;
 mod stored;
 
 use code::Code;
-use dependencies::Dependencies;
-use entry::{Name, Texts};
+use entry::{Name, Texts, asked_for};
 use indexmap::IndexMap;
+use mv_move_types::Address;
 use std::alloc::Global;
-use std::borrow::CowSlice;
 use std::marker::Model;
 
-/// The published modules by their names, in order of publication, with their linked code and what each depends on. Its model is
-/// their list, with their texts.
+/// The published modules by their names, in order of publication, with their linked code. Its model is their list, with their texts.
 #[derive(Drop)]
 pub struct Store {
     pub(crate) modules: IndexMap<Name<'static>, Texts>,
     pub(crate) codes: Vec<Code>,
-    pub(crate) dependencies: Vec<Dependencies>,
 }
 
 impl Model for Store {
@@ -34,7 +31,7 @@ impl Model for Store {
     ghost use Rattle.mv_move_types.specs.Published.{PublishedModule};
     ghost use Rattle.mv_linker.specs.Kept.{AreKeyed, published_under};
     ghost use Rattle.mv_linker.specs.Link.{IsStore, tables_in};
-    ghost use Rattle.mv_linker.specs.Stored.{AreCodesOf, AreDependenciesOf};
+    ghost use Rattle.mv_linker.specs.Stored.{AreCodesOf};
 
     ghost Value = { List PublishedModule };
 
@@ -42,7 +39,6 @@ impl Model for Store {
 
     ghost invariant = { λ s. IsStore (published_under s.modules.entries) × AreKeyed s.modules.entries
         × AreCodesOf (tables_in (published_under s.modules.entries)) s.codes.items
-        × AreDependenciesOf (tables_in (published_under s.modules.entries)) s.dependencies.items
         × length (published_under s.modules.entries) ≤ 65536 };
 }
 
@@ -54,7 +50,6 @@ impl Store {
         Store {
             modules: IndexMap::new(alloc),
             codes: Vec::new(alloc),
-            dependencies: Vec::new(alloc),
         }
     }
 
@@ -68,14 +63,10 @@ impl Store {
     }
 
     /// The place of the module with this address and name in the order of publication.
-    pub fn find(&self, address: u128, name: &[u8]) -> Option<usize>
+    pub fn find(&self, address: Address, name: &[u8]) -> Option<usize>
         ensures { result ≡ module_place (tables_in self.now) (record { address = address; name = name.now }) }
     {
-        let asked = Name {
-            address,
-            identifier: CowSlice::Borrowed(name),
-        };
-        self.modules.get_index_of(&asked)
+        self.modules.get_index_of(&asked_for(address, name))
     }
 
     // What it allocates with.

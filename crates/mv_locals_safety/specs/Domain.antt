@@ -1,4 +1,11 @@
 -- The availabilities of a function's locals as a domain of states.
+--   Function                      a function, with the tables of its module
+--   IsOfLocals m d locals         one availability for each local
+--   locals_step m d at locals     what the instruction at a place makes of the availabilities
+--   least_above a b, joined a b   the join of two availabilities, and of two states
+--   moved_out l locals            the availabilities after a move out of a local
+--   is_droppable, may_stay        whether what a local may still hold may be left behind
+--   Follows result new after      the new state is the one after, or a need fails
 use Rattle.std.specs.Prelude.{◌≡◌, ℕ, Bool, true, false, ◌-◌, List, [], length, map, zip, Option, Some, None, Result, Ok, Err, slice_get, slice_set}
 use Rattle.std.specs.Option.{option_map_or}
 use Rattle.mv_move_types.specs.declared.borrow.Availability.{Availability}

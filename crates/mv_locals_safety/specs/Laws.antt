@@ -1,4 +1,4 @@
--- The order is one, and a step leaves one availability a local, and keeps the order.
+-- The order is one, joins are least above both, and a step leaves one availability a local, and keeps the order.
 -- It stands in specs/, since a trait's laws may cite nothing of their own crate but its specs/.
 use Rattle.std.specs.Prelude.{⊤, ◌≡◌, ℕ, List, [], ◌∷◌, Bool, true, false, IsTrue, Option, Some, None, length, slice_get, slice_set}
 use Rattle.std.specs.Bool.{then_some}
@@ -14,7 +14,8 @@ use Rattle.mv_move_types.specs.Module.{Module, FunctionDefinition, local_tokens,
 use Rattle.mv_type_states.specs.TypesHold.{Point, point_at}
 use Rattle.mv_lattice.specs.Laws.{IsLawful}
 use Rattle.mv_locals_safety.specs.LocalsRules.{availability_leq, locals_leq, locals_after, is_available, needs_available, may_overwrite, may_leave}
-use Rattle.mv_locals_safety.specs.Domain.{IsOfLocals, locals_step}
+use Rattle.mv_locals_safety.specs.Domain.{IsOfLocals, joined, locals_step}
+use Rattle.mv_locals_safety.specs.Joins.{joined_left, joined_right, joined_least, joined_length}
 use Rattle.mv_locals_safety.specs.Rising.{step_below, reflexive_one}
 use Rattle.mv_binary_format.proofs.Binds.{bind_some}
 
@@ -67,10 +68,14 @@ leq_transitive (x ∷ a) (y ∷ b) (z ∷ c) p q =
     let qs = and_parts (availability_leq y z) (locals_leq b c) q in
     rw (transitive_one x y z ps.0 qs.0) (leq_transitive a b c ps.1 qs.1)
 
-pub locals_lawful : (m : Module) (d : FunctionDefinition) → IsLawful (length d.code) (IsOfLocals m d) (λ s. ⊤) (λ a b. IsTrue (locals_leq a b)) (locals_step m d) (λ g. ⊤)
+pub locals_lawful : (m : Module) (d : FunctionDefinition) → IsLawful (length d.code) (IsOfLocals m d) (λ s. ⊤) (λ a b. IsTrue (locals_leq a b)) joined (locals_step m d) (λ g. ⊤)
 locals_lawful m d = record {
   reflexive = λ a h. leq_reflexive a;
   transitive = λ a b c ha hb hc p q. leq_transitive a b c p q;
+  joins = λ a b ha hb.
+      let same : length a ≡ length b = ha ∙ sym hb in
+      record { valid = joined_length a b same ∙ ha; left = joined_left a b same; right = joined_right a b same; least = λ u _ p q. joined_least a b u same p q };
+  joins_begin = λ a b _ _ _ _. tt;
   keeps = λ at a b within h e. bind_some (slice_get d.code at) (λ i. locals_after (point_at m d []) i a) b e (λ i _ after. locals_after_keeps (point_at m d []) i a b after ∙ h);
   monotone = λ at a b v within ha hb le e. step_below m d at a b le v e;
   begins = λ g k n b a t graph block next ha begin e. tt;

@@ -1,4 +1,10 @@
 -- What is known of locals, its order, and the rules that change it.
+--   availability_leq, locals_leq   the order of availabilities, and of states: Maybe is above both others
+--   start_locals m d               the state at a function's start: its parameters hold values
+--   needs_available l              the local holds a value: it may be read, moved or borrowed
+--   store_known, leave_known       StLoc and Ret: what may be lost has to have drop
+--   locals_after p i locals        phase 10: the state after an instruction, if the one before it is what it needs
+-- The others are parts of these.
 use Rattle.std.specs.Prelude.{Bool, true, false, ◌&&◌, List, [], ◌∷◌, ℕ, Option, slice_get, Some, slice_set, ◌++◌, ◌-◌, length, replicate}
 use Rattle.std.specs.Bool.{then_some}
 use Rattle.std.specs.Option.{option_map_or}

@@ -41,13 +41,9 @@ fn function_at<'t>(home: &'t Module<'_>, f: usize) -> &'t FunctionDefinition
 fn may_remain(m: &Bounded<'_>, token: Token, a: Availability) -> bool
     ensures { result ≡ may_stay m.now token a }
 {
-    let is_droppable = match mv_abilities::of(m, token) {
-        Some(abilities) => abilities.drop,
-        None => false,
-    };
     match a {
         Availability::Unavailable => true,
-        Availability::Available | Availability::Maybe => is_droppable,
+        Availability::Available | Availability::Maybe => mv_abilities::of(m, token).drop,
     }
 }
 
@@ -194,7 +190,7 @@ impl<'t, 'm> LocalsDomain<'t, 'm> {
 impl<'t, 'm> Domain for LocalsDomain<'t, 'm> {
     ghost use Rattle.std.specs.Prelude.{◌≡◌, ⊤, Option, length, IfOk, IsErrOf, IsTrue};
     ghost use Rattle.mv_locals_safety.specs.LocalsRules.{locals_leq};
-    ghost use Rattle.mv_locals_safety.specs.Domain.{IsOfLocals, locals_step};
+    ghost use Rattle.mv_locals_safety.specs.Domain.{IsOfLocals, joined as joined_each, locals_step};
     ghost use Rattle.mv_locals_safety.specs.Laws.{locals_lawful};
 
     type State = Availabilities;
@@ -212,6 +208,8 @@ impl<'t, 'm> Domain for LocalsDomain<'t, 'm> {
 
     ghost below = { λ d a b. IsTrue (locals_leq a b) };
 
+    ghost joined = { λ d a b. joined_each a b };
+
     ghost steps = { λ d at s. locals_step d.home d.function at s };
 
     ghost is_small = { λ d s. ⊤ };
@@ -228,7 +226,7 @@ impl<'t, 'm> Domain for LocalsDomain<'t, 'm> {
         a.is_below(b)
     }
 
-    #[tactic(auto, using(crate::proofs::Order::joined_left, crate::proofs::Order::joined_right, crate::proofs::Order::joined_least, crate::proofs::Order::joined_length))]
+    #[tactic(auto, using(crate::specs::Joins::joined_left, crate::specs::Joins::joined_right, crate::specs::Joins::joined_least, crate::specs::Joins::joined_length))]
     fn join(
         &self,
         alloc: Global,

@@ -1,4 +1,16 @@
 -- The ledger's state, its requests, and what each request changes and answers.
+-- First the ledger's state and what records ask, then what each of these changes, then what it answers.
+--   LedgerState, modules_of s              published modules, storage, tallies and number of runs; and the modules' tables
+--   Offer, RunRequest, Format              what a publish, a run, and a show or an audit give
+--   Request                                what a record asks
+--   scarce_structs modules                 the structs with neither copy nor drop, which alone a ledger tallies (why: decision 47)
+--   with_bundle s bundle                   the ledger after a bundle
+--   AreRead                                published modules are the offered ones
+--   admitted s r                           the call that a run asks for, or the first reason against it
+--   settled s outcome                      the reply to a run, and the ledger after it
+--   shown, audited                         the lines of a show and of an audit
+--   Answers IsText old request reply new   what the ledger may reply to a request, and where it goes on to
+-- The others are parts of these.
 use Rattle.std.specs.Prelude.{ℕ, List, [], map, cond, Option, Some, None, flat_map, filter_map, find, unwrap_or, Bool, false, ◌∷◌, ◌≡◌, true, ◌&&◌}
 use Rattle.std.specs.Prelude.{nat_lt, nat_le, Result, Ok, ok_or, slice_get, ◌+◌, Err, length}
 use Rattle.mv_machine.specs.State.{Storage, Event}

@@ -1,4 +1,14 @@
 -- The texts of the report.
+-- First values and names, then show and audit, then the same in JSON, then replies.
+--   address_text, struct_text, value_text   how an address, a struct and a value are written
+--   Tallied                                 how often values of a struct were packed and unpacked in runs that returned
+--   show_lines modules storage              the lines of a show
+--   audit_lines storage tallies             the lines of an audit
+--   show_json, audit_json                   the same in one line of JSON, byte by byte (why: decision 33)
+--   Reply                                   what the ledger may reply to a record
+--   reply_lines reply                       its lines
+--   numbered n text                         a line of the report, with its record's number
+-- The others are parts of these.
 use Rattle.std.specs.Prelude.{ℕ, ◌+◌, ◌/◌, ◌%◌, ◌==◌, nat_lt, cond, codes, decimal, List, [], ◌∷◌, ◌++◌, map, flat_map, length}
 use Rattle.std.specs.Option.{option_map_or}
 use Rattle.std.specs.Int.{w128, to_be_bytes}

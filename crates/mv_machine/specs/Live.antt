@@ -1,4 +1,9 @@
 -- Which references are live, and which places overlap.
+--   reference_of, references   the reference that a value is, and those among values
+--   frame_references f         the references in a frame's locals and operands
+--   live s                     those of all frames
+--   overlap p q                two places of which one is a part of the other
+--   is_frozen_by rs p          whether one of these references is immutable and overlaps the place
 use Rattle.std.specs.Prelude.{Option, Some, None, List, filter_map, option_and_then, ◌++◌, flat_map, Bool, false, ◌&&◌, ◌==◌, ◌||◌, not}
 use Rattle.std.specs.List.{list_any}
 use Rattle.mv_machine.specs.Value.{Reference, Value, Leaf, Struct, Ref, Root, Local, Stored, Place}

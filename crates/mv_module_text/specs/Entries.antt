@@ -1,4 +1,14 @@
 -- The text of each entry of a module: its bytes.
+-- First types, then handles, signatures, constants, names and addresses, then structs, code and functions. Most names end in `_text`:
+-- the bytes of an entry of that kind. Fits.antt says which entries have a text, and Parsing.antt reads them.
+--   counted each xs                                  a count, and so many parts: how every list is written
+--   leaf_token kind, token_text t                    the byte of a leaf type, and the bytes of any type
+--   ability_bits a                                   the abilities as four bits
+--   signature_text, constant_text, identifier_text   types after their number, a type with bytes, a name after its length
+--   address_text a                                   16 bytes, big-endian
+--   number_text w n                                  a number in the bytes of its width, little-endian
+--   instruction_text i                               an opcode and its immediate
+--   function_definition_text d                       a function, with its code
 use Rattle.std.specs.Prelude.{ℕ, ◌+◌, List, ◌++◌, flat_map, length, [], ◌∷◌, cond}
 use Rattle.std.specs.Int.{w16, w32, w64, w128, to_le_bytes, to_be_bytes}
 use Rattle.mv_uleb.specs.Uleb.{uleb}

@@ -1,4 +1,14 @@
 -- Which entries have a text.
+-- In the order of Entries.antt. Most names end in `_fits`: whether an entry of that kind has a text, in this version if that matters.
+--   is_index n                                 whether a number can be an index or a count: it has 16 bits
+--   token_fits version t                       u16 and u32 are types of version 6 alone
+--   signature_fits version tokens              at most 64 types
+--   is_byte b                                  whether a number is a byte
+--   is_identifier name, identifier_fits name   what a name may be; and at most 128 bytes of it
+--   address_fits a                             a number of 128 bits
+--   struct_definition_fits version d           at most 32 fields
+--   is_late i, instruction_fits version i      the instructions of version 6 alone; and an immediate in its range
+--   function_definition_fits version d         at most 4,096 instructions
 use Rattle.std.specs.Prelude.{ℕ, ◌^◌, Bool, not, nat_lt, true, ◌&&◌, nat_le, List, length, ◌||◌, ◌==◌, false, [], ◌∷◌}
 use Rattle.std.specs.List.{list_all}
 use Rattle.mv_move_types.specs.Limits.{most_fields, most_instructions, most_name_bytes, most_types}

@@ -1,4 +1,18 @@
 -- The entry that stands at the front of bytes, and the bytes after it.
+-- First numbers, bytes and lists, then types, then entries in the order of Entries.antt. Most names end in `_from`: what stands at the
+-- front of the bytes, with those after it, or nothing.
+--   Read A                                         something read, and the bytes after it
+--   index_from, byte_from, mark_from, bytes_from   an index or a count, a byte, a byte that has to be this one, so many bytes
+--   entries_from each n, counted_from most each    so many entries; and a count, with so many
+--   all_from each turns                            entries up to the end of the bytes
+--   number_of_from w                               a number in the bytes of its width
+--   leaf_rows, kind_of version code                the tokens of leaf types
+--   token_from version                             a type
+--   identifier_from, address_from                  a name, and an address
+--   form_of, bare_of, indexed_of                   an opcode's form, and the instruction of a form
+--   instruction_from version                       an instruction
+--   function_definition_from version               a function, with its code
+-- The others read the other entries, or are parts of these. What is read depends on the version (why: decision 24).
 use Rattle.std.specs.Prelude.{ℕ, zero, suc, ◌==◌, nat_le, Bool, true, false, not, ◌&&◌, ◌||◌, cond, option_map, find, List, [], ◌∷◌, take, drop, length, Option, Some, None, bit_and}
 use Rattle.std.specs.Bool.{then_some}
 use Rattle.std.specs.Int.{w128, from_be_bytes}

@@ -14,8 +14,8 @@ ghost use Rattle.mv_module_text.specs.Reads.{Reads, ReadsAs, Marks, Collects};
 use crate::{Constant, codes};
 use byteorder::{BigEndian, ByteOrder, LittleEndian};
 use mv_move_types::{
-    Field, FieldHandle, FunctionHandle, Instruction, LeafKind, ModuleHandle, Refusal, StructHandle,
-    Token, ValueType, Version, Visibility, Width,
+    Address, Field, FieldHandle, FunctionHandle, Instruction, LeafKind, ModuleHandle, Refusal,
+    StructHandle, Token, ValueType, Version, Visibility, Width,
 };
 use std::alloc::Global;
 use std::marker::Model;
@@ -254,7 +254,7 @@ impl<'a> Reader<'a> {
     }
 
     /// Reads an address: the number that its 16 bytes are, big-endian.
-    pub fn address(&mut self) -> Result<u128, Refusal>
+    pub fn address(&mut self) -> Result<Address, Refusal>
         ensures { Reads address_from self.old result self.new }
     {
         let bytes = self.bytes(16)?;

@@ -14,7 +14,7 @@ ghost use Rattle.mv_module_text.specs.Entries.{field_handle_text};
 
 use byteorder::{ByteOrder, LittleEndian};
 use mv_move_types::{
-    Field, FieldHandle, FunctionHandle, Immediate, Instruction, LeafKind, ModuleHandle,
+    Address, Field, FieldHandle, FunctionHandle, Immediate, Instruction, LeafKind, ModuleHandle,
     StructHandle, Token, ValueType, Visibility, Width,
 };
 use std::alloc::AllocError;
@@ -174,7 +174,7 @@ pub fn write_identifier(name: &[u8], out: &mut Vec<u8>) -> Result<(), AllocError
 }
 
 /// Writes an address, big-endian.
-pub fn write_address(address: u128, out: &mut Vec<u8>) -> Result<(), AllocError>
+pub fn write_address(address: Address, out: &mut Vec<u8>) -> Result<(), AllocError>
     ensures { Writes (address_text address) out.old.items result out.new.items }
 {
     out.extend_from_slice(&address.to_be_bytes())

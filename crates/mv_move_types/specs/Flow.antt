@@ -1,4 +1,9 @@
 -- Where control goes from an instruction.
+--   targets i                 where an instruction may branch to
+--   ends_block i              whether a block ends with it, whatever follows
+--   successors at i           where control goes from it
+--   exit_falls_through exit   whether control may come to the next instruction
+-- exit_targets, exit_ends_block and exit_successors say the same of an exit (Next, Fork, Jump, Leave).
 use Rattle.std.specs.Prelude.{ℕ, List, [], Bool, true, false, ◌+◌, ◌∷◌}
 use Rattle.mv_move_types.specs.declared.instruction.Instruction.{Instruction}
 use Rattle.mv_move_types.specs.declared.instruction.Exit.{Exit}

@@ -1,4 +1,11 @@
 -- What an instruction names or holds, how control leaves it, and the table of opcodes.
+--   immediate_of i        what an instruction names or holds: an index, a target or a number
+--   exit_of i             how control leaves it
+--   Form, Row             an opcode's form, and its row in the table
+--   rows                  the table of opcodes
+--   given form n          the instruction of a form, with its index or number
+--   row_of version code   the row of an opcode, in a version that has it
+--   code_of i             an instruction's opcode
 use Rattle.std.specs.Prelude.{ℕ, Bool, true, false, not, ◌==◌, ◌&&◌, ◌||◌, List, [], ◌∷◌, Option, option_map, find}
 use Rattle.mv_move_types.specs.declared.token.Width.{Width}
 use Rattle.mv_move_types.specs.declared.token.Width.TheVariants.{U8, U16, U32, U64, U128}

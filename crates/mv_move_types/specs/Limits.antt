@@ -1,4 +1,11 @@
--- How large each thing may be.
+-- How large each thing may be. Each limit is the most that is allowed.
+--   most_module_bytes, .., most_arguments   texts, records and what they contain
+--   most_name_bytes, most_types             names and signatures
+--   most_functions, .., most_results        functions, their code, and the fields of structs
+--   most_locals, most_operands              locals, with the parameters (why: decision 4); operands (where they are counted: decision 5)
+--   most_edges, most_positions              what a certificate may state of a block
+--   most_leaves, most_nesting               values of a struct
+--   most_modules, .., most_runs             ledgers and runs
 use Rattle.std.specs.Prelude.{ℕ}
 
 -- bytes of a module's text, of a certificate's, and of a record's payload

@@ -1,4 +1,16 @@
 -- A module as its tables, and what its indices name.
+-- First the tables of a module, then what its indices name.
+--   Constant, StructDefinition, FunctionDefinition   the entries of three tables
+--   Module                                           all tables, with the version that the bytes state (why: decision 24)
+--   module_name m h, own_name m                      the module that a handle names, and the own one
+--   struct_name m h                                  the struct that a handle names
+--   name_of_struct, name_of_function                 the name of a definition
+--   local_tokens, local_type                         the types of a function's locals, parameters first (why: decision 4)
+--   parameter_tokens, result_tokens                  the types of its parameters and of its results
+--   struct_abilities                                 the abilities that a struct is declared with
+--   name_at modules place index                      the struct at a place in the order of publication and an index there
+--   has_key m i                                      whether the struct at an index has key
+--   own_acquires m i                                 the acquires list of a called function, if it is the module's own
 use Rattle.std.specs.Prelude.{ℕ, ◌==◌, List, [], Bool, false, Option, Some, slice_get, ◌++◌}
 use Rattle.std.specs.Option.{option_map_or}
 use Rattle.mv_move_types.specs.declared.tables.Visibility.{Visibility}

@@ -1,4 +1,11 @@
 -- What names stand for among modules: a module, a struct with its fields and abilities, a function.
+--   is_module, have_one_name     whether a module has a name, and whether two have the same
+--   module_place, module_named   where among modules the one of a name stands, and that module
+--   is_struct m name d           whether a definition has this name
+--   declared modules name        the abilities that a struct is declared with (declared_in: within one module)
+--   function_place m name        the index of the function of a name
+--   is_public d                  whether other modules may call a function
+--   definition_of modules name   a struct's module, and its fields there
 use Rattle.std.specs.Prelude.{Bool, true, false, ℕ, List, Option, option_and_then, slice_get, option_map, Some}
 use Rattle.std.specs.Option.{option_map_or}
 use Rattle.std.specs.Str.{bytes_eq}

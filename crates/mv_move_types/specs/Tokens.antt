@@ -1,4 +1,8 @@
 -- Widths, kinds of leaves and types: their sizes, and when two are one.
+--   width_bits, width_bytes                    how long a number of a width is
+--   same_width, same_kind                      whether two widths, or two kinds of leaves, are one
+--   same_value_type, same_token, same_tokens   whether two types of one module are one: without references, with them, and lists
+-- kind_code is a part of these.
 use Rattle.std.specs.Prelude.{ℕ, Bool, ◌==◌, false, true, ◌&&◌, List, [], ◌∷◌}
 use Rattle.mv_move_types.specs.declared.token.Width.{Width}
 use Rattle.mv_move_types.specs.declared.token.Width.TheVariants.{U8, U16, U32, U64, U128}

@@ -24,7 +24,8 @@ pub use borrow::{Availability, Node};
 pub use instruction::{Exit, Immediate, Instruction};
 pub use refusal::Refusal;
 pub use tables::{
-    Definition, Field, FieldHandle, FunctionHandle, Key, ModuleHandle, StructHandle, Visibility,
+    Address, Definition, Field, FieldHandle, FunctionHandle, Key, ModuleHandle, StructHandle,
+    Visibility,
 };
 pub use token::{Abilities, LeafKind, Token, ValueType, Width};
 pub use version::Version;

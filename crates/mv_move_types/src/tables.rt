@@ -52,10 +52,13 @@ pub struct Definition {
     pub index: u16,
 }
 
+/// An account's address: the number that its 16 bytes are, the highest first.
+pub type Address = u128;
+
 /// Where a value is stored: an address, and the struct by its module's place and its definition's index.
 #[derive(Clone, Copy, PartialEq, Eq, PartialOrd, Ord, Debug)]
 pub struct Key {
-    pub address: u128,
+    pub address: Address,
     pub place: u16,
     pub index: u16,
 }

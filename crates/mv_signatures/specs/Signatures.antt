@@ -1,4 +1,11 @@
 -- Fields, signatures, locals, constants and entry functions are as they may be.
+--   may_be_field t            a field is no reference and no signer
+--   handle_is_small m h       at most 16 parameters and 8 results
+--   is_constant c             a constant is a leaf of exactly its length
+--   are_entry_parameters ts   an optional first signer, and then leaves that a caller can give
+--   entry_fits m d            an entry function has such parameters, and no results
+--   WellSigned m              phase 5: all of these hold in the module, and functions have at most 64 locals
+-- is_plain_argument and has_no_results are parts of these.
 use Rattle.std.specs.Prelude.{ℕ, is_some, Bool, true, false, ◌&&◌, nat_le, length, slice_get, List, ◌∷◌, ◌==◌, not, ◌||◌, IsTrue}
 use Rattle.std.specs.Option.{option_map_or}
 use Rattle.std.specs.List.{list_all}

@@ -1,4 +1,10 @@
 -- The height of the operand stack: what each instruction takes and gives.
+--   StackEffect                             how many operands an instruction takes, and how many it gives
+--   call_effect, .., unpack_effect          what depends on a signature or on a struct's fields
+--   effect_of m d i                         the effect of each instruction: a line for each
+--   raised height e                         the height after it, within the limit (why only between instructions: decision 5)
+--   height_through m d is height            the height after these instructions
+--   block_is_level, function_is_level m d   a block, and each block of a function, begins and ends with nothing on the stack
 use Rattle.std.specs.Prelude.{ℕ, ◌+◌, ◌-◌, Bool, false, ◌&&◌, ◌==◌, nat_le, List, [], ◌∷◌, length, Option, Some, slice_get, slice_range}
 use Rattle.std.specs.Bool.{then_some}
 use Rattle.std.specs.List.{list_all}

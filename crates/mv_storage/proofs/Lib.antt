@@ -2,5 +2,9 @@ pub mod Common
 pub mod Keys
 pub mod Maps
 pub mod PlaceLemmas
+pub mod SlotReads
 pub mod Shown
 pub mod Steps
+pub mod Written
+pub mod Loans
+pub mod Lent

@@ -96,7 +96,7 @@ shown-without l m n k s t h =
     (λ q. words_under-shown l n q t ∙ h q ∙ ap (cond (same_key k q) None) (sym (words_under-shown l m q s)) ∙ sym (words_under-without_words (shown_of l m) k q (Ascends-of l m s)))
 
 -- at one key what was there
-same-at : {X : Type 0} (f : Key → X) (k q : Key) → cond (same_key k q) (f k) (f q) ≡ f q
+pub same-at : {X : Type 0} (f : Key → X) (k q : Key) → cond (same_key k q) (f k) (f q) ≡ f q
 same-at f k q =
     ⊎_elim (λ (t : same_key k q ≡ true). rw t (ap f (same_key-to k q t))) (λ (f : same_key k q ≡ false). rw f refl) (cases_Bool (same_key k q))
 

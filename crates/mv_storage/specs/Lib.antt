@@ -3,3 +3,4 @@ pub mod WordLists
 pub mod FlatStorage
 pub mod Map
 pub mod Slots
+pub mod Lending

@@ -1,10 +1,10 @@
 -- The storage in order, and what a run sees of it.
-use Rattle.std.specs.Prelude.{ℕ, List, [], ◌∷◌, true, ◌≡◌}
+use Rattle.std.specs.Prelude.{ℕ, Bool, ◌&&◌, nat_lt, cond, List, [], ◌∷◌, true, ◌≡◌}
 use Rattle.std.specs.Option.{option_and_then, option_map_or}
 use Rattle.mv_move_types.specs.declared.tables.Key.{Key}
 use Rattle.mv_machine.specs.State.{key_before}
 use Rattle.mv_storage.specs.FlatStorage.{FlatStorage, words_under, with_words}
-use Rattle.mv_storage.specs.WordLists.{spliced}
+use Rattle.mv_storage.specs.WordLists.{spliced, laid_over}
 
 -- the key comes before the first entry's
 abbrev pub IsBelow : Key → FlatStorage → Type 0
@@ -25,3 +25,11 @@ overwritten storage key from words =
 pub record Layers : Type 0 where
   pub committed : FlatStorage
   pub current : FlatStorage
+
+-- the storage with these words over those under a key from a place on, as far as there are so many
+abbrev pub written : FlatStorage → Key → ℕ → List ℕ → FlatStorage
+written storage key from words = option_map_or (λ old. with_words storage key (laid_over from words old)) (words_under storage key) storage
+
+-- what a run sees once so many words that were lent are these, or the same where none were lent
+abbrev pub written_if : Bool → ℕ → Layers → Key → ℕ → List ℕ → Layers
+written_if lent width l key from words = cond (lent && nat_lt 0 width) (record { committed = l.committed; current = written l.current key from words }) l

@@ -1,5 +1,6 @@
 -- What the slots of storage show, and which of them a run has changed.
-use Rattle.std.specs.Prelude.{ℕ, ◌<◌, List, [], ◌∷◌, Bool, cond, true, false, is_some, ◌≡◌, ◌⊎◌, Option, Some, None, unwrap_or, slice_get}
+use Rattle.std.specs.Prelude.{ℕ, ◌<◌, List, [], ◌∷◌, Bool, cond, true, false, is_some, ◌≡◌, ◌⊎◌, Option, Some, None, unwrap_or, slice_get, slice_index_or}
+use Rattle.std.specs.Vec.{with_item, with_items_from}
 use Rattle.std.specs.Option.{option_and_then, option_map, option_map_or}
 use Rattle.std.specs.List.{list_any}
 use Rattle.std.specs.Ordering.{nat_cmp, ordering_then}
@@ -14,7 +15,7 @@ use Rattle.mv_storage.specs.declared.slot.Layer.{Layer}
 use Rattle.mv_storage.specs.declared.slot.Layer.TheVariants.{Committed, Current}
 use Rattle.mv_storage.specs.declared.places.Places.{Places}
 use Rattle.mv_storage.specs.FlatStorage.{FlatStorage}
-use Rattle.mv_storage.specs.WordLists.{spliced}
+use Rattle.mv_storage.specs.WordLists.{spliced, laid_over}
 use Rattle.mv_storage.specs.Map.{Layers}
 
 -- how two keys compare
@@ -176,3 +177,30 @@ pub record IsSettled (p : Places) (touched : List (Key × ℕ)) : Type 0 where
 abbrev pub seen : Layer → Layers → FlatStorage
 seen Committed l = l.committed
 seen Current l = l.current
+
+-- the run has what it sees to itself
+abbrev pub IsOwn : Slot → Type 0
+IsOwn s = (is_change s ≡ true) × (is_some (of_layer Current s) ≡ true)
+
+-- the key has this place, and its slot there is the run's own
+abbrev pub IsOwnAt : Places → Key → ℕ → Type 0
+IsOwnAt p key place = (get key_cmp p.tree key ≡ Some place) × ((s : Slot) × (slice_get p.slots.items place ≡ Some s) × IsOwn s)
+
+-- versions with these words over the run's from a place on
+abbrev pub written_versions : Versions → ℕ → List ℕ → Versions
+written_versions v from words = record { committed = v.committed; current = option_map (laid_over from words) v.current }
+
+-- a slot with these words over those that are the run's own, from a place on
+abbrev pub written_slot : Slot → ℕ → List ℕ → Slot
+written_slot (Vacant next) from words = Vacant next
+written_slot Empty from words = Empty
+written_slot (One n) from words = One n
+written_slot (Many v) from words = Many v
+written_slot (AddedOne n) from words = AddedOne (slice_index_or words 0 n)
+written_slot (AddedMany v) from words = AddedMany (with_items_from v from words)
+written_slot (Changed b) from words = Changed (record b { value = written_versions b.value from words })
+
+-- places with these words over those of the slot at a place, or over nothing
+abbrev pub written_at : Places → Option ℕ → ℕ → List ℕ → Places
+written_at p None from words = record { tree = p.tree; slots = p.slots; nothing = with_items_from p.nothing 0 words; free = p.free }
+written_at p (Some place) from words = option_map_or (λ s. record { tree = p.tree; slots = with_item p.slots place (written_slot s from words); nothing = p.nothing; free = p.free }) (slice_get p.slots.items place) p

@@ -8,3 +8,9 @@ piece from width words = cond (nat_le (from + width) (length words)) (Some (take
 -- these words in place of as many, if they are there
 abbrev pub spliced : ℕ → List ℕ → List ℕ → Option (List ℕ)
 spliced from new words = cond (nat_le (from + length new) (length words)) (Some (take from words ++ new ++ drop (from + length new) words)) None
+
+-- these words over those from a place on, as far as there are so many
+abbrev pub laid_over : ℕ → List ℕ → List ℕ → List ℕ
+laid_over from new old =
+    let all : List ℕ = take from old ++ (new ++ drop (length new) (drop from old)) in
+    take (length old) (all ++ drop (length all) old)

@@ -5,7 +5,8 @@
 //! use mv_storage::{Storage, Value};
 //! use std::alloc::AllocError;
 //!
-//! /// A run that takes the value under a key is given up; one that puts 7 where nothing is stored is kept.
+//! /// A run that takes the value under a key is given up; one that puts 7 where nothing is stored, and
+//! /// writes 8 over a leaf in place, is kept.
 //! fn example(storage: &mut Storage, key: Key) -> Result<(), AllocError> {
 //!     let mut overlay = storage.overlay();
 //!     overlay.take(&key)?;
@@ -13,6 +14,11 @@
 //!     let mut overlay = storage.overlay();
 //!     if !overlay.exists(&key) {
 //!         overlay.put(key, Value::leaf(7))?;
+//!     }
+//!     if overlay.len(&key) == Some(1) {
+//!         if let Some(words) = overlay.edit(&key, 0, 1)? {
+//!             words.fill(8);
+//!         }
 //!     }
 //!     overlay.commit()
 //! }

@@ -3,7 +3,10 @@ ghost use Rattle.std.specs.Prelude.{◌≡◌, ◌≤◌, ◌+◌, length, cond,
 ghost use Rattle.mv_move_types.specs.declared.tables.Key.{Key};
 ghost use Rattle.mv_storage.specs.WordLists.{spliced};
 ghost use Rattle.mv_storage.specs.FlatStorage.{words_under, with_words, without_words};
-ghost use Rattle.mv_storage.specs.Map.{overwritten};
+ghost use Rattle.mv_storage.specs.Map.{overwritten, Ascends};
+ghost use Rattle.std.specs.Prelude.{true, false, Some, Ok, Err};
+ghost use Rattle.std.specs.Borrow.{sem};
+ghost use Rattle.mv_storage.specs.Lending.{LendsLent, LendsWords, lent_words};
 
 use crate::slot::Layer;
 use crate::{Storage, Value};
@@ -24,6 +27,23 @@ impl Drop for Overlay<'_> {
         let Self { storage } = self;
         storage.settle(Layer::Committed);
     }
+}
+
+// The answer where words are lent.
+fn lent(words: &mut [u128]) -> Result<Option<&mut [u128]>, AllocError>
+    ensures { result ≡ Ok (Some words.entry) }
+{
+    Ok(Some(words))
+}
+
+// The answer where none are lent: nothing is stored, or memory ran out.
+fn refused<'a>(stored: bool) -> Result<Option<&'a mut [u128]>, AllocError>
+    ensures { result ≡ cond stored (Err (record {})) (Ok None) }
+{
+    if stored {
+        return Err(AllocError);
+    }
+    Ok(None)
 }
 
 impl Overlay<'_> {
@@ -75,18 +95,59 @@ impl Overlay<'_> {
         self.storage.view(key, offset, width)
     }
 
+    // So many words from a place on, lent; and whether any are stored, and whether they are lent.
+    fn open(
+        &mut self,
+        key: &Key,
+        from: usize,
+        width: usize,
+        stored: &mut bool,
+        lent: &mut bool,
+    ) -> &mut [u128]
+        requires fits { IfSome (words_under self.old.storage.now.current key.now) (λ words. from + width ≤ length words) }
+        ensures* loan { sem 𝓛 (LendsLent self.entry key.now from width lent.new result) }
+        ensures words { lent.new ≡ true → Some result.now ≡ option_map (λ words. take width (drop from words)) (words_under self.old.storage.now.current key.now) }
+        ensures stored { stored.new ≡ false → words_under self.old.storage.now.current key.now ≡ None }
+        ensures ascends { Ascends self.old.storage.now.current }
+    {
+        let storage = &mut *self.storage;
+        storage.open(key, from, width, stored, lent)
+    }
+
+    /// So many words from a place on, of those that the run sees under a key, to be read and written in place; None where nothing
+    /// is stored there. Once the loan is over, what the run sees is what it was with these words in their place. The first edit
+    /// of a committed value copies it. It fails only where memory runs out, and nothing changes then.
+    pub fn edit(
+        &mut self,
+        key: &Key,
+        offset: usize,
+        width: usize,
+    ) -> Result<Option<&mut [u128]>, AllocError>
+        requires fits { IfSome (words_under self.old.storage.now.current key.now) (λ words. offset + width ≤ length words) }
+        ensures* loan { sem 𝓛 (LendsWords self.entry key.now offset width result) }
+        ensures words { IfOk result (λ found. lent_words found ≡ option_map (λ words. take width (drop offset words)) (words_under self.old.storage.now.current key.now)) }
+    {
+        let mut stored = false;
+        let mut found = false;
+        let words = self.open(key, offset, width, &mut stored, &mut found);
+        if found {
+            return lent(words);
+        }
+        refused(stored)
+    }
+
     /// Puts words in place of as many from a place on, of those that the run sees under a key, and says whether so many were
     /// there; nothing changes where they were not. The first edit of a committed value copies it. It fails only where memory
     /// runs out, and nothing changes then.
     #[inline(always)]
-    pub fn edit(&mut self, key: &Key, from: usize, new: &[u128]) -> Result<bool, AllocError>
+    pub fn write(&mut self, key: &Key, from: usize, new: &[u128]) -> Result<bool, AllocError>
         ensures done { IfOk result (λ done. done ≡ is_some (option_and_then (spliced from new.now) (words_under self.old.storage.now.current key.now))) }
         ensures current { OnOk result (self.new.storage.now.current ≡ overwritten self.old.storage.now.current key.now from new.now) }
         ensures committed { self.new.storage.now.committed ≡ self.old.storage.now.committed }
         ensures loan { self.new.storage.ghost_name ≡ self.old.storage.ghost_name }
         ensures err { OnErr result (self.new.storage.now ≡ self.old.storage.now) }
     {
-        self.storage.edit(key, from, new)
+        self.storage.write(key, from, new)
     }
 
     /// Takes the value under a key out of what the run sees. It fails only where memory runs out, and nothing changes then.

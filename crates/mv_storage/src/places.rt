@@ -4,7 +4,12 @@ ghost use Rattle.std.specs.Prelude.{◌≡◌, ◌<◌, ◌↔◌, ◌∷◌, �
 ghost use Rattle.std.specs.BTreeMap.{get, IsOrdered};
 ghost use Rattle.mv_move_types.specs.declared.tables.Key.{Key};
 ghost use Rattle.mv_machine.specs.State.{same_key};
-ghost use Rattle.mv_storage.specs.Slots.{key_cmp, slot_at, free_after, IsSound, IsVacantAt, IsRemembered};
+ghost use Rattle.std.specs.Prelude.{◌≤◌, ◌+◌, IfSome, take, drop, option_map, option_and_then, slice_get};
+ghost use Rattle.std.specs.Borrow.{sem};
+ghost use Rattle.mv_storage.specs.Slots.{key_cmp, slot_at, free_after, IsSound, IsVacantAt, IsRemembered, IsOwn, of_layer};
+ghost use Rattle.mv_storage.specs.Lending.{LendsAt};
+ghost use Rattle.mv_storage.specs.declared.slot.Slot.{Slot};
+ghost use Rattle.mv_storage.specs.declared.slot.Layer.TheVariants.{Current};
 
 use crate::slot::Slot;
 use mv_move_types::Key;
@@ -18,6 +23,8 @@ use std::mem::replace;
 pub(crate) struct Places {
     pub(crate) tree: BTreeMap<Key, usize>,
     pub(crate) slots: Vec<Slot>,
+    // no words, which are lent where there are none
+    pub(crate) nothing: Vec<u128>,
     // a free place, if there is one
     free: usize,
 }
@@ -31,6 +38,7 @@ impl Places {
         Places {
             tree: BTreeMap::new(alloc),
             slots: Vec::new(alloc),
+            nothing: Vec::new(alloc),
             free: usize::MAX,
         }
     }
@@ -137,6 +145,25 @@ impl Places {
     {
         if let Slot::Vacant(next) = replace(&mut self.slots[place], slot) {
             self.free = next;
+        }
+    }
+
+    // So many words from a place on, one at least, of those that a run has to itself at a place, lent; none where no place is
+    // given.
+    pub(crate) fn words_at(
+        &mut self,
+        place: Option<usize>,
+        from: usize,
+        width: usize,
+    ) -> &mut [u128]
+        requires { IfSome place (λ p. (1 ≤ width) × (p < length self.old.slots.items) × ((s : Slot) → slice_get self.old.slots.items p ≡ Some s → IsOwn s × IfSome (of_layer Current s) (λ words. from + width ≤ length words))) }
+        ensures* loan { sem 𝓛 (LendsAt self.entry place from result) }
+        ensures words { IfSome place (λ p. Some result.now ≡ option_map (λ words. take width (drop from words)) (option_and_then (of_layer Current) (slice_get self.old.slots.items p))) }
+        ensures none { place ≡ None → result.now ≡ [] }
+    {
+        match place {
+            Some(place) => self.slots[place].part(from, width),
+            None => self.nothing.slice_mut(0..0),
         }
     }
 

@@ -1,7 +1,10 @@
 // What stands under a key: a value that the run at work has left alone, one that it has put, or the committed one and what
 // the run has made of it.
 ghost use Rattle.std.specs.Prelude.{◌≡◌, None, Some, true, false, cond, not, is_some, option_copied, option_and_then, IfOk, OnOk, OnErr};
-ghost use Rattle.mv_storage.specs.Slots.{version, of_layer, is_change, is_vacant, edited};
+ghost use Rattle.std.specs.Prelude.{◌≤◌, ◌+◌, length, take, drop, option_map, IfSome};
+ghost use Rattle.std.specs.Borrow.{sem};
+ghost use Rattle.mv_storage.specs.Slots.{version, of_layer, is_change, is_vacant, edited, IsOwn};
+ghost use Rattle.mv_storage.specs.Lending.{LendsVersion, LendsSlot};
 ghost use Rattle.mv_storage.specs.WordLists.{spliced};
 ghost use Rattle.mv_storage.specs.declared.slot.Layer.{Layer};
 ghost use Rattle.mv_storage.specs.declared.slot.Layer.TheVariants.{Committed, Current};
@@ -48,6 +51,23 @@ impl Versions {
         match &mut self.current {
             Some(value) => value.edit(from, new),
             None => false,
+        }
+    }
+}
+
+impl Versions {
+    // So many of the words that the run sees, from a place on, one at least, lent.
+    fn part(&mut self, from: usize, width: usize) -> &mut [u128]
+        requires there { is_some self.old.current ≡ true }
+        requires fits { IfSome self.old.current (λ words. from + width ≤ length words) }
+        requires some { 1 ≤ width }
+        ensures* loan { sem 𝓛 (LendsVersion self.entry from result) }
+        ensures words { Some result.now ≡ option_map (λ words. take width (drop from words)) self.old.current }
+    {
+        let current = &mut self.current;
+        match current {
+            Some(value) => value.part(from, width),
+            None => unreachable!(),
         }
     }
 }
@@ -277,6 +297,42 @@ impl Slot {
             Slot::AddedOne(word) => Ok(edit_words(slice::from_mut(word), from, new)),
             Slot::AddedMany(words) => Ok(edit_words(words.as_mut_slice(), from, new)),
             _ => Ok(false),
+        }
+    }
+
+    // Makes sure that the run has what it sees to itself, and gives its place if there is anything. It fails only where memory
+    // runs out, and nothing changes then.
+    pub(crate) fn own_place(
+        &mut self,
+        place: usize,
+        alloc: Global,
+    ) -> Result<Option<usize>, AllocError>
+        requires { is_vacant self.old ≡ false }
+        ensures layers { (layer : Layer) → of_layer layer self.new ≡ of_layer layer self.old }
+        ensures place { IfOk result (λ found. found ≡ cond (is_some (of_layer Current self.old)) (Some place) None) }
+        ensures own { IfOk result (λ found. is_some found ≡ true → IsOwn self.new) }
+        ensures used { is_vacant self.new ≡ false }
+    {
+        Slot::own(self, alloc)?;
+        if self.current().is_some() {
+            return Ok(Some(place));
+        }
+        Ok(None)
+    }
+
+    // So many of the words that the run has to itself, from a place on, one at least, lent.
+    pub(crate) fn part(&mut self, from: usize, width: usize) -> &mut [u128]
+        requires own { IsOwn self.old }
+        requires fits { IfSome (of_layer Current self.old) (λ words. from + width ≤ length words) }
+        requires some { 1 ≤ width }
+        ensures* loan { sem 𝓛 (LendsSlot self.entry from result) }
+        ensures words { Some result.now ≡ option_map (λ words. take width (drop from words)) (of_layer Current self.old) }
+    {
+        match self {
+            Slot::AddedOne(word) => slice::from_mut(word),
+            Slot::AddedMany(words) => words.slice_mut(from..from + width),
+            Slot::Changed(versions) => versions.part(from, width),
+            _ => unreachable!(),
         }
     }
 

@@ -6,7 +6,9 @@ ghost use Rattle.std.specs.BTreeMap.{BTreeMap, get};
 ghost use Rattle.mv_move_types.specs.declared.tables.Key.{Key};
 ghost use Rattle.mv_machine.specs.State.{same_key};
 ghost use Rattle.mv_storage.specs.WordLists.{spliced};
-ghost use Rattle.mv_storage.specs.Slots.{key_cmp, value_at, edited, ShowsSame, ShowsAt, is_change, IsSound, ArePlaced, IsRemembered, IsSettling, IsSettledAt, IsTracked, IsSettled};
+ghost use Rattle.mv_storage.specs.Slots.{key_cmp, value_at, edited, ShowsSame, ShowsAt, is_change, IsSound, ArePlaced, IsRemembered, IsSettling, IsSettledAt, IsTracked, IsSettled, IsOwnAt};
+ghost use Rattle.std.specs.Prelude.{IfSome};
+ghost use Rattle.mv_storage.specs.declared.slot.Layer.{Layer};
 ghost use Rattle.mv_storage.specs.declared.slot.Layer.TheVariants.{Committed, Current};
 
 use crate::Value;
@@ -101,6 +103,29 @@ pub(crate) fn edit_in(
     };
     note(&places.slots[place], touched, key, place)?;
     places.slots[place].edit(from, new, alloc)
+}
+
+// Makes sure that the run has what it sees under a key to itself, and gives its place if there is anything.
+pub(crate) fn own_in(
+    places: &mut Places,
+    touched: &mut Vec<(Key, usize)>,
+    last: &mut Option<(Key, usize)>,
+    key: &Key,
+    alloc: Global,
+) -> Result<Option<usize>, AllocError>
+    requires tracked { IsTracked places.old touched.old.items }
+    requires remembered { IsRemembered places.old.tree last.old }
+    ensures tracked { IsTracked places.new touched.new.items }
+    ensures remembered { IsRemembered places.new.tree last.new }
+    ensures same { (layer : Layer) → ShowsSame layer places.old places.new }
+    ensures none { IfOk result (λ found. is_some found ≡ is_some (value_at Current places.old key.now)) }
+    ensures own { IfOk result (λ found. IfSome found (IsOwnAt places.new key.now)) }
+{
+    let Some(place) = places.recall(last, key) else {
+        return Ok(None);
+    };
+    note(&places.slots[place], touched, key, place)?;
+    places.slots[place].own_place(place, alloc)
 }
 
 // Puts a value under a key where the run sees none, and says whether it did.

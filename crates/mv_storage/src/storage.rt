@@ -4,10 +4,13 @@ ghost use Rattle.mv_storage.specs.WordLists.{spliced};
 ghost use Rattle.mv_storage.specs.FlatStorage.{words_under, with_words, without_words};
 ghost use Rattle.mv_storage.specs.Map.{overwritten, Ascends};
 ghost use Rattle.mv_storage.specs.Slots.{seen};
+ghost use Rattle.std.specs.Prelude.{ℕ, true, false, nat_lt, Some, Ok};
+ghost use Rattle.std.specs.Borrow.{sem};
+ghost use Rattle.mv_storage.specs.Lending.{LendsIn};
 
 use crate::places::Places;
 use crate::slot::Layer;
-use crate::slots::{edit_in, put_into, settle, take_from};
+use crate::slots::{edit_in, own_in, put_into, settle, take_from};
 use crate::{Entries, Overlay, Value};
 use mv_move_types::Key;
 use std::alloc::{AllocError, Global};
@@ -43,6 +46,35 @@ fn part(words: &[u128], from: usize, width: usize) -> &[u128]
     ensures { result.now ≡ take width (drop from words.now) }
 {
     &words[from..from + width]
+}
+
+// The place of words that the run has to itself, if any are wanted; and whether any are stored, and whether the run has them.
+fn own_place(
+    own: Result<Option<usize>, AllocError>,
+    width: usize,
+    stored: &mut bool,
+    lent: &mut bool,
+) -> Option<usize>
+    ensures stored { IfOk own (λ found. stored.new ≡ is_some found) }
+    ensures refused { OnErr own (stored.new ≡ true) }
+    ensures lent { lent.new ≡ true → (p : ℕ) × (own ≡ Ok (Some p)) }
+    ensures place { MatchOption result (nat_lt 0 width ≡ true → lent.new ≡ false) (λ p. (own ≡ Ok (Some p)) × (1 ≤ width) × (lent.new ≡ true)) }
+{
+    let found = match own {
+        Ok(found) => {
+            *stored = found.is_some();
+            found
+        }
+        Err(_) => {
+            *stored = true;
+            None
+        }
+    };
+    *lent = found.is_some();
+    if width == 0 {
+        return None;
+    }
+    found
 }
 
 impl Storage {
@@ -170,11 +202,38 @@ impl Storage {
         })
     }
 
+    // So many words from a place on, of those that the run sees under a key, lent; and whether any are stored, and whether they
+    // are lent. No words are lent where nothing is stored, or where memory runs out; nothing changes then.
+    pub(crate) fn open(
+        &mut self,
+        key: &Key,
+        from: usize,
+        width: usize,
+        stored: &mut bool,
+        lent: &mut bool,
+    ) -> &mut [u128]
+        requires fits { IfSome (words_under self.old.current key.now) (λ words. from + width ≤ length words) }
+        ensures* loan { sem 𝓛 (LendsIn self.entry key.now from width lent.new result) }
+        ensures words { lent.new ≡ true → Some result.now ≡ option_map (λ words. take width (drop from words)) (words_under self.old.current key.now) }
+        ensures stored { stored.new ≡ false → words_under self.old.current key.now ≡ None }
+        ensures ascends { Ascends self.old.current }
+    {
+        let own = own_in(
+            &mut self.places,
+            &mut self.touched,
+            &mut self.last,
+            key,
+            self.alloc,
+        );
+        let place = own_place(own, width, stored, lent);
+        self.places.words_at(place, from, width)
+    }
+
     // Puts words in place of as many from a place on, of those that the run sees under a key, and says whether so many were
     // there; nothing changes where they were not. The first edit of a committed value copies it. It fails only where memory
     // runs out, and nothing changes then.
     #[inline(always)]
-    pub(crate) fn edit(&mut self, key: &Key, from: usize, new: &[u128]) -> Result<bool, AllocError>
+    pub(crate) fn write(&mut self, key: &Key, from: usize, new: &[u128]) -> Result<bool, AllocError>
         ensures done { IfOk result (λ done. done ≡ is_some (option_and_then (spliced from new.now) (words_under self.old.current key.now))) }
         ensures current { OnOk result (self.new.current ≡ overwritten self.old.current key.now from new.now) }
         ensures committed { self.new.committed ≡ self.old.committed }

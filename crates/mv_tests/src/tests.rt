@@ -4,6 +4,7 @@ mod certificates;
 mod edges;
 mod entries;
 mod graphs;
+mod lists;
 mod modules;
 mod numbers;
 mod opcodes;

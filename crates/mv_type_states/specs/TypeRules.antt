@@ -1,4 +1,16 @@
 -- The types on the stack: what each instruction takes and gives.
+-- First types on a stack and what is taken from it, then kinds of types, then a rule for each family, then all instructions.
+--   Types                                    the types of the operands, the topmost first
+--   top_type, taken wanted                   the topmost type; and the types below these, which have to be there
+--   takes_gives wanted given                 takes these, and gives those
+--   boolean, number w, address               the types of leaves
+--   plain_of, target_of, mutable_target_of   what a type is of, or refers to
+--   of_two_numbers, .., of_equality          the rules of numbers and tests
+--   of_pop, of_copy, of_borrow_local         of operands and locals
+--   of_mutable_field, .., of_return          of fields, calls and returns
+--   of_pack, .., of_freeze                   of structs and references
+--   of_global, of_move_to                    of the storage
+--   types_after m d i s                      the types after an instruction, if those before it are what it needs: a line for each
 use Rattle.std.specs.Prelude.{ℕ, Bool, List, [], ◌∷◌, ◌++◌, map, reverse, length, take, drop, Option, Some, None, slice_get}
 use Rattle.std.specs.Bool.{then_some}
 use Rattle.mv_move_types.specs.declared.token.Width.{Width}

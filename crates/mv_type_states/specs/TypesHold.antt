@@ -1,4 +1,8 @@
 -- Each instruction of each block finds the types that it needs.
+--   types_through m d is s           the types after these instructions, within the limit after each (why: decision 5)
+--   block_is_typed m d b             a block's instructions find what they need, and nothing is on the stack behind them
+--   function_is_typed, TypesHold m   phase 8: this holds in every block, reached or not, of a function and of all functions
+--   Point, point_at m d types        where a rule of the analyses above stands: a function, and the types on its stack
 use Rattle.std.specs.Prelude.{nat_le, cond, List, [], ◌∷◌, length, Option, Some, None, ◌+◌, Bool, false, ◌==◌, slice_range, IsTrue}
 use Rattle.std.specs.Option.{option_map_or}
 use Rattle.std.specs.List.{list_all}

@@ -138,7 +138,7 @@ pub fn exchange_two(stack: &mut Vec<Token>, wanted: Token, given: Token) -> Resu
 pub fn abilities(m: &Bounded<'_>, token: Token) -> Result<Abilities, Refusal>
     ensures { Finds result (token_abilities m.now token) }
 {
-    match mv_abilities::of(m, token) {
+    match mv_abilities::find(m, token) {
         Some(abilities) => Ok(abilities),
         None => Err(Refusal::Phase(8)),
     }

@@ -1,4 +1,10 @@
 -- Why no number up to a greatest one, of at most so many bytes, stands at the front of bytes.
+--   Spells most max bytes number used   the front spells this number, in so many bytes
+--   EndsWithin most bytes               the bytes end before the number does
+--   IsLongWithin most bytes             a shorter spelling would do
+--   IsBeyondWithin most max bytes       the number is above the greatest one (IsAbove), or has too many bytes (IsEndless)
+--   Gives most max bytes result         what a reader answers: one of these four
+--   EndsEarly, IsLong, IsBeyond max     the three reasons, for numbers of at most ten bytes
 use Rattle.std.specs.Prelude.{◌≡◌, ℕ, ◌<◌, ◌≤◌, List, ◌∷◌, ◌++◌, length, take, ◌⊎◌, Result, Ok, Err}
 use Rattle.mv_uleb.specs.Uleb.{IsUleb, AreHigh}
 use Rattle.mv_uleb.specs.declared.UlebError.{UlebError}

@@ -227,6 +227,47 @@ fn writers_that_take_nothing_end_it(rt: HostRuntime) -> Result<(), Fail> {
     Ok(())
 }
 
+// Shows and audits, as text and as JSON.
+const SHOWN: &str = "several entries as JSON, each but the first behind a comma";
+
+// A writer fails with this error, or takes nothing, behind these bytes of the report: that is told, and no byte is written behind it.
+fn breaks_off(
+    rt: &impl Abort,
+    alloc: Global,
+    bytes: &[u8],
+    taken: &[u8],
+    error: Option<ErrorKind>,
+) {
+    let mut writer = room(alloc);
+    writer.room = taken.len();
+    writer.error = error;
+    let answer = alone(alloc, &mut whole(bytes), &mut writer);
+    let told = (answer, writer.calls);
+    assert_eq!(rt; told, (Err(EngineError::Write), 1), "{SHOWN}");
+    same(rt, &writer.taken, taken, SHOWN);
+}
+
+// Each so many bytes of the report a write fails.
+const APART: usize = 17;
+
+// A failed write within a show is no want of memory, whatever its kind and wherever it comes.
+#[test]
+fn failed_writes_within_shows_are_told(rt: HostRuntime) -> Result<(), Fail> {
+    let row = Row::that_shows(SHOWN)?;
+    let bytes = row.input(rt.alloc())?;
+    let report = row.report(rt.alloc())?;
+    for step in 0..report.len() / APART {
+        let taken = report
+            .as_bytes()
+            .get(..step * APART)
+            .ok_or("the report is shorter")?;
+        for error in [None, Some(ErrorKind::Other), Some(ErrorKind::OutOfMemory)] {
+            breaks_off(&rt, rt.alloc(), &bytes, taken, error);
+        }
+    }
+    Ok(())
+}
+
 // Inputs that end where the reader fails: what comes of them, and what was written.
 const LENGTHS: [(&str, Result<u64, EngineError>, &str); 5] = [
     // Four bytes that say that another follows.

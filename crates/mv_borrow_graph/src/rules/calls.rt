@@ -13,7 +13,7 @@ ghost use Rattle.mv_borrow_graph.specs.BorrowRules.{call_edges, is_mutable, is_m
 ghost use Rattle.mv_borrow_graph.specs.BorrowRules.{opened_edges, reference_nodes, result_edges, return_edges};
 ghost use Rattle.mv_borrow_graph.specs.Domain.{Follows, ordered};
 
-use crate::changes::{keep, taken};
+use crate::changes::keep;
 use crate::nodes::{are_free, are_free_globals, is_operand, is_root, nodes_of};
 use crate::site::Site;
 use mv_edges::{Graph, Heir, NodeSet};
@@ -72,8 +72,7 @@ fn tie(
     ensures { OnOk result (s.new ≡ sorted (without_each all.now s.old ++ result_edges mutable.now all.now place results.now s.old)) }
 {
     let heirs = heirs_of(alloc, mutable, all, place, results)?;
-    *s = taken(alloc, s).tied(alloc, all, &heirs)?;
-    Ok(())
+    s.tie(alloc, all, &heirs)
 }
 
 /// Ties the results to the arguments, whose types are given, where a need holds.

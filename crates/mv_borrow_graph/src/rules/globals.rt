@@ -8,34 +8,23 @@ use crate::site::Site;
 use mv_edges::Graph;
 use mv_lattice::StepError;
 use mv_move_types::{Instruction, Node};
-use std::alloc::Global;
 
 impl<'d, 'm> Site<'d, 'm> {
     /// Borrows a global mutably: no edge may lead out of the struct's globals.
     #[tactic(auto, unfolding(crate::specs::BorrowRules::edges_after))]
-    pub fn borrow_global_mutably(
-        &self,
-        alloc: Global,
-        definition: u16,
-        s: &mut Graph,
-    ) -> Result<(), StepError>
+    pub fn borrow_global_mutably(&self, definition: u16, s: &mut Graph) -> Result<(), StepError>
         ensures { Follows result s.new (ordered (edges_after self.now (Instruction.MutBorrowGlobal definition) s.old)) }
     {
         let global = Node::Glob(definition);
-        lend(alloc, is_free(global, s), global, self.top(), s)
+        lend(is_free(global, s), global, self.top(), s)
     }
 
     /// Borrows a global: no edge may lead from the struct's globals to a mutable reference.
     #[tactic(auto, unfolding(crate::specs::BorrowRules::edges_after))]
-    pub fn borrow_global(
-        &self,
-        alloc: Global,
-        definition: u16,
-        s: &mut Graph,
-    ) -> Result<(), StepError>
+    pub fn borrow_global(&self, definition: u16, s: &mut Graph) -> Result<(), StepError>
         ensures { Follows result s.new (ordered (edges_after self.now (Instruction.ImmBorrowGlobal definition) s.old)) }
     {
         let global = Node::Glob(definition);
-        lend(alloc, self.is_readable(global, s), global, self.top(), s)
+        lend(self.is_readable(global, s), global, self.top(), s)
     }
 }

@@ -6,7 +6,6 @@ ghost use Rattle.std.specs.Bool.{then_some};
 ghost use Rattle.mv_borrow_graph.specs.BorrowRules.{edges_after, is_mutable, no_mutable_from, position_of, top_temp, field_edges};
 ghost use Rattle.mv_borrow_graph.specs.Domain.{Finds, Follows, ordered};
 
-use crate::changes::taken;
 use crate::site::{MutableAt, Site};
 use mv_edges::{Graph, One};
 use mv_lattice::StepError;
@@ -38,8 +37,7 @@ impl<'d, 'm> Site<'d, 'm> {
     fn field_reference(&self, alloc: Global, position: u8, s: &mut Graph) -> Result<(), StepError>
         ensures { Follows result s.new (ordered (Some (field_edges self.now position s.old))) }
     {
-        *s = taken(alloc, s).extended(alloc, position, self.top())?;
-        Ok(())
+        Ok(s.extend(alloc, position, self.top())?)
     }
 
     /// Borrows a field mutably: no edge out of the operand may agree with the field.

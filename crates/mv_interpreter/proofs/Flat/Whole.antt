@@ -48,6 +48,7 @@ first_represented modules above storage call c store sized stored =
         counted = refl;
         words = (
           [],
+          [],
           record {
             types = named.0;
             area = flat_map flat call.arguments ++ more;
@@ -56,11 +57,12 @@ first_represented modules above storage call c store sized stored =
             base = refl;
             are_types = types_are modules call.function c.home c.function (c.parameters ++ c.others) named.0 c.is_home c.is_function c.are_tokens named.1;
             is_known = refl;
-            locals = subst (λ (n : ℕ). LocalsWords modules history (map Some call.arguments ++ replicate n None) named.0 (flat_map flat call.arguments ++ more)) long
+            locals_are = refl;
+            holds = subst (λ (n : ℕ). LocalsWords modules history (map Some call.arguments ++ replicate n None) named.0 (flat_map flat call.arguments ++ more)) long
                 (subst (λ (ts : List Tag). LocalsWords modules history (map Some call.arguments ++ replicate (length apart.0) None) ts (flat_map flat call.arguments ++ more)) (sym apart.2) locals);
             stack = refl;
           },
-          refl,
+          (refl, refl),
         );
         storage = refl;
         steps = refl;

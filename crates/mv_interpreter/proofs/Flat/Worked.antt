@@ -20,7 +20,7 @@ unfoldable computes : ℕ
 unfolding binary comparison shift cast logic negation constant pop equality held copy_local move_local store_local borrow_local own_struct pack unpack own_field borrow_field read_reference write_reference freeze keyed_struct exists borrow_global move_from move_to signature_tags callee call return_results branch_if abort rule step turns run types_after linked apply flat_turns flat_run
 computes = 0
 
--- where nothing lies above the words, they are zeros
+-- where nothing lies above the locals, they are zeros
 abbrev nothing_above : ℕ → List ℕ
 nothing_above n = []
 

@@ -1,4 +1,14 @@
 -- What is known of a frame covers the frame as it is.
+--   Seen                      a frame, with the references that the frame above it was entered with
+--   reference_at v node       the live reference at a node
+--   StandsFor v node place    a node of the borrow graph stands for a place of the machine
+--   Follows label p c         a path goes on from another one by a label
+--   Matches v edge            what its second node stands for lies at its label from what the first one stands for
+--   HasEdge known v from to   a known edge between these nodes matches
+--   IsAs a local              a local holds a value, or none, as its availability says
+--   IsOwn, IsLent             a reference leads into the frame's own roots, or at or below an argument
+--   Covers known v acquires   what is known at the frame's instruction covers the frame as it is
+-- The others are parts of these. Why a frame keeps what it was entered with: decision 3.
 use Rattle.std.specs.Prelude.{◌≡◌, ◌≢◌, ◌⊎◌, ℕ, false, IsTrue, List, [], ◌++◌, map, reverse, Option, Some, None, Contains, IsSome, option_and_then, slice_get}
 use Rattle.mv_move_types.specs.declared.tables.Key.{Key}
 use Rattle.mv_move_types.specs.declared.borrow.Availability.{Availability}

@@ -1,4 +1,11 @@
 -- What holds of every state of a run over accepted modules.
+--   seen s                             each frame of a state, with what the frame above it was lent
+--   IsCovered modules certificates v   what the certificate says at the frame's instruction covers it
+--   KeepsOut modules upper lower       no reference of the lower frame leads into a struct that the upper one acquires
+--   KeepsApart upper lower             no mutable reference of the upper frame overlaps an immutable one of the lower
+--   StandTogether fs                   frames of one module stand next to each other
+--   Holds modules certificates s       all of these hold of a state
+-- seen_under and acquires_of are parts of these.
 use Rattle.std.specs.Prelude.{◌≡◌, ℕ, ◌<◌, false, IsTrue, List, [], ◌∷◌, Option, Some, Contains, All, AllPairs, slice_get, option_and_then}
 use Rattle.std.specs.Option.{option_map_or}
 use Rattle.mv_move_types.specs.declared.tables.Key.{Key}

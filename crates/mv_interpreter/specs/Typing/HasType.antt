@@ -1,4 +1,14 @@
 -- Which values are of which type. A type stands by names, as a tag, so that it means one thing in all modules.
+-- First what types are of, then values without references, then references by what they lead to.
+--   in_range kind n               whether a number is one of a leaf of this kind
+--   fields_by_name modules name   the types of a struct's fields, by names
+--   Table, Roots                  what a struct's fields are of, and what stands at each root
+--   IsOf v t, AreOf               a value without references is of a type, at any depth; and fields are of theirs
+--   Leads t path u                a path of fields leads from a type to another
+--   PointsTo look r t             a reference leads to something of this type
+--   HasType look v t              a value is of a type, a reference by what it leads to
+--   LentHasType, LentHaveTypes    an argument that was lent is of its parameter's type; and each is
+-- Rooted is a part of PointsTo.
 use Rattle.std.specs.Prelude.{◌≡◌, ℕ, ◌^◌, Bool, false, nat_lt, IsTrue, List, [], ◌∷◌, map, Option, Some, None, slice_get}
 use Rattle.mv_move_types.specs.declared.token.LeafKind.{LeafKind}
 use Rattle.mv_move_types.specs.declared.token.LeafKind.TheVariants.{Boolean, Number, Address, Signer}

@@ -1,4 +1,13 @@
 -- Which states are typed: each frame as the rules of types say at its instruction, the storage as its keys say.
+--   HasToken, HaveTokens, LocalsHaveTokens   a value, operands and locals are of types of a module
+--   result_tags m d                          the types of a function's results, by names
+--   Numbered n fs                            the numbers of frames fall from the topmost on, and are below n
+--   IsWaiting, AreWaiting                    a frame waits at its Call for the frame above it; and each of these does
+--   EntryTyped, StorageTyped                 a stored value is of its key's struct, which has key; and each is
+--   Stands h types                           where a step stands all is typed
+--   StateTyped modules s                     the state is typed
+--   Harmless failure                         a failure that the rules of types don't exclude: an abort, or a lost or frozen fault
+--   TurnTyped modules turn                   what a step leads to is typed
 use Rattle.std.specs.Prelude.{◌≡◌, ℕ, ◌+◌, ◌<◌, false, IsTrue, List, [], ◌∷◌, ◌++◌, reverse, Option, Some, None, slice_get}
 use Rattle.std.specs.Option.{option_map_or}
 use Rattle.mv_move_types.specs.declared.token.Token.{Token}

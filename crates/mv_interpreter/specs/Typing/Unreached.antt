@@ -1,4 +1,11 @@
 -- No live reference leads into what a step empties, overwrites or leaves behind.
+--   Avoid, FrameAvoids, BelowAvoid       no reference of a list, of a frame, of the waiting frames leads to such a root
+--   Unreached gone s                     none of the state's does
+--   Unborrowed s l                       none leads into a local that holds a value other than a reference
+--   Unlent s k                           none leads into what is stored at the address on top
+--   Leaving s                            none that outlives the frame leads into its locals
+--   Guarded i s, StepGuarded modules s   what the borrow rules have to give at an instruction that empties, overwrites or leaves;
+--                                        the same of the one that comes next
 use Rattle.std.specs.Prelude.{◌≡◌, ℕ, List, [], ◌∷◌, filter_map, Option, Some, None, slice_get}
 use Rattle.mv_move_types.specs.declared.token.LeafKind.TheVariants.{Address}
 use Rattle.mv_move_types.specs.declared.instruction.Instruction.{Instruction}

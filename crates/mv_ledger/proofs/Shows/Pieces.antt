@@ -1,13 +1,15 @@
 -- A line of JSON, piece by piece, and the text that the pieces of lines make.
-use Rattle.mv_ledger.proofs.Common.{[], ◌++◌, ◌+◌, ◌<◌, ◌∙◌, ◌∷◌, ◌≡◌, ◌≢◌, AllByRecursion, Bool, Entry, IsStore, List, PublishedModule, Tallied, ap, append_assoc, arith, codes, count_object, decimal, false, first_so, is_plain, json_line, member}
-use Rattle.mv_ledger.proofs.Common.{length, length-append, list_all, object, refl, second_so, stored_of, subst, sym, tables_in, true, with_commas, ℕ}
+use Rattle.std.proofs.Math.Seq.{take-append_seam}
+use Rattle.std.specs.Prelude.{MatchOption}
+use Rattle.mv_ledger.proofs.Common.{[], ◌++◌, ◌+◌, ◌-◌, ◌<◌, ◌∙◌, ◌∷◌, ◌≡◌, ◌≢◌, AllByRecursion, Bool, Entry, IsStore, List, Module, None, Option, PublishedModule, Some, Tallied, ap, append_assoc, arith, codes, cond, count_object, decimal}
+use Rattle.mv_ledger.proofs.Common.{entry_object, false, false≢true, first_so, is_plain, is_some, json_line, key_text, length, length-append, list_all, member, not, object, refl, second_so, stored_of, subst, suc, sym, tables_in, take, true, true≢false, value_text, with_commas, ℕ}
 use Rattle.mv_ledger.specs.Answering.{ended}
-use Rattle.mv_ledger.specs.Pieces.{TakesPiece, comma_at, json_left, piece_text, rest_after}
-use Rattle.mv_machine.specs.Lines.{struct_text}
+use Rattle.mv_ledger.specs.Pieces.{TakesPiece, json_left, piece_text}
+use Rattle.mv_machine.specs.Lines.{address_text, struct_text}
 use Rattle.mv_ledger.specs.Plain.{ArePlain}
 use Rattle.mv_ledger.specs.Sending.{count_texts, entry_texts}
 use Rattle.mv_ledger.specs.declared.json_pieces.Place.{Place}
-use Rattle.mv_ledger.specs.declared.json_pieces.Place.TheVariants.{Opening, First, Later}
+use Rattle.mv_ledger.specs.declared.json_pieces.Place.TheVariants.{Opening, Entries}
 use Rattle.mv_ledger.proofs.Shows.Names.{IsPlainStruct, plain-address, plain-decimal, plain-key, plain-value}
 use Rattle.mv_ledger.proofs.Shows.Objects.{IsPlainMember}
 
@@ -32,46 +34,82 @@ rest-plain ts t rest plain is = second_so (list_all is_plain (struct_text t.stru
 
 -- ---- a line of JSON
 
--- what an open line goes on with
-commas-rest : (o : List ℕ) (os : List (List ℕ)) → with_commas (o ∷ os) ++ codes "]}" ≡ o ++ rest_after (codes ",") os
-commas-rest o [] = refl
-commas-rest o (p ∷ os) =
-    append_assoc (o ++ codes ",") (with_commas (p ∷ os)) (codes "]}") ∙ append_assoc o (codes ",") (with_commas (p ∷ os) ++ codes "]}")
-    ∙ ap (λ (l : List ℕ). o ++ (44 ∷ l)) (commas-rest p os)
-
-list-rest : (os : List (List ℕ)) → with_commas os ++ codes "]}" ≡ rest_after [] os
-list-rest [] = refl
-list-rest (o ∷ os) = commas-rest o os
-
 -- it begins
-pub opens : (key : List ℕ) (os : List (List ℕ)) → json_left key Opening os ≡ (codes "json {\"" ++ key ++ codes "\":[") ++ json_left key First os
-opens key os =
-    append_assoc (codes "json {\"" ++ key ++ codes "\":[") (with_commas os) (codes "]}") ∙ ap (λ (l : List ℕ). (codes "json {\"" ++ key ++ codes "\":[") ++ l) (list-rest os)
+pub opens : (key : List ℕ) (os : List (List ℕ)) → json_left key Opening os ≡ (codes "json {\"" ++ key ++ codes "\":[") ++ json_left key Entries os
+opens key os = append_assoc (codes "json {\"" ++ key ++ codes "\":[") (with_commas os) (codes "]}")
 
--- it is open
-open-left : (key : List ℕ) (place : Place) (os : List (List ℕ)) → place ≢ Opening → json_left key place os ≡ rest_after (comma_at place) os
+-- behind its opening
+open-left : (key : List ℕ) (place : Place) (os : List (List ℕ)) → place ≢ Opening → json_left key place os ≡ with_commas os ++ codes "]}"
 open-left key Opening os opened = absurd (opened refl)
-open-left key First os opened = refl
-open-left key Later os opened = refl
+open-left key Entries os opened = refl
 
--- it goes on with an object
-pub goes_on : (key : List ℕ) (place : Place) (all : List (List ℕ)) (o : List ℕ) (os : List (List ℕ)) → place ≢ Opening → all ≡ o ∷ os
-    → json_left key place all ≡ (comma_at place ++ o) ++ json_left key Later os
-goes_on key place all o os opened is = open-left key place all opened ∙ ap (rest_after (comma_at place)) is
+-- an object without its comma
+uncommaed : (o : List ℕ) → take (length (o ++ codes ",") - 1) (o ++ codes ",") ≡ o
+uncommaed o =
+    let one : length (o ++ codes ",") ≡ length o + 1 = length-append o (codes ",") in
+    let short : length (o ++ codes ",") - 1 ≡ length o = omega (arith, one) in
+    ap (λ (n : ℕ). take n (o ++ codes ",")) short ∙ take-append_seam o (codes ",")
+
+-- an object and its comma, which is taken off the last one
+abbrev pub Between : List ℕ → Bool → List ℕ → Type 0
+Between o last text = text ≡ cond last (take (length (o ++ codes ",") - 1) (o ++ codes ",")) (o ++ codes ",")
+
+some-more : (x : List ℕ) (xs ys : List (List ℕ)) → ys ≡ x ∷ xs → ys ≢ []
+some-more x xs ys is none =
+    let more : length ys ≡ suc (length xs) = ap length is in
+    let nothing : length ys ≡ 0 = ap length none in
+    omega (arith, more, nothing)
+
+-- the objects behind one end, or go on
+abbrev pub IsLast : Bool → List (List ℕ) → Type 0
+IsLast last os = (last ≡ true → os ≡ []) × (last ≡ false → os ≢ [])
+
+-- what it goes on with: an object, and a comma if it isn't the last one
+goes_on : (o : List ℕ) (os : List (List ℕ)) (last : Bool) (text : List ℕ) → IsLast last os → Between o last text
+    → with_commas (o ∷ os) ++ codes "]}" ≡ text ++ (with_commas os ++ codes "]}")
+goes_on o [] true text lasts is = ap (λ (t : List ℕ). t ++ codes "]}") (sym (is ∙ uncommaed o))
+goes_on o [] false text lasts is = absurd (lasts.1 refl refl)
+goes_on o (p ∷ os) true text lasts is = absurd (some-more p os (p ∷ os) refl (lasts.0 refl))
+goes_on o (p ∷ os) false text lasts is =
+    append_assoc (o ++ codes ",") (with_commas (p ∷ os)) (codes "]}") ∙ ap (λ (t : List ℕ). t ++ (with_commas (p ∷ os) ++ codes "]}")) (sym is)
+
+has-bytes : (o : List ℕ) (last : Bool) (text : List ℕ) → 0 < length o → Between o last text → 0 < length text
+has-bytes o true text some is = subst (λ (t : List ℕ). 0 < length t) (sym (is ∙ uncommaed o)) some
+has-bytes o false text some is =
+    let same : length text ≡ length (o ++ codes ",") = ap length is in
+    omega (arith, same, length-append o (codes ","), some)
+
+-- whether nothing follows, by what is found there
+pub last-so : {E : Type 0} (nothing : Type 0) (first : E → Type 0) (found : Option E) (os : List (List ℕ)) (last : Bool) → is_some found ≡ not last → MatchOption found nothing first → (nothing → os ≡ [])
+    → ((e : E) → first e → (o : List ℕ) × (rest : List (List ℕ)) × (os ≡ o ∷ rest)) → IsLast last os
+last-so nothing first None os true is at none some = (λ e. none at, λ e. absurd (true≢false e))
+last-so nothing first None os false is at none some = absurd (false≢true is)
+last-so nothing first (Some x) os true is at none some = absurd (true≢false is)
+last-so nothing first (Some x) os false is at none some =
+    let parts = some x at in
+    (λ e. absurd (false≢true e), λ e. some-more parts.0 parts.1 os parts.2)
+
+-- an object is told
+pub told : (key : List ℕ) (place : Place) (all : List (List ℕ)) (o : List ℕ) (os : List (List ℕ)) (last : Bool) (text : List ℕ) → place ≢ Opening → all ≡ o ∷ os → 0 < length o
+    → IsLast last os → Between o last text → (0 < length text) × (json_left key place all ≡ text ++ json_left key Entries os)
+told key place all o os last text opened is_all some lasts is =
+    (has-bytes o last text some is, open-left key place all opened ∙ ap (λ (xs : List (List ℕ)). with_commas xs ++ codes "]}") is_all ∙ goes_on o os last text lasts is)
 
 -- it ends
 pub ends : (key : List ℕ) (place : Place) (all : List (List ℕ)) → place ≢ Opening → all ≡ [] → json_left key place all ≡ codes "]}"
-ends key place all opened is = open-left key place all opened ∙ ap (rest_after (comma_at place)) is
+ends key place all opened is = open-left key place all opened ∙ ap (λ (xs : List (List ℕ)). with_commas xs ++ codes "]}") is
 
--- its pieces have bytes
-some-object : (place : Place) (members : List (List ℕ)) → 0 < length (comma_at place ++ object members)
-some-object Opening members = omega arith
-some-object First members = omega arith
-some-object Later members = omega arith
+-- its objects have bytes
+some-object : (members : List (List ℕ)) → 0 < length (object members)
+some-object members = omega arith
 
-pub some-counts : (place : Place) (stored : ℕ) (t : Tallied) → 0 < length (comma_at place ++ count_object stored t)
-some-counts place stored t =
-    some-object place
+pub some-entry : (modules : List Module) (e : Entry) → 0 < length (entry_object modules e)
+some-entry modules e =
+    some-object (member (codes "address") (address_text e.key.address) ∷ member (codes "struct") (key_text modules e.key) ∷ member (codes "value") (value_text e.value) ∷ [])
+
+pub some-counts : (stored : ℕ) (t : Tallied) → 0 < length (count_object stored t)
+some-counts stored t =
+    some-object
     (member (codes "packed") (decimal t.packs) ∷ member (codes "stored") (decimal stored) ∷ member (codes "struct") (struct_text t.struct) ∷ member (codes "unpacked") (decimal t.unpacks) ∷ [])
 
 -- ---- a text of pieces

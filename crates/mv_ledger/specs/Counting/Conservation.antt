@@ -1,4 +1,10 @@
 -- Conservation over a run: what is stored and unpacked after it is what was stored before and packed in it.
+--   IsEntryCall modules call           a call of an entry function, with leaves for arguments
+--   IsFineStorage modules storage      a storage that a run may begin with
+--   Conserves modules old new events   of each scarce struct: stored after + unpacked = stored before + packed
+--   EveryRunIsOwnWork                  of every run that returns: structs are made and taken apart by code of their own modules
+--   EveryRunConserves                  every run of an entry function that returns conserves, over a store and a storage that are fine
+-- IsLeaf is a part of these.
 use Rattle.std.specs.Prelude.{◌≡◌, ℕ, ◌+◌, IsTrue, List, Some, slice_get}
 use Rattle.std.specs.List.{AllByRecursion}
 use Rattle.mv_move_types.specs.Names.{StructName}

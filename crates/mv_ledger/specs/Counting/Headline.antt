@@ -1,4 +1,10 @@
 -- What the ledger promises of each run, and of what is stored.
+--   IsBalanced s              of each scarce struct: stored + unpacked = packed; an audit counts by this (why: decision 32)
+--   IsOwnWork events          structs are made and taken apart by code of their own modules
+--   EndsWell budget outcome   a run meets no fault, stays in its budget, and its events are own work
+--   RunsWell s request        the run that is asked for, if it is admitted, ends well (CallEndsWell: the same by the call)
+--   EveryCountIsTallied       in a balanced ledger an audit's count is packed less unpacked
+-- The headline itself, moveledger/specs/Headline.antt, says the same in words of its own (why: decision 34).
 use Rattle.std.specs.Prelude.{◌≡◌, ℕ, ◌+◌, ◌-◌, ◌≤◌, List, Result, Ok, Err}
 use Rattle.std.specs.List.{AllByRecursion}
 use Rattle.mv_machine.specs.State.{Event}

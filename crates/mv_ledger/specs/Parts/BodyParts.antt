@@ -28,7 +28,7 @@ use Rattle.mv_ledger.specs.declared.loading.head.SavedForm.TheVariants.{First as
 use Rattle.mv_ledger.specs.declared.tallies.Tally.{Tally}
 use Rattle.mv_ledger.specs.Layouts.{kinds_under}
 use Rattle.mv_ledger.specs.Payloads.{leaf_from}
-use Rattle.mv_ledger.specs.SavedText.{Form, First, Second, keyed_from}
+use Rattle.mv_ledger.specs.SavedText.{Form, First, Second, greatest_count, keyed_from}
 
 -- the form that is meant
 abbrev pub form_of : SavedForm → Form
@@ -46,7 +46,7 @@ struct_of t = record { place = t.place; index = t.index }
 -- a count of a tally: of 16 bytes, or as short as it can be
 abbrev pub count_from : Form → List ℕ → Read ℕ
 count_from First bytes = number_of_from U128 bytes
-count_from Second bytes = number_from 42949672960000000 bytes
+count_from Second bytes = number_from (greatest_count Second) bytes
 
 -- what was made and what was taken apart
 abbrev pub tally_from : Form → List ℕ → Read (ℕ × ℕ)

@@ -1,4 +1,5 @@
 -- How the values that are stored are written struct by struct.
+--   leaf_length kind                        how many bytes a leaf of a kind has
 --   sections_of rows                        the sections of the structs of each module
 --   section_at rows d                       the section of a struct
 --   stored_in modules entries d             the values that are stored of a struct
@@ -29,7 +30,12 @@ use Rattle.mv_ledger.specs.declared.tallies.Tally.{Tally}
 use Rattle.mv_ledger.specs.Layouts.{coded, kinds_under}
 use Rattle.mv_ledger.specs.SavedText.{Second, addressed_text, head_text, is_under, keyed_from, struct_text}
 use Rattle.mv_ledger.specs.Publishing.{offered}
+use Rattle.mv_ledger.specs.RecordText.{leaf_bytes}
 use Rattle.mv_frames.specs.Counters.{is_same_definition}
+
+-- how many bytes a leaf of a kind has: each as many as 0
+abbrev pub leaf_length : LeafKind → ℕ
+leaf_length kind = length (leaf_bytes kind 0)
 
 -- the sections of the structs of each module
 abbrev pub sections_of : List (Vec Section Global) → List (List Section)

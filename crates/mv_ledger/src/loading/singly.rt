@@ -1,9 +1,9 @@
-// The modules of a saved ledger join one by one, so that no more than one is held decoded: in their order, with a stub in place of
-// each that names one which isn't there yet; then each such module takes the place of its stub.
+// The modules of a saved ledger join one by one, in their order, with a stub in place of each that names one which isn't there yet;
+// then each such module takes the place of its stub, and short ones do so together. So few are held decoded at once: no more than
+// 64, and all but the last of them have fewer than 65,536 bytes together.
 ghost use Rattle.std.specs.Prelude.{◌≡◌, ◌<◌, ◌≤◌, [], true, length, slice_get, IfOk, IfErr, IfSome, OnOk};
 ghost use Rattle.std.specs.Str.{bytes_eq};
 ghost use Rattle.mv_move_types.specs.Limits.{most_modules};
-ghost use Rattle.mv_module_text.specs.Laws.{AreBytes};
 ghost use Rattle.mv_linker.specs.News.{AreTexts, HasItsTexts};
 ghost use Rattle.mv_ledger.specs.Asking.{offer_of, offers_of};
 ghost use Rattle.mv_ledger.specs.Parts.LoadedParts.{AreJoined, AreNotJoined, IsGathered, IsOffered, IsPassed};
@@ -14,7 +14,7 @@ use crate::loading::order::order;
 use crate::loading::stubs::{Stub, Stubs};
 use crate::loading::{LoadError, because};
 use crate::payload::Offered;
-use crate::publishing::verified;
+use crate::publishing::{are_bytes, verified};
 use mv_linker::{New, Store};
 use mv_move_types::Refusal;
 use std::alloc::{AllocError, Global};
@@ -27,11 +27,6 @@ const MOST_TOGETHER: usize = 64;
 
 // How many bytes the texts of these have, before no more join them.
 const MOST_BYTES: usize = 65_536;
-
-/// Bytes are bytes.
-fn are_bytes(bytes: &[u8])
-    ensures { AreBytes bytes.now }
-{}
 
 /// Whether they are the same bytes.
 fn are_same(a: &[u8], b: &[u8]) -> bool

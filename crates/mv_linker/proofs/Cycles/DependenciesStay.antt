@@ -1,25 +1,16 @@
 -- The dependencies of modules once a bundle joins: names keep their places, so those of a module that stays are the same.
 --   was-needed, those-stay    of a module that stays
 --   bundled-dependencies, kept-those           what stands at a place
---   no-dependencies, keeps-dependencies        those that are kept, at first and once a bundle's are put
-use Rattle.mv_linker.proofs.Common.{[], ℕ, ◌&&◌, ◌<◌, ◌==◌, ◌∙◌, ◌∷◌, ◌≡◌, AreDependenciesIn, AreDependenciesOf, ArePlaces, Contains, Dependencies}
-use Rattle.mv_linker.proofs.Common.{DependenciesAt, KeepsDependencies, Links, List, Module, None, Option, Some, all_differ, ap, ap₂, arith, count_after, depends_on}
-use Rattle.mv_linker.proofs.Common.{have_one_name, inl, inr, length, map, modules_are_there, names_module, none-some, not, own_name, places_in, position, refl, same_Some}
-use Rattle.mv_linker.proofs.Common.{slice_get, slice_get_within, subst, suc, sym, true, with_tables, zero, zip}
-use Rattle.mv_linker.specs.DependencyGraph.{DependsOnThose}
-use Rattle.mv_linker.specs.Places.{has}
-use Rattle.mv_linker.specs.ScopeDependencies.{IsNeeded}
+use Rattle.mv_linker.proofs.Common.{ℕ, ◌&&◌, ◌<◌, ◌==◌, ◌∙◌, ◌≡◌, AreDependenciesIn, Contains}
+use Rattle.mv_linker.proofs.Common.{Links, List, Module, None, Some, all_differ, ap, ap₂, arith, depends_on}
+use Rattle.mv_linker.proofs.Common.{have_one_name, length, modules_are_there, names_module, not, own_name, places_in, position, refl, same_Some}
+use Rattle.mv_linker.proofs.Common.{slice_get, slice_get_within, subst, suc, sym, true, with_tables, zero}
+use Rattle.mv_linker.specs.DependencyGraph.{AreNeeds, DependsOnThose}
 use Rattle.mv_linker.proofs.Lemmas.{Contains-at, at-Contains, depends_on-is, differ-result, all_at, name_at_one, one_test, element_at}
-use Rattle.mv_linker.proofs.Joining.Bundled.{bundle-at, old-at, place-at}
-use Rattle.mv_linker.proofs.Cycles.DependencyLemmas.{count-places, length-places, places-within}
+use Rattle.mv_linker.proofs.Joining.Bundled.{bundle-at, old-at}
+use Rattle.mv_linker.proofs.Cycles.DependencyLemmas.{length-places}
 use Rattle.mv_linker.proofs.Cycles.Graphs.{named_there}
 use Rattle.mv_linker.proofs.Cycles.JoinedOrder.{names-stay}
-use Rattle.mv_linker.proofs.Kept.WithAt.{WasPut, WasThere, from-put_all, length-put_all}
-use Rattle.mv_bounds.proofs.Entries.{mapped-at}
-
--- no modules depend on none
-pub no-dependencies : (kept : List Dependencies) → kept ≡ [] → AreDependenciesOf [] kept
-no-dependencies kept e = subst (AreDependenciesOf []) (sym e) (record { len = refl; each = λ place m d at. absurd (none-some m at) })
 
 -- what a module depends on is told by names
 have_one_name-alike : (m x n : Module) → own_name x ≡ own_name n → have_one_name m x ≡ have_one_name m n
@@ -74,12 +65,12 @@ placed-there old ns apart n has =
 
 module _ (old ns : List Module) (once : all_differ have_one_name old ≡ true) (apart : all_differ have_one_name ns ≡ true) (links : Links old) where
   -- at a place of the bundle stand those of its module
-  pub bundled-dependencies : (all : List Dependencies) → AreDependenciesIn (with_tables old ns) ns all → (k q : ℕ) (d : Dependencies) → slice_get (places_in old ns) k ≡ Some q
-      → slice_get all k ≡ Some d → (m : Module) → slice_get (with_tables old ns) q ≡ Some m → IsNeeded (with_tables old ns) m d
-  bundled-dependencies all are k q d placed at m m_at =
-      let n = element_at ns k (let low = slice_get_within all k d at in omega (arith, low, are.len)) in
+  pub bundled-dependencies : (all : List (List ℕ)) → AreDependenciesIn (with_tables old ns) ns all → (k q : ℕ) (needs : List ℕ) → slice_get (places_in old ns) k ≡ Some q
+      → slice_get all k ≡ Some needs → (m : Module) → slice_get (with_tables old ns) q ≡ Some m → AreNeeds (with_tables old ns) m needs
+  bundled-dependencies all are k q needs placed at m m_at =
+      let n = element_at ns k (let low = slice_get_within all k needs at in omega (arith, low, are.len)) in
       let same : n.0 ≡ m = same_Some n.0 m (sym (bundle-at old ns k q n.0 apart n.1 placed) ∙ m_at) in
-      subst (λ (x : Module). IsNeeded (with_tables old ns) x d) same (are.each k n.0 d n.1 at)
+      subst (λ (x : Module). AreNeeds (with_tables old ns) x needs) same (are.each k n.0 needs n.1 at)
 
   -- and at any other those of the old one
   pub kept-those : (q : ℕ) (P : ℕ → Type 0) → position (λ p. p == q) (places_in old ns) ≡ None → ((m : Module) → slice_get old q ≡ Some m → DependsOnThose old m P)
@@ -87,77 +78,3 @@ module _ (old ns : List Module) (once : all_differ have_one_name old ≡ true) (
   kept-those q P none are m m_at =
       let there : slice_get old q ≡ Some m = sym (old-at old ns q none) ∙ m_at in
       those-stay old ns once links q m there P (are m there)
-
--- ---- those of a bundle, with their places
-
-abbrev with_place : ℕ × Dependencies → DependenciesAt
-with_place p = record { place = p.0; dependencies = p.1 }
-
-abbrev pub placed : List ℕ → List Dependencies → List DependenciesAt
-placed places all = map (λ p. record { place = p.0; dependencies = p.1 }) (zip places all)
-
-abbrev pub place : DependenciesAt → ℕ
-place d = d.place
-
-abbrev pub dependencies_of : DependenciesAt → Dependencies
-dependencies_of d = d.dependencies
-
-places-placed : (places : List ℕ) (all : List Dependencies) → length all ≡ length places → map place (placed places all) ≡ places
-places-placed [] all e = refl
-places-placed (p ∷ places) [] e = absurd (omega (arith, e))
-places-placed (p ∷ places) (d ∷ all) e = ap (λ l. p ∷ l) (places-placed places all (omega (arith, e)))
-
-placed-at : (places : List ℕ) (all : List Dependencies) (k : ℕ) (d : DependenciesAt) → slice_get (placed places all) k ≡ Some d
-    → (slice_get places k ≡ Some d.place) × (slice_get all k ≡ Some d.dependencies)
-placed-at [] all k d e = absurd (none-some d e)
-placed-at (p ∷ places) [] k d e = absurd (none-some d e)
-placed-at (p ∷ places) (x ∷ all) zero d e =
-    let same : with_place (p, x) ≡ d = same_Some (with_place (p, x)) d e in
-    (ap (λ (y : DependenciesAt). Some y.place) same, ap (λ (y : DependenciesAt). Some y.dependencies) same)
-placed-at (p ∷ places) (x ∷ all) (suc k) d e = placed-at places all k d e
-
--- once they are put, each module has its dependencies
-pub keeps-dependencies : (old ns : List Module) → all_differ have_one_name old ≡ true → all_differ have_one_name ns ≡ true → Links old → (places : List ℕ) → places ≡ places_in old ns
-    → (all : List Dependencies) → AreDependenciesIn (with_tables old ns) ns all → KeepsDependencies old (with_tables old ns) (placed places all)
-keeps-dependencies old ns once apart links places e all are = record {
-  places = among;
-  keeps = λ kept was. record {
-    len =
-        length-put_all place dependencies_of kept (placed places all) (within kept was)
-        ∙ ap (λ l. count_after l (length kept)) (taken ∙ e) ∙ ap (count_after (places_in old ns)) was.len ∙ count-places old ns;
-    each = λ q m d at d_at. elim (from-put_all place dependencies_of kept (placed places all) (within kept was) q d d_at) [
-      | inl put ↦ put_there q m d at put
-      | inr there ↦ left_there kept was q m d at there (position (λ p. p == q) places) refl
-    ];
-  };
-}
-  where
-    long : length all ≡ length places
-    long = omega (arith, are.len, length-places old ns, ap length e)
-
-    taken : map place (placed places all) ≡ places
-    taken = places-placed places all long
-
-    among : ArePlaces (map place (placed places all)) (length old)
-    among = subst (λ l. ArePlaces l (length old)) (sym (taken ∙ e)) (places-within old ns)
-
-    within : (kept : List Dependencies) → AreDependenciesOf old kept → ArePlaces (map place (placed places all)) (length kept)
-    within kept was = subst (λ n. ArePlaces (map place (placed places all)) n) (sym was.len) among
-
-    put_there : (q : ℕ) (m : Module) (d : Dependencies) → slice_get (with_tables old ns) q ≡ Some m → WasPut place dependencies_of (placed places all) q d
-        → IsNeeded (with_tables old ns) m d
-    put_there q m d at put =
-        let k = Contains-at (placed places all) put.entry put.one in
-        let parts = placed-at places all k.0 put.entry k.1 in
-        let standing : slice_get (places_in old ns) k.0 ≡ Some q = sym (ap (λ l. slice_get l k.0) e) ∙ parts.0 ∙ ap Some put.at in
-        bundled-dependencies old ns once apart links all are k.0 q d standing (parts.1 ∙ ap Some put.is) m at
-
-    left_there : (kept : List Dependencies) → AreDependenciesOf old kept → (q : ℕ) (m : Module) (d : Dependencies) → slice_get (with_tables old ns) q ≡ Some m
-        → WasThere place kept (placed places all) q d → (o : Option ℕ) → position (λ p. p == q) places ≡ o → IsNeeded (with_tables old ns) m d
-    left_there kept was q m d at there (Some k) f =
-        let standing : slice_get places k ≡ Some q = place-at q k places f in
-        let one = mapped-at place (placed places all) k q (ap (λ l. slice_get l k) taken ∙ standing) in
-        absurd (there.none one.0 (at-Contains (placed places all) k one.0 one.1) one.2)
-    left_there kept was q m d at there None f =
-        let none : position (λ p. p == q) (places_in old ns) ≡ None = sym (ap (position (λ p. p == q)) e) ∙ f in
-        kept-those old ns once apart links q (λ j. has d.needs j ≡ true) none (λ x x_at. was.each q x d x_at there.at) m at

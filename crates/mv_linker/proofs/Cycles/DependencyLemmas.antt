@@ -1,8 +1,8 @@
 -- Dependencies, place by place.
-use Rattle.mv_linker.proofs.Common.{[], ℕ, ◌++◌, ◌+◌, ◌∙◌, ◌∷◌, ◌≡◌, ◌≤◌, AreDependenciesIn, ArePlaces, Dependencies, IsTrue, Links, List, Module, Some}
+use Rattle.mv_linker.proofs.Common.{[], ℕ, ◌++◌, ◌+◌, ◌∙◌, ◌∷◌, ◌≡◌, ◌≤◌, AreDependenciesIn, ArePlaces, IsTrue, Links, List, Module, Some}
 use Rattle.mv_linker.proofs.Common.{ap, arith, count_after, have_one_name, length, length_push, modules_are_there, none-some, place_for, places_in, refl}
 use Rattle.mv_linker.proofs.Common.{slice_get, subst, suc, sym, with_table, with_tables}
-use Rattle.mv_linker.specs.ScopeDependencies.{IsNeeded}
+use Rattle.mv_linker.specs.DependencyGraph.{AreNeeds}
 use Rattle.mv_linker.proofs.Lemmas.{all-among, among-at, place_below}
 use Rattle.mv_linker.proofs.Joining.Resolving.{each_push}
 use Rattle.mv_linker.proofs.Joining.Scopes.{length-with_table}
@@ -28,23 +28,23 @@ pub all-there : (modules : List Module) (place : ℕ) (m : Module) → slice_get
 all-there modules place m at links = all-among (λ m. modules_are_there modules m (length m.module_handles)) modules m links.modules (among-at modules place m at)
 
 -- the dependencies of the first modules of a bundle
-pub record DependenciesSoFar (modules bundle : List Module) (all : List Dependencies) (i : ℕ) : Type 0 where
+pub record DependenciesSoFar (modules bundle : List Module) (all : List (List ℕ)) (i : ℕ) : Type 0 where
   pub len : length all ≡ i
-  pub each : (k : ℕ) (d : Dependencies) → slice_get all k ≡ Some d → (n : Module) → slice_get bundle k ≡ Some n → IsNeeded modules n d
+  pub each : (k : ℕ) (needs : List ℕ) → slice_get all k ≡ Some needs → (n : Module) → slice_get bundle k ≡ Some n → AreNeeds modules n needs
 
-pub none-yet : (modules bundle : List Module) (all : List Dependencies) → all ≡ [] → DependenciesSoFar modules bundle all 0
+pub none-yet : (modules bundle : List Module) (all : List (List ℕ)) → all ≡ [] → DependenciesSoFar modules bundle all 0
 none-yet modules bundle all e =
     rw e (record { len = refl; each = λ k d at. absurd (none-some d at) })
 
-pub one-more : (modules bundle : List Module) (all more : List Dependencies) (i : ℕ) (d : Dependencies) → DependenciesSoFar modules bundle all i → more ≡ all ++ d ∷ []
-    → ((n : Module) → slice_get bundle i ≡ Some n → IsNeeded modules n d) → DependenciesSoFar modules bundle more (i + 1)
-one-more modules bundle all more i d s e is =
-    let P : ℕ → Dependencies → Type 0 = λ k x. (n : Module) → slice_get bundle k ≡ Some n → IsNeeded modules n x in
+pub one-more : (modules bundle : List Module) (all more : List (List ℕ)) (i : ℕ) (needs : List ℕ) → DependenciesSoFar modules bundle all i → more ≡ all ++ needs ∷ []
+    → ((n : Module) → slice_get bundle i ≡ Some n → AreNeeds modules n needs) → DependenciesSoFar modules bundle more (i + 1)
+one-more modules bundle all more i needs s e is =
+    let P : ℕ → List ℕ → Type 0 = λ k x. (n : Module) → slice_get bundle k ≡ Some n → AreNeeds modules n x in
     record {
-      len = omega (arith, ap length e, length_push all d, s.len);
-      each = λ k x at. each_push P all d s.each (subst (λ n. P n d) (sym s.len) is) k x (sym (ap (λ l. slice_get l k) e) ∙ at);
+      len = omega (arith, ap length e, length_push all needs, s.len);
+      each = λ k x at. each_push P all needs s.each (subst (λ n. P n needs) (sym s.len) is) k x (sym (ap (λ l. slice_get l k) e) ∙ at);
     }
 
 -- once all were looked at
-pub all-found : (modules bundle : List Module) (all : List Dependencies) (i : ℕ) → DependenciesSoFar modules bundle all i → i ≡ length bundle → AreDependenciesIn modules bundle all
+pub all-found : (modules bundle : List Module) (all : List (List ℕ)) (i : ℕ) → DependenciesSoFar modules bundle all i → i ≡ length bundle → AreDependenciesIn modules bundle all
 all-found modules bundle all i s most = record { len = s.len ∙ most; each = λ k n d n_at at. s.each k d at n n_at }

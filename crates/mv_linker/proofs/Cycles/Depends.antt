@@ -1,12 +1,11 @@
 -- The modules that a module depends on, by the places that its handles name.
-use Rattle.mv_linker.proofs.Common.{ℕ, ◌<◌, ◌↔◌, ◌∙◌, ◌≡◌, ◌≤◌, All, AreHandlePlaces, Contains, Dependencies, List, Module}
+use Rattle.mv_linker.proofs.Common.{ℕ, ◌<◌, ◌↔◌, ◌∙◌, ◌≡◌, ◌≤◌, All, AreHandlePlaces, Contains, List, Module}
 use Rattle.mv_linker.proofs.Common.{ModuleName, Some, all_differ, ap, arith, both_ways, eqb, eqb-false, false_from_ne_true, get_or}
 use Rattle.mv_linker.proofs.Common.{have_one_name, length, module_name, module_place, ne_eqb, not, not-true, on_bind}
 use Rattle.mv_linker.proofs.Common.{others, own_name, same_Some, slice_get, slice_get_within, subst, sym, true}
 use Rattle.std.proofs.lemmas.List.Elements.{All-contains_itself}
-use Rattle.mv_linker.specs.DependencyGraph.{DependsOnThose}
+use Rattle.mv_linker.specs.DependencyGraph.{AreNeeds, DependsOnThose}
 use Rattle.mv_linker.specs.Places.{has}
-use Rattle.mv_linker.specs.ScopeDependencies.{IsNeeded}
 use Rattle.mv_linker.proofs.Lemmas.{Contains-at, at-Contains, depends_on-from, depends_on-is, have_one_name-from, have_one_name-is, kept_at, module_place-from, module_place-is}
 use Rattle.mv_linker.proofs.Lemmas.{name_at_one, element_at}
 use Rattle.mv_interface.proofs.Found.{kept_from}
@@ -65,8 +64,8 @@ module _ (modules : List Module) (m : Module) (own : ℕ) (places : List ℕ) (h
 
 -- and so does a set of them
 pub needed_from : (modules : List Module) (m : Module) (own : ℕ) (places : List ℕ) → slice_get modules own ≡ Some m → all_differ have_one_name modules ≡ true → AreHandlePlaces modules m places
-    → (d : Dependencies) → ((p : ℕ) → (has d.needs p ≡ true) ↔ Contains (others own places) p) → IsNeeded modules m d
-needed_from modules m own places here once p d same =
+    → (needs : List ℕ) → ((p : ℕ) → (has needs p ≡ true) ↔ Contains (others own places) p) → AreNeeds modules m needs
+needed_from modules m own places here once p needs same =
     let are = dependencies_from modules m own places here once p in
     record {
       there = λ j is. are.there j ((same j).0 is);

@@ -1,5 +1,5 @@
 -- A store that a bundle joined is a store.
-use Rattle.mv_linker.proofs.Common.{[], ℕ, ◌+◌, ◌∷◌, ◌≡◌, ◌≤◌, All, AreLowered, All-cons, All-head, All-nil, All-tail, IsLinkedTo, IsPublishable, IsStore, KeepsDependencies, LinkedBundle, List, MayJoin, Module}
+use Rattle.mv_linker.proofs.Common.{[], ℕ, ◌+◌, ◌∷◌, ◌≡◌, ◌≤◌, All, AreLowered, All-cons, All-head, All-nil, All-tail, IsLinkedTo, IsPublishable, IsStore, LinkedBundle, List, MayJoin, Module}
 use Rattle.mv_linker.proofs.Common.{Option, PublishedModule, all_differ, arith, cond, false, have_one_name, length, subst, sym, tables_in, true, with_module, with_modules}
 use Rattle.mv_move_types.specs.Published.{has_name_of}
 use Rattle.mv_linker.proofs.Lemmas.{differ-result}
@@ -37,14 +37,12 @@ joined-store sender old bundle store passed join = record {
 -- linked to it
 pub joined-linked : (sender : Option ℕ) (old : List PublishedModule) (l : LinkedBundle) → IsStore old → All IsPublishable l.published → MayJoin sender (tables_in old) (tables_in l.published)
     (tables_in (with_modules old l.published)) → length old + length l.published ≤ 65536
-    → AreLowered (tables_in old) (tables_in l.published) (tables_in (with_modules old l.published)) l.lowered
-    → KeepsDependencies (tables_in old) (tables_in (with_modules old l.published)) l.dependencies → IsLinkedTo old l
-joined-linked sender old l store passed join few lowered keeps = record {
+    → AreLowered (tables_in old) (tables_in l.published) (tables_in (with_modules old l.published)) l.lowered → IsLinkedTo old l
+joined-linked sender old l store passed join few lowered = record {
   passed = passed;
   once = join.once;
   compatible = join.compatible;
   whole = joined-store sender old l.published store passed join;
   few = omega (arith, few, joined-few old l.published);
   lowered = lowered;
-  dependencies = keeps;
 }

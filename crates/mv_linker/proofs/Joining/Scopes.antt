@@ -1,5 +1,5 @@
 -- The modules of a scope are found by name and by place.
-use Rattle.mv_linker.proofs.Common.{[], ℕ, ◌++◌, ◌+◌, ◌<◌, ◌==◌, ◌∙◌, ◌∷◌, ◌≡◌, ◌≤◌, Bool, IfSome, List, Module, ModuleName, New, None, Option, PublishedModule, Some, all_named, and_from}
+use Rattle.mv_linker.proofs.Common.{[], ℕ, ◌++◌, ◌+◌, ◌<◌, ◌==◌, ◌∙◌, ◌∷◌, ◌≡◌, ◌≤◌, Bool, List, Module, ModuleName, New, None, Option, PublishedModule, Some, all_named, and_from}
 use Rattle.mv_linker.proofs.Common.{ap, arith, cases_Bool, cases_cond, cond, false, find_index, first_so, found_among, have_one_name, inl, inr, is_module, is_some, length, map-append}
 use Rattle.mv_linker.proofs.Common.{map-map, module_place, nat_tests, offered, option_map, option_map_or, own_name, place_for, places_in, published_of, published_one, refl}
 use Rattle.mv_linker.proofs.Common.{second_so, slice_get, suc, sym, tables_in, take, true, unwrap_or, with_module, with_modules, with_table, with_tables, zero}

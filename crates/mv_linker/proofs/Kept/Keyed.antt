@@ -1,8 +1,8 @@
 -- A map from names to texts finds and takes what the list of its modules says.
 pub use Rattle.mv_interface.proofs.Found.{position-find_index}
-use Rattle.mv_linker.proofs.Common.{[], ℕ, ◌&&◌, ◌==◌, ◌∙◌, ◌∷◌, ◌≡◌, All, All-head, All-tail, AreKeyed, Bool, IfSome, IsPublishable, List, Module, ModuleName, Name, None, Option}
-use Rattle.mv_linker.proofs.Common.{PublishedModule, Some, Texts, ap, arith, bytes_eq, find_index, keys_of, map-map, module_of, module_place, name_in, nat_eq_equiv, no_tables, none-some}
-use Rattle.mv_linker.proofs.Common.{own_name, position, published_as, published_under, refl, same_module, slice_get, slice_get-map, subst, suc, sym, tables_in, unwrap_or, values_of, zero}
+use Rattle.mv_linker.proofs.Common.{[], ◌&&◌, ◌==◌, ◌∙◌, ◌∷◌, ◌≡◌, AreKeyed, Bool, List, ModuleName, Name}
+use Rattle.mv_linker.proofs.Common.{Some, Texts, ap, arith, bytes_eq, find_index, keys_of, module_place, name_in, nat_eq_equiv}
+use Rattle.mv_linker.proofs.Common.{own_name, position, published_as, published_under, refl, same_module, suc, tables_in}
 use Rattle.std.specs.Cmp.Lexicographic.{nat_list_eq_equiv}
 
 -- two names are one whichever comes first

@@ -11,16 +11,13 @@ ghost use Rattle.mv_linker.specs.Targets.{modules_in};
 
 use crate::rules::scope::Scope;
 use crate::rules::store_rules::Names;
-use crate::store::dependencies::Dependencies;
+use crate::store::dependencies::needs_of;
+use crate::store::places::Places;
 use std::alloc::{AllocError, Global};
 
 impl<'a> Scope<'a> {
     /// What each module of the bundle depends on, by what its handles name.
-    pub fn dependencies(
-        &self,
-        alloc: Global,
-        names: &[Names],
-    ) -> Result<Vec<Dependencies>, AllocError>
+    pub fn dependencies(&self, alloc: Global, names: &[Names]) -> Result<Vec<Places>, AllocError>
         requires few { length (modules_in self.now) ≤ 65536 }
         requires store { IsStore self.now.store.now }
         requires names { AreNamesOf (modules_in self.now) (offered self.now.new.now) names.now }
@@ -28,13 +25,13 @@ impl<'a> Scope<'a> {
     {
         let mut all = Vec::with_capacity(alloc, names.len())?;
         for k in 0..names.len() {
-            all.push(Dependencies::of(alloc, self.places[k], &names[k].modules)?)?;
+            all.push(needs_of(alloc, self.places[k], &names[k].modules)?)?;
         }
         Ok(all)
     }
 
     /// Whether no module of the bundle takes the place of one that depends on less.
-    fn gains_nothing(&self, needed: &[Dependencies]) -> bool
+    fn gains_nothing(&self, needed: &[Places]) -> bool
         requires fits { IsFitting self.now }
         requires needed { AreDependenciesIn (modules_in self.now) (offered self.now.new.now) needed.now }
         ensures { IsTrue result ↔ GainsNothing (tables_in self.now.store.now) (modules_in self.now) }
@@ -45,7 +42,7 @@ impl<'a> Scope<'a> {
                 continue;
             }
             let old = self.store.needs_at(place);
-            if needed[k].needs.outside(0, old).is_some() {
+            if needed[k].outside(0, old).is_some() {
                 return false;
             }
         }
@@ -54,7 +51,7 @@ impl<'a> Scope<'a> {
 
     /// How many of the first modules are in order by themselves. Where the bundle gains no dependency, these are the published
     /// modules and those that take their places; otherwise it is known of none.
-    fn settled(&self, needed: &[Dependencies]) -> usize
+    fn settled(&self, needed: &[Places]) -> usize
         requires fits { IsFitting self.now }
         requires needed { AreDependenciesIn (modules_in self.now) (offered self.now.new.now) needed.now }
         ensures { AreSettled (modules_in self.now) result [] }
@@ -68,7 +65,7 @@ impl<'a> Scope<'a> {
 
     /// Whether no module depends on itself by a chain; `needed` has what the bundle's modules depend on. No other module is
     /// looked at, unless one of the bundle takes the place of a module that depends on less.
-    pub fn is_ordered(&self, alloc: Global, needed: &[Dependencies]) -> Result<bool, AllocError>
+    pub fn is_ordered(&self, alloc: Global, needed: &[Places]) -> Result<bool, AllocError>
         requires few { length (modules_in self.now) ≤ 65536 }
         requires fits { IsFitting self.now }
         requires needed { AreDependenciesIn (modules_in self.now) (offered self.now.new.now) needed.now }

@@ -123,12 +123,8 @@ fn function_in(
         → MatchOption result (function_matches m.now handle n ≡ false) (λ k. (function_matches m.now handle n ≡ true) × IsFunctionIn m.now handle n k) }
     ensures few { IfSome result (λ k. k < 65536) }
 {
-    let Some(name) = m.identifier(handle.name as usize) else {
-        return None;
-    };
-    let Some(index) = found.outline().function_named(name, likely) else {
-        return None;
-    };
+    let name = m.identifier(handle.name as usize)?;
+    let index = found.outline().function_named(name, likely)?;
     if fits_found(m, handle, structs, found, index) {
         Some(index)
     } else {
@@ -180,42 +176,14 @@ impl<'a> Scope<'a> {
         ensures there { OnOk result (IsTrue (list_all (function_is_there (modules_in self.now) m.now) m.now.function_handles)) }
         ensures refused { IfErr result (IsRefusedIn 13 (IsTrue (list_all (function_is_there (modules_in self.now) m.now) m.now.function_handles))) }
     {
-        // Where its own functions are, so that no search is needed for these.
-        let own = function_places(alloc, m)?;
-        let mut found = Vec::with_capacity(alloc, own.len())?;
-        match self.put_functions(m, targets, structs, &own, &mut found) {
-            Ok(()) => Ok(found),
-            Err(e) => Err(e),
-        }
-    }
-
-    // Puts where they are into a list that is empty; `likely` has for each handle where its function is likely to stand.
-    fn put_functions(
-        &self,
-        m: &Module<'_>,
-        targets: &[Target<'_>],
-        structs: &[Definition],
-        likely: &[Option<usize>],
-        found: &mut Vec<Definition>,
-    ) -> Result<(), Refusal>
-        requires named { AreTargets (modules_in self.now) m.now targets.now }
-        requires structs { AreStructsAt (modules_in self.now) m.now structs.now }
-        requires few { length (modules_in self.now) ≤ 65536 }
-        requires likely { length likely.now ≡ length m.now.function_handles }
-        requires none { found.old.items ≡ [] }
-        ensures ok { OnOk result (AreFunctionsAt (modules_in self.now) m.now found.new.items) }
-        ensures there { OnOk result (IsTrue (list_all (function_is_there (modules_in self.now) m.now) m.now.function_handles)) }
-        ensures refused { IfErr result (IsRefusedIn 13 (IsTrue (list_all (function_is_there (modules_in self.now) m.now) m.now.function_handles))) }
-    {
+        // Where its own functions are likely to stand, so that no search is needed for these.
+        let likely = function_places(alloc, m)?;
+        let mut found = Vec::with_capacity(alloc, likely.len())?;
         for h in 0..m.function_handles().len() {
-            let Some(handle) = function_handle(m, h) else {
-                unreachable!();
-            };
-            match self.function(m, targets, structs, h, handle, likely[h]) {
-                Ok(definition) => pushed(found, definition)?,
-                Err(e) => return Err(e),
-            }
+            let handle = m.function_handles()[h];
+            let definition = self.function(m, targets, structs, h, handle, likely[h])?;
+            pushed(&mut found, definition)?;
         }
-        Ok(())
+        Ok(found)
     }
 }

@@ -5,7 +5,6 @@ ghost use Rattle.mv_move_types.specs.Module.{Module as Tables};
 ghost use Rattle.mv_move_types.specs.Refusals.{IsRefusedIn};
 ghost use Rattle.mv_move_types.specs.Named.{module_place};
 ghost use Rattle.mv_linker.specs.Found.{AreOutlines, AreTargets, IsFound, IsTarget};
-ghost use Rattle.mv_linker.specs.Kept.{name_in};
 ghost use Rattle.mv_interface.specs.Outline.{IsOutline};
 ghost use Rattle.mv_linker.specs.Relinked.{IsFitting};
 ghost use Rattle.mv_linker.specs.Scope.{offered};
@@ -14,13 +13,12 @@ ghost use Rattle.mv_linker.specs.Targets.{modules_in};
 
 use crate::rules::pushed::pushed;
 use crate::rules::scope::Scope;
-use crate::store::entry::Name;
+use crate::store::entry::asked_for;
 use crate::store::indexed::place_of;
 use mv_binary_format::Module;
 use mv_interface::{Interface, Outline, module_name};
-use mv_move_types::Refusal;
+use mv_move_types::{Address, Refusal};
 use std::alloc::{AllocError, Global};
-use std::borrow::CowSlice;
 
 /// A module of a scope.
 #[derive(Drop)]
@@ -52,25 +50,11 @@ pub struct Target<'a> {
     pub module: Found<'a>,
 }
 
-/// The key that a module with this address and identifier is found by.
-fn asked_for(address: u128, name: &[u8]) -> Name<'_>
-    ensures { name_in result ≡ record { address = address; name = name.now } }
-{
-    Name {
-        address,
-        identifier: CowSlice::Borrowed(name),
-    }
-}
-
 /// The places of targets.
 pub fn places_of(alloc: Global, targets: &[Target<'_>]) -> Result<Vec<usize>, AllocError>
     ensures { IfOk result (λ v. v.items ≡ map (λ t. t.place) targets.now) }
 {
-    let mut places = Vec::with_capacity(alloc, targets.len())?;
-    for t in targets {
-        places.push(t.place)?;
-    }
-    Ok(places)
+    targets.iter().map(|t| t.place).collect(alloc)
 }
 
 impl<'a> Scope<'a> {
@@ -88,7 +72,7 @@ impl<'a> Scope<'a> {
     }
 
     /// The place of the module with this address and identifier.
-    pub fn find(&self, address: u128, name: &[u8]) -> Option<usize>
+    pub fn find(&self, address: Address, name: &[u8]) -> Option<usize>
         ensures { result ≡ module_place (modules_in self.now) (record { address = address; name = name.now }) }
     {
         let asked = asked_for(address, name);
@@ -145,10 +129,8 @@ impl<'a> Scope<'a> {
     {
         let mut targets = Vec::with_capacity(alloc, m.module_handles().len())?;
         for h in 0..m.module_handles().len() {
-            match self.target(outlines, m, h) {
-                Ok(target) => pushed(&mut targets, target)?,
-                Err(e) => return Err(e),
-            }
+            let target = self.target(outlines, m, h)?;
+            pushed(&mut targets, target)?;
         }
         Ok(targets)
     }

@@ -19,13 +19,6 @@ use mv_interface::{Outline, are_same};
 use mv_move_types::{Definition, Refusal, StructHandle};
 use std::alloc::Global;
 
-/// The struct handle at an index, if it is there.
-fn struct_handle(m: &Module<'_>, h: usize) -> Option<StructHandle>
-    ensures { result ≡ slice_get m.now.struct_handles h }
-{
-    m.struct_handles().get(h).copied()
-}
-
 /// The module that a module handle leads to, if it is there.
 pub fn target_at<'t, 'm>(targets: &'t [Target<'m>], h: usize) -> Option<&'t Target<'m>>
     ensures there { IfSome result (λ t. slice_get targets.entry.now h ≡ Some t.now) }
@@ -45,15 +38,9 @@ fn struct_in(
         → MatchOption result (struct_matches m.now handle n home ≡ false) (λ k. (struct_matches m.now handle n home ≡ true) × IsStructOf m.now handle n home k) }
     ensures few { IfSome result (λ k. k < 65536) }
 {
-    let Some(name) = m.identifier(handle.name as usize) else {
-        return None;
-    };
-    let Some(index) = outline.struct_named(name, likely) else {
-        return None;
-    };
-    let Some(abilities) = outline.abilities(index) else {
-        return None;
-    };
+    let name = m.identifier(handle.name as usize)?;
+    let index = outline.struct_named(name, likely)?;
+    let abilities = outline.abilities(index)?;
     if are_same(handle.abilities, abilities) {
         Some(index)
     } else {
@@ -112,40 +99,14 @@ impl<'a> Scope<'a> {
         ensures there { OnOk result (IsTrue (structs_are_there (modules_in self.now) m.now 0 m.now.struct_handles)) }
         ensures refused { IfErr result (IsRefusedIn 13 (IsTrue (structs_are_there (modules_in self.now) m.now 0 m.now.struct_handles))) }
     {
-        // Where its own structs are, so that no search is needed for these.
-        let own = struct_places(alloc, m)?;
-        let mut found = Vec::with_capacity(alloc, own.len())?;
-        match self.put_structs(m, targets, &own, &mut found) {
-            Ok(()) => Ok(found),
-            Err(e) => Err(e),
-        }
-    }
-
-    // Puts where they are into a list that is empty; `likely` has for each handle where its struct is likely to stand.
-    fn put_structs(
-        &self,
-        m: &Module<'_>,
-        targets: &[Target<'_>],
-        likely: &[Option<usize>],
-        found: &mut Vec<Definition>,
-    ) -> Result<(), Refusal>
-        requires named { AreTargets (modules_in self.now) m.now targets.now }
-        requires few { length (modules_in self.now) ≤ 65536 }
-        requires likely { length likely.now ≡ length m.now.struct_handles }
-        requires none { found.old.items ≡ [] }
-        ensures ok { OnOk result (AreStructsAt (modules_in self.now) m.now found.new.items) }
-        ensures there { OnOk result (IsTrue (structs_are_there (modules_in self.now) m.now 0 m.now.struct_handles)) }
-        ensures refused { IfErr result (IsRefusedIn 13 (IsTrue (structs_are_there (modules_in self.now) m.now 0 m.now.struct_handles))) }
-    {
+        // Where its own structs are likely to stand, so that no search is needed for these.
+        let likely = struct_places(alloc, m)?;
+        let mut found = Vec::with_capacity(alloc, likely.len())?;
         for h in 0..m.struct_handles().len() {
-            let Some(handle) = struct_handle(m, h) else {
-                unreachable!();
-            };
-            match self.structure(m, targets, h, handle, likely[h]) {
-                Ok(definition) => pushed(found, definition)?,
-                Err(e) => return Err(e),
-            }
+            let handle = m.struct_handles()[h];
+            let definition = self.structure(m, targets, h, handle, likely[h])?;
+            pushed(&mut found, definition)?;
         }
-        Ok(())
+        Ok(found)
     }
 }

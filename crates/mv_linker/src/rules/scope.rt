@@ -7,12 +7,11 @@ ghost use Rattle.mv_linker.specs.Kept.{name_in};
 ghost use Rattle.mv_linker.specs.Link.{IsStore, tables_in, have_one_name};
 ghost use Rattle.mv_linker.specs.Scope.{offered, places_in, all_named};
 
-use crate::store::entry::Name;
+use crate::store::entry::{Name, asked_for};
 use crate::store::indexed::{PlacesByName, place_of};
 use crate::{New, Store};
 use mv_interface::name_of;
 use std::alloc::{AllocError, Global};
-use std::borrow::CowSlice;
 
 /// The modules of a store and of a bundle that is to join it: a module of the bundle takes the place of the module of its
 /// name, or the next place.
@@ -39,10 +38,7 @@ fn own_name<'n>(n: &'n New<'_>) -> Name<'n>
     let Some((address, name)) = name_of(n.module.module()) else {
         unreachable!();
     };
-    Name {
-        address,
-        identifier: CowSlice::Borrowed(name),
-    }
+    asked_for(address, name)
 }
 
 /// The places that modules of a bundle take, in order and by name.

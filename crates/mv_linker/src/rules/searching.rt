@@ -10,7 +10,6 @@ ghost use Rattle.mv_linker.specs.Settled.{AreSettled, IsNext, IsSearched, IsSett
 ghost use Rattle.mv_linker.specs.Targets.{modules_in};
 
 use crate::rules::scope::Scope;
-use crate::store::dependencies::Dependencies;
 use crate::store::places::Places;
 use std::alloc::{AllocError, Global};
 
@@ -23,14 +22,14 @@ fn is_settled(base: usize, done: &Places, place: usize) -> bool
 
 impl<'a> Scope<'a> {
     /// The places that the module at a place depends on; `needed` has what the bundle's modules do. Nothing is decoded.
-    fn needs_at<'d>(&'d self, needed: &'d [Dependencies], place: usize) -> &'d Places
+    fn needs_at<'d>(&'d self, needed: &'d [Places], place: usize) -> &'d Places
         requires store { IsStore self.now.store.now }
         requires needed { AreDependenciesIn (modules_in self.now) (offered self.now.new.now) needed.now }
         requires place { place < length (modules_in self.now) }
         ensures { AreNeedsAt (modules_in self.entry.now) place result.now }
     {
         match self.bundled(place) {
-            Some(k) => &needed[k].needs,
+            Some(k) => &needed[k],
             None => self.store.needs_at(place),
         }
     }
@@ -38,7 +37,7 @@ impl<'a> Scope<'a> {
     /// A place that the module at one depends on, from `base` on, with which the search isn't done.
     fn next_after(
         &self,
-        needed: &[Dependencies],
+        needed: &[Places],
         base: usize,
         done: &Places,
         place: usize,
@@ -52,7 +51,7 @@ impl<'a> Scope<'a> {
     }
 
     /// Whether each module of the bundle depends on modules before `base` alone.
-    fn need_first_alone(&self, alloc: Global, needed: &[Dependencies], base: usize) -> bool
+    fn need_first_alone(&self, alloc: Global, needed: &[Places], base: usize) -> bool
         requires fits { IsFitting self.now }
         requires needed { AreDependenciesIn (modules_in self.now) (offered self.now.new.now) needed.now }
         ensures { IsTrue result ↔ ((k p : ℕ) → slice_get self.now.places.items k ≡ Some p → LeadsToSettled (modules_in self.now) base [] p) }
@@ -74,7 +73,7 @@ impl<'a> Scope<'a> {
     fn leads_back(
         &self,
         alloc: Global,
-        needed: &[Dependencies],
+        needed: &[Places],
         base: usize,
         start: usize,
         met: &mut Places,
@@ -113,7 +112,7 @@ impl<'a> Scope<'a> {
     pub fn is_ordered_from(
         &self,
         alloc: Global,
-        needed: &[Dependencies],
+        needed: &[Places],
         base: usize,
     ) -> Result<bool, AllocError>
         requires few { length (modules_in self.now) ≤ 65536 }

@@ -133,14 +133,9 @@ fn next_rows(
 pub fn have_no_structs(bundle: &[New<'_>]) -> bool
     ensures { result ≡ list_all (λ n. length n.module.structs == 0) bundle.now }
 {
-    bundle.iter().all(|n| defines_none(n))
-}
-
-/// Whether a module defines no struct.
-fn defines_none(n: &New<'_>) -> bool
-    ensures { result ≡ (length n.now.module.structs == 0) }
-{
-    n.module.module().structs().is_empty()
+    bundle
+        .iter()
+        .all(|n| n.module.module().structs().is_empty())
 }
 
 /// The sizes of the structs of a bundle whose modules define none.

@@ -8,14 +8,13 @@ ghost use Rattle.mv_linker.specs.Link.{tables_in};
 ghost use Rattle.mv_linker.specs.StoreRules.{Links, names_hold};
 ghost use Rattle.mv_linker.specs.Relinked.{IsFitting};
 ghost use Rattle.mv_linker.specs.Scope.{offered};
-ghost use Rattle.mv_linker.specs.Stored.{KeepsDependencies, AreLowered, AreNames, AreNamesOf};
+ghost use Rattle.mv_linker.specs.Stored.{AreLowered, AreNames, AreNamesOf};
 ghost use Rattle.mv_linker.specs.Targets.{modules_in};
 
 use crate::lowering::to_link::Lowered;
 use crate::rules::named_modules::places_of;
 use crate::rules::pushed::pushed;
 use crate::rules::scope::Scope;
-use crate::store::dependencies::{DependenciesAt, placed};
 use mv_binary_format::Module;
 use mv_interface::Outline;
 use mv_move_types::{Definition, Refusal};
@@ -32,15 +31,6 @@ pub struct Names {
     pub functions: Vec<Definition>,
 }
 
-/// What a store keeps of the modules that a bundle changes, beside their texts.
-#[derive(Drop)]
-pub struct Changes {
-    /// What was made of the bundle's modules.
-    pub lowered: Vec<Lowered>,
-    /// The dependencies of the bundle's modules.
-    pub dependencies: Vec<DependenciesAt>,
-}
-
 impl<'a> Scope<'a> {
     /// What a module's handles name; `Phase(13)`, where something is not there as a handle says. `outlines` has those of the
     /// bundle.
@@ -52,19 +42,10 @@ impl<'a> Scope<'a> {
         ensures there { OnOk result (IsTrue (names_hold (modules_in self.now) m.now)) }
         ensures refused { IfErr result (IsRefusedIn 13 (IsTrue (names_hold (modules_in self.now) m.now))) }
     {
-        let targets = match self.targets(alloc, outlines, m) {
-            Ok(targets) => targets,
-            Err(e) => return Err(e),
-        };
+        let targets = self.targets(alloc, outlines, m)?;
         let modules = places_of(alloc, &targets)?;
-        let structs = match self.structs(alloc, m, &targets) {
-            Ok(structs) => structs,
-            Err(e) => return Err(e),
-        };
-        let functions = match self.functions(alloc, m, &targets, &structs) {
-            Ok(functions) => functions,
-            Err(e) => return Err(e),
-        };
+        let structs = self.structs(alloc, m, &targets)?;
+        let functions = self.functions(alloc, m, &targets, &structs)?;
         Ok(Names {
             modules,
             structs,
@@ -83,22 +64,19 @@ impl<'a> Scope<'a> {
     {
         let mut all = Vec::with_capacity(alloc, self.new.len())?;
         for i in 0..self.new.len() {
-            match self.names(alloc, outlines, self.new[i].module.module()) {
-                Ok(names) => pushed(&mut all, names)?,
-                Err(e) => return Err(e),
-            }
+            let names = self.names(alloc, outlines, self.new[i].module.module())?;
+            pushed(&mut all, names)?;
         }
         Ok(all)
     }
 
     /// Tries rules c to g over all the modules, and links the bundle's.
-    pub fn links(&self, alloc: Global) -> Result<Changes, Refusal>
+    pub fn links(&self, alloc: Global) -> Result<Vec<Lowered>, Refusal>
         requires room { length self.now.store.now + length self.now.new.now ≤ 65536 }
         requires few { length (modules_in self.now) ≤ 65536 }
         requires fits { IsFitting self.now }
         ensures ok { OnOk result (Links (modules_in self.now)) }
-        ensures lowered { IfOk result (λ c. AreLowered (tables_in self.now.store.now) (offered self.now.new.now) (modules_in self.now) c.lowered.items) }
-        ensures dependencies { IfOk result (λ c. KeepsDependencies (tables_in self.now.store.now) (modules_in self.now) c.dependencies.items) }
+        ensures lowered { IfOk result (λ v. AreLowered (tables_in self.now.store.now) (offered self.now.new.now) (modules_in self.now) v.items) }
         ensures refused { IfErr result (IsRefusedIn 13 (Links (modules_in self.now))) }
     {
         let outlines = self.outlines(alloc)?;
@@ -108,11 +86,6 @@ impl<'a> Scope<'a> {
             return Err(Refusal::Phase(13));
         }
         let sizes = self.sizes(alloc, &names)?;
-        let lowered = self.lowered(alloc, &names, &sizes, outlines)?;
-        let dependencies = placed(alloc, &self.places, needed)?;
-        Ok(Changes {
-            lowered,
-            dependencies,
-        })
+        Ok(self.lowered(alloc, &names, &sizes, outlines, needed)?)
     }
 }

@@ -77,13 +77,13 @@ impl Store {
         }
     }
 
-    /// Whether kept types are those of a signature of another module.
-    fn is_signature(&self, kept: &[LinkedType], n: &Module<'_>, signature: u16) -> bool
-        ensures { result ≡ option_map_or (are_kept (tables_in self.now) kept.now n.now) (slice_get n.now.signatures signature) false }
+    /// Whether kept types, if they are there, are those of a signature of another module.
+    fn is_signature(&self, kept: Option<&[LinkedType]>, n: &Module<'_>, signature: u16) -> bool
+        ensures { result ≡ kept_at (tables_in self.now) (option_map (λ k. k.now) kept.entry) n.now signature }
     {
-        match n.signature(usize::from(signature)) {
-            Some(tokens) => self.are_types(kept, n, tokens),
-            None => false,
+        match (kept, n.signature(usize::from(signature))) {
+            (Some(types), Some(tokens)) => self.are_types(types, n, tokens),
+            _ => false,
         }
     }
 
@@ -196,24 +196,15 @@ impl<'a> Replaced<'a> {
         true
     }
 
-    /// Whether kept types, if they are there, are those of a signature of another module.
-    fn is_signature(&self, kept: Option<&[LinkedType]>, n: &Module<'_>, signature: u16) -> bool
-        ensures { result ≡ kept_at (tables_in self.now.store.now) (option_map (λ k. k.now) kept.entry) n.now signature }
-    {
-        match kept {
-            Some(types) => self.store.is_signature(types, n, signature),
-            None => false,
-        }
-    }
-
     /// Whether the function at an index has the types of a new one.
     fn has_types(&self, index: usize, n: &Module<'_>, e: &FunctionDefinition) -> bool
         ensures { result ≡ types_same (tables_in self.now.store.now) self.now.interface.now index n.now e.now }
     {
         match function_handle(n, e.handle() as usize) {
             Some(h) => {
-                self.is_signature(self.interface.parameters.get(index), n, h.parameters)
-                    && self.is_signature(self.interface.results.get(index), n, h.results)
+                let store = self.store;
+                store.is_signature(self.interface.parameters.get(index), n, h.parameters)
+                    && store.is_signature(self.interface.results.get(index), n, h.results)
             }
             None => false,
         }
@@ -260,33 +251,19 @@ impl<'a> Replaced<'a> {
     }
 }
 
-/// Whether a module may stand where it is to: in the place of a module that it may replace, or of none.
-fn may_follow(s: &Store, replaced: Option<usize>, n: &Module<'_>) -> bool
-    requires replaced { replaced ≡ replaced_in (tables_in s.now) n.now }
-    requires few { length s.now ≤ 65536 }
-    ensures { result ≡ follows (tables_in s.now) n.now }
-{
-    match replaced {
-        Some(place) => {
-            let old = Replaced::of(s, place);
-            old.may_be_replaced(n)
-        }
-        None => true,
-    }
-}
-
 impl<'a> Scope<'a> {
-    /// The place of the published module whose place one of the bundle takes, if it takes one's.
-    fn replaced(&self, k: usize) -> Option<usize>
-        requires { k < length self.now.new.now }
-        ensures { (n : Tables) → slice_get (offered self.now.new.now) k ≡ Some n → result ≡ replaced_in (tables_in self.now.store.now) n }
+    /// Whether the module of the bundle at an index replaces nothing in the store, or what it may replace.
+    fn follows(&self, k: usize) -> bool
+        requires there { k < length self.now.new.now }
+        requires few { length self.now.store.now ≤ 65536 }
+        ensures { (n : Tables) → slice_get (offered self.now.new.now) k ≡ Some n → result ≡ follows (tables_in self.now.store.now) n }
     {
         let place = self.places[k];
-        if place < self.store.len() {
-            Some(place)
-        } else {
-            None
+        if place >= self.store.len() {
+            return true;
         }
+        let n = self.new[k].module.module();
+        Replaced::of(self.store, place).may_be_replaced(n)
     }
 
     /// Whether each module of the bundle replaces nothing in the store, or what it may replace.
@@ -295,8 +272,7 @@ impl<'a> Scope<'a> {
         ensures { result ≡ each_follows (tables_in self.now.store.now) (offered self.now.new.now) }
     {
         'each: for k in 0..self.new.len() {
-            let n = self.new[k].module.module();
-            if !may_follow(self.store, self.replaced(k), n) {
+            if !self.follows(k) {
                 return false;
             }
         }

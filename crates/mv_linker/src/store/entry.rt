@@ -7,6 +7,7 @@ ghost use Rattle.mv_linker.specs.Link.{IsPublishable};
 
 use crate::New;
 use mv_interface::name_of;
+use mv_move_types::Address;
 use std::alloc::{AllocError, Global};
 use std::borrow::CowSlice;
 use std::marker::Model;
@@ -15,9 +16,19 @@ use std::marker::Model;
 #[derive(PartialEq, Eq, Hash, Drop)]
 pub struct Name<'a> {
     /// The address that the module is published at.
-    pub address: u128,
+    pub address: Address,
     /// The bytes of its identifier.
     pub identifier: CowSlice<'a, u8>,
+}
+
+/// The key that a module with this address and identifier is found by.
+pub fn asked_for(address: Address, identifier: &[u8]) -> Name<'_>
+    ensures { name_in result ≡ record { address = address; name = identifier.now } }
+{
+    Name {
+        address,
+        identifier: CowSlice::Borrowed(identifier),
+    }
 }
 
 /// What a published module came in.
@@ -51,7 +62,7 @@ impl Model for Entry {
 
 impl Entry {
     /// The address that it is published at.
-    pub fn address(&self) -> u128
+    pub fn address(&self) -> Address
         ensures { result ≡ self.now.name.address }
     {
         self.name.address
@@ -69,10 +80,7 @@ impl Entry {
     pub fn key(&self) -> Name<'_>
         ensures { own_name self.now.published.tables ≡ Some (name_in result) }
     {
-        Name {
-            address: self.name.address,
-            identifier: CowSlice::Borrowed(self.name.identifier.as_slice()),
-        }
+        asked_for(self.name.address, self.name.identifier.as_slice())
     }
 
     /// The bytes of the module, and of the certificate that it was checked with.

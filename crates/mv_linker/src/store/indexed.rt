@@ -77,19 +77,6 @@ fn is_one_name(a: &Name<'_>, b: &Name<'_>) -> bool
     a.address == b.address && a.identifier.as_slice() == b.identifier.as_slice()
 }
 
-/// A map that is there, or else an empty one.
-fn map_of<'a>(
-    alloc: Global,
-    map: Option<Box<IndexMap<Name<'a>, usize>>>,
-) -> Result<Box<IndexMap<Name<'a>, usize>>, AllocError>
-    ensures { IfOk result (λ m. m.value.entries ≡ option_map_or (λ m. m.value.entries) map.entry []) }
-{
-    match map {
-        Some(map) => Ok(map),
-        None => Ok(Box::new(alloc, IndexMap::new(alloc))?),
-    }
-}
-
 /// Puts a place under a name in a map.
 fn put_in<'a>(
     places: &mut IndexMap<Name<'a>, usize>,
@@ -113,7 +100,10 @@ fn put_other<'a>(
 ) -> Result<(), AllocError>
     ensures { OnOk result (PutsPlace (option_map_or (λ m. m.value.entries) places.old []) (option_map_or (λ m. m.value.entries) places.new []) name.entry place) }
 {
-    let mut map = map_of(alloc, places.take())?;
+    let mut map = match places.take() {
+        Some(map) => map,
+        None => Box::new(alloc, IndexMap::new(alloc))?,
+    };
     put_in(&mut map, name, place)?;
     *places = Some(map);
     Ok(())

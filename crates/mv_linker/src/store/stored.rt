@@ -8,11 +8,13 @@ ghost use Rattle.mv_linker.specs.Code.{program};
 ghost use Rattle.mv_interface.specs.Interface.{IsInterface, IsSignatureAt};
 ghost use Rattle.mv_linker.specs.Linked.{program_of, width_of_others};
 ghost use Rattle.mv_interface.specs.Shapes.{AreFieldsAt, is_keyed, structs_in};
+ghost use Rattle.mv_linker.specs.ScopeDependencies.{AreNeedsAt};
 ghost use Rattle.mv_linker.specs.Stored.{IsSizeAt};
 
 use crate::Store;
 use crate::rules::sizes::Size;
 use crate::store::code::Code;
+use crate::store::places::Places;
 use mv_interface::{Interface, Part, Signature, StructName};
 use mv_move_types::Definition;
 
@@ -99,6 +101,14 @@ impl Store {
         ensures { IfSome (slice_get (tables_in self.now) place) (λ m. IsInterface (tables_in self.now) m result.now) }
     {
         &self.codes[place].interface
+    }
+
+    /// The places of the modules that the module at a place depends on.
+    pub(crate) fn needs_at(&self, place: usize) -> &Places
+        requires { place < length self.now }
+        ensures { AreNeedsAt (tables_in self.now) place result.now }
+    {
+        &self.codes[place].needs
     }
 
     /// The size of a struct.

@@ -29,21 +29,18 @@ fn each_edge_is_inserted_once(rt: HostRuntime) -> Result<(), Fail> {
     }
     assert_eq!(rt; edges.len(), 2);
     assert_eq!(rt; edges.get(0).ok_or("first")?.from(), Node::Own(1));
-    assert!(rt; edges.has_out_of(Node::Glob(0)));
-    edges.remove_at(Node::Glob(0));
-    assert!(rt; !edges.has_out_of(Node::Glob(0)));
     Ok(())
 }
 
 #[test]
-fn edges_are_renamed_and_joined(rt: HostRuntime) -> Result<(), Fail> {
+fn edges_are_joined(rt: HostRuntime) -> Result<(), Fail> {
     let alloc = rt.alloc();
     let mut edges = Edges::new(alloc);
     edges.insert(Edge::new(Node::Own(1), Label::here(alloc), Node::Slot(0)))?;
     let before = edges.copy(alloc)?;
     assert!(rt; before == edges);
-    let after = edges.rename(alloc, Node::Slot(0), Node::Temp(0))?;
-    assert_eq!(rt; after.get(0).ok_or("first")?.to(), Node::Temp(0));
+    let mut after = Edges::new(alloc);
+    after.insert(Edge::new(Node::Own(1), Label::here(alloc), Node::Temp(0)))?;
     let both = Edges::join(alloc, &before, &after)?;
     assert_eq!(rt; both.len(), 2);
     assert!(rt; before.leq(&both) && after.leq(&both));
@@ -82,21 +79,16 @@ fn edges_that_lie_above_are_found(rt: HostRuntime) -> Result<(), Fail> {
 }
 
 #[test]
-fn edges_are_inherited_with_changed_labels(rt: HostRuntime) -> Result<(), Fail> {
+fn edges_are_added_together(rt: HostRuntime) -> Result<(), Fail> {
     let alloc = rt.alloc();
     let mut edges = Edges::new(alloc);
-    edges.insert(edge(alloc, Node::Own(1), 4, Node::Temp(0))?)?;
-    edges.insert(edge(alloc, Node::Own(1), 5, Node::Slot(2))?)?;
-    let field = edges.inherited(alloc, Change::Extended(7), Node::Temp(0), Node::Temp(0))?;
-    assert_eq!(rt; (field.len(), field.longest()), (1, 2));
-    edges.remove_at(Node::Temp(0));
-    edges.add_all(field)?;
-    assert_eq!(rt; edges.len(), 2);
-    assert!(rt; edges.has_agreeing_out_of(Node::Own(1), 4));
-    assert!(rt; !edges.has_agreeing_out_of(Node::Own(1), 7));
-    edges.remove_out_of(Node::Own(1));
-    assert!(rt; edges.is_empty());
     assert_eq!(rt; edges.longest(), 0);
+    edges.insert(edge(alloc, Node::Own(1), 4, Node::Temp(0))?)?;
+    let mut more = Edges::new(alloc);
+    let field = Label::new(vec![in alloc; 4, 7]?, false);
+    more.insert(Edge::new(Node::Own(1), field, Node::Temp(0)))?;
+    edges.add_all(more)?;
+    assert_eq!(rt; (edges.len(), edges.longest()), (2, 2));
     Ok(())
 }
 

@@ -1,14 +1,15 @@
-// Borrow graphs on their way through a block, in lists and composed, beside what the same steps make of lists of edges.
+// Borrow graphs on their way through a block, beside what the same steps make of lists of edges.
 
+use super::lists::{but_out_of, inherited, leads_out_of, leads_out_of_globals, renamed, without};
 use mv_edges::{All, Change, Edge, Edges, Globals, Graph, Heir, Label, One};
 use mv_move_types::Node;
 use std::alloc::{AllocError, Global};
 use std::test::Fail;
 
-/// How many labels there are between two nodes, where the edges stay a list.
+/// How many labels there are between two nodes, where there are few edges.
 const FEW: u8 = 4;
 
-/// How many, where they are composed.
+/// How many, where there are many.
 const MANY: u8 = 40;
 
 /// What leads into references: a local's value, a global and an operand.
@@ -64,31 +65,34 @@ enum Step {
 }
 
 /// The graph where two nodes are taken.
-fn tied(alloc: Global, first: Node, second: Node, graph: Graph) -> Result<Graph, AllocError> {
+fn tie(alloc: Global, first: Node, second: Node, graph: &mut Graph) -> Result<(), AllocError> {
     let both = [first, second];
     let heirs = [
         Heir::new(first, &both),
         Heir::new(Node::Temp(8), &both[1..]),
     ];
-    graph.tied(alloc, &both, &heirs)
+    graph.tie(alloc, &both, &heirs)
 }
 
-/// What a step makes of a graph.
-fn stepped(alloc: Global, step: Step, mut graph: Graph) -> Result<Graph, AllocError> {
+/// Makes a step of a graph.
+fn step_on(alloc: Global, step: Step, graph: &mut Graph) -> Result<(), AllocError> {
     match step {
         Step::RemoveAt(n) => {
             graph.remove_at(n);
-            Ok(graph)
+            Ok(())
         }
         Step::RemoveOutOf(n) => {
             graph.remove_out_of(n);
-            Ok(graph)
+            Ok(())
         }
-        Step::Rename(old, new) => graph.renamed(alloc, old, new),
-        Step::Lend(from, to) => graph.lent(alloc, from, to),
-        Step::Share(old, new) => graph.shared(alloc, old, new),
-        Step::Extend(position, n) => graph.extended(alloc, position, n),
-        Step::Tie(first, second) => tied(alloc, first, second, graph),
+        Step::Rename(old, new) => {
+            graph.rename(old, new);
+            Ok(())
+        }
+        Step::Lend(from, to) => graph.lend(from, to),
+        Step::Share(old, new) => graph.share(old, new),
+        Step::Extend(position, n) => graph.extend(alloc, position, n),
+        Step::Tie(first, second) => tie(alloc, first, second, graph),
     }
 }
 
@@ -97,15 +101,13 @@ fn tied_edges(
     alloc: Global,
     first: Node,
     second: Node,
-    mut edges: Edges,
+    edges: &Edges,
 ) -> Result<Edges, AllocError> {
-    let mut new = edges.inherited(alloc, Change::Opened, first, first)?;
-    new.add_all(edges.inherited(alloc, Change::Opened, second, first)?)?;
-    new.add_all(edges.inherited(alloc, Change::Opened, second, Node::Temp(8))?)?;
-    edges.remove_at(first);
-    edges.remove_at(second);
-    edges.add_all(new)?;
-    Ok(edges)
+    let mut new = inherited(alloc, Change::Opened, first, first, edges)?;
+    new.add_all(inherited(alloc, Change::Opened, second, first, edges)?)?;
+    new.add_all(inherited(alloc, Change::Opened, second, Node::Temp(8), edges)?)?;
+    new.add_all(without(alloc, second, &without(alloc, first, edges)?)?)?;
+    Ok(new)
 }
 
 /// The edges with those that lead into a node for another one, too.
@@ -115,7 +117,7 @@ fn shared_edges(
     new: Node,
     mut edges: Edges,
 ) -> Result<Edges, AllocError> {
-    let more = edges.inherited(alloc, Change::Kept, old, new)?;
+    let more = inherited(alloc, Change::Kept, old, new, &edges)?;
     edges.add_all(more)?;
     Ok(edges)
 }
@@ -125,41 +127,34 @@ fn extended_edges(
     alloc: Global,
     position: u8,
     n: Node,
-    mut edges: Edges,
+    edges: &Edges,
 ) -> Result<Edges, AllocError> {
-    let new = edges.inherited(alloc, Change::Extended(position), n, n)?;
-    edges.remove_at(n);
-    edges.add_all(new)?;
-    Ok(edges)
+    let mut new = inherited(alloc, Change::Extended(position), n, n, edges)?;
+    new.add_all(without(alloc, n, edges)?)?;
+    Ok(new)
 }
 
 /// What a step makes of a list of edges.
 fn stepped_edges(alloc: Global, step: Step, mut edges: Edges) -> Result<Edges, AllocError> {
     match step {
-        Step::RemoveAt(n) => {
-            edges.remove_at(n);
-            Ok(edges)
-        }
-        Step::RemoveOutOf(n) => {
-            edges.remove_out_of(n);
-            Ok(edges)
-        }
-        Step::Rename(old, new) => edges.rename(alloc, old, new),
+        Step::RemoveAt(n) => without(alloc, n, &edges),
+        Step::RemoveOutOf(n) => but_out_of(alloc, n, &edges),
+        Step::Rename(old, new) => renamed(alloc, old, new, &edges),
         Step::Lend(from, to) => {
             edges.insert(Edge::new(from, Label::here(alloc), to))?;
             Ok(edges)
         }
         Step::Share(old, new) => shared_edges(alloc, old, new, edges),
-        Step::Extend(position, n) => extended_edges(alloc, position, n, edges),
-        Step::Tie(first, second) => tied_edges(alloc, first, second, edges),
+        Step::Extend(position, n) => extended_edges(alloc, position, n, &edges),
+        Step::Tie(first, second) => tied_edges(alloc, first, second, &edges),
     }
 }
 
-/// What steps make of a graph, which is composed wherever it may be.
+/// What steps make of a graph.
 fn after(alloc: Global, steps: &[Step], edges: Edges) -> Result<Graph, AllocError> {
-    let mut graph = Graph::of_edges(edges).eased(alloc)?;
+    let mut graph = Graph::of_edges(alloc, &edges)?;
     for step in steps {
-        graph = stepped(alloc, *step, graph)?.eased(alloc)?;
+        step_on(alloc, *step, &mut graph)?;
     }
     Ok(graph)
 }
@@ -207,23 +202,16 @@ const CHAIN: [Step; 18] = [
 ];
 
 #[test]
-fn composed_edges_go_as_their_list_does(rt: HostRuntime) -> Result<(), Fail> {
+fn a_graph_goes_as_its_list_does(rt: HostRuntime) -> Result<(), Fail> {
     let alloc = rt.alloc();
     assert!(rt; some_edges(alloc, MANY)?.len() > 300);
     assert!(rt; goes_alike(alloc, &CHAIN, MANY)?);
-    Ok(())
-}
-
-#[test]
-fn listed_edges_go_as_their_list_does(rt: HostRuntime) -> Result<(), Fail> {
-    let alloc = rt.alloc();
-    assert!(rt; edges_after(alloc, &CHAIN, some_edges(alloc, FEW)?)?.len() < 256);
     assert!(rt; goes_alike(alloc, &CHAIN, FEW)?);
     Ok(())
 }
 
 /// A reference that leads to itself is extended, or one that another leads out of is taken.
-const FALLING_BACK: [Step; 7] = [
+const AT_ITSELF: [Step; 7] = [
     Step::Lend(Node::Slot(4), Node::Slot(4)),
     Step::Extend(6, Node::Slot(4)),
     Step::Lend(Node::Temp(2), Node::Slot(5)),
@@ -236,53 +224,8 @@ const FALLING_BACK: [Step; 7] = [
 #[test]
 fn edges_at_references_that_have_some_go_as_well(rt: HostRuntime) -> Result<(), Fail> {
     let alloc = rt.alloc();
-    assert!(rt; goes_alike(alloc, &FALLING_BACK, MANY)?);
-    assert!(rt; goes_alike(alloc, &FALLING_BACK, FEW)?);
-    Ok(())
-}
-
-/// Whether a list is left where the last of these steps is made of a composed graph.
-fn leaves_a_list(alloc: Global, before: &[Step], last: Step) -> Result<bool, AllocError> {
-    let graph = after(alloc, before, some_edges(alloc, MANY)?)?;
-    Ok(stepped(alloc, last, graph)?.is_long())
-}
-
-#[test]
-fn many_edges_are_composed(rt: HostRuntime) -> Result<(), Fail> {
-    let alloc = rt.alloc();
-    let graph = Graph::of_edges(some_edges(alloc, MANY)?);
-    assert!(rt; graph.is_long());
-    assert!(rt; !graph.eased(alloc)?.is_long());
-    assert!(rt; !Graph::of_edges(some_edges(alloc, FEW)?).is_long());
-    for (end, step) in CHAIN.iter().enumerate() {
-        assert!(rt; !leaves_a_list(alloc, &CHAIN[..end], *step)?);
-    }
-    for end in [1, 4, 6] {
-        assert!(rt; leaves_a_list(alloc, &FALLING_BACK[..end], FALLING_BACK[end])?);
-    }
-    Ok(())
-}
-
-/// Edges from the values of so many locals to one reference.
-fn from_each_local(alloc: Global, count: u16) -> Result<Edges, AllocError> {
-    let mut edges = Edges::new(alloc);
-    for local in 0..count {
-        edges.push_last(Edge::new(Node::Own(local), Label::here(alloc), Node::Slot(7)))?;
-    }
-    Ok(edges)
-}
-
-#[test]
-fn edges_are_lent_where_no_number_is_left(rt: HostRuntime) -> Result<(), Fail> {
-    let alloc = rt.alloc();
-    let steps = [
-        Step::Lend(Node::Own(7), Node::Slot(8)),
-        Step::Lend(Node::Glob(3), Node::Slot(9)),
-    ];
-    let graph = after(alloc, &steps, from_each_local(alloc, 65535)?)?;
-    let edges = edges_after(alloc, &steps, from_each_local(alloc, 65535)?)?;
-    assert_eq!(rt; edges.len(), 65537);
-    assert!(rt; graph.settled(alloc)? == edges);
+    assert!(rt; goes_alike(alloc, &AT_ITSELF, MANY)?);
+    assert!(rt; goes_alike(alloc, &AT_ITSELF, FEW)?);
     Ok(())
 }
 
@@ -328,14 +271,14 @@ fn answers_between(graph: &Graph, edges: &Edges, from: Node, position: Option<u8
 /// Whether a graph answers as its edges do about what leads out of a node.
 fn answers_out_of(graph: &Graph, edges: &Edges, n: Node) -> bool {
     for position in 0..9 {
-        if graph.has_agreeing_out_of(n, position) != edges.has_agreeing_out_of(n, position) {
+        if graph.has_agreeing_out_of(n, position) != leads_out_of(edges, n, Some(position)) {
             return false;
         }
         if !answers_between(graph, edges, n, Some(position)) {
             return false;
         }
     }
-    graph.has_out_of(n) == edges.has_out_of(n) && answers_between(graph, edges, n, None)
+    graph.has_out_of(n) == leads_out_of(edges, n, None) && answers_between(graph, edges, n, None)
 }
 
 /// Whether each part of the chain leaves a graph that answers as its edges do.
@@ -343,7 +286,7 @@ fn answers_alike(alloc: Global, count: u8) -> Result<bool, AllocError> {
     for end in 0..CHAIN.len() + 1 {
         let graph = after(alloc, &CHAIN[..end], some_edges(alloc, count)?)?;
         let edges = edges_after(alloc, &CHAIN[..end], some_edges(alloc, count)?)?;
-        if graph.has_out_of_globals() != edges.has_out_of_globals() {
+        if graph.has_out_of_globals() != leads_out_of_globals(&edges) {
             return Ok(false);
         }
         for n in NODES {
@@ -414,8 +357,8 @@ fn with_fields(alloc: Global, count: u8) -> Result<Edges, AllocError> {
 
 /// What those steps leave, but for what leads into the first reference; to this lead open labels of these positions.
 fn others(alloc: Global, count: u8, paths: &[&[u8]]) -> Result<Edges, AllocError> {
-    let mut edges = edges_after(alloc, &TO_TWO_FIELDS, with_fields(alloc, count)?)?;
-    edges.remove_at(Node::Temp(5));
+    let edges = edges_after(alloc, &TO_TWO_FIELDS, with_fields(alloc, count)?)?;
+    let mut edges = without(alloc, Node::Temp(5), &edges)?;
     for path in paths {
         let label = Label::from_slice(alloc, *path, true)?;
         edges.insert(Edge::new(Node::Own(8), label, Node::Temp(5)))?;

@@ -53,8 +53,25 @@ fn try_out(storage: &mut Storage, key: &Key, new: &[u128])
     ensures { storage.new.committed ≡ storage.old.committed }
 {
     let mut overlay = storage.overlay();
-    let _ = overlay.edit(key, 0, new);
+    let _ = overlay.write(key, 0, new);
     overlay.discard();
+}
+
+// Writes a word over the first one under a key, if there is one, and says whether it did.
+fn edit_first(overlay: &mut Overlay<'_>, key: &Key, word: u128) -> Result<bool, AllocError> {
+    let len = match overlay.len(key) {
+        Some(len) => len,
+        None => 0,
+    };
+    if len == 0 {
+        return Ok(false);
+    }
+    let found = overlay.edit(key, 0, 1)?;
+    if let Some(words) = found {
+        words.fill(word);
+        return Ok(true);
+    }
+    Ok(false)
 }
 
 // Puts a value where none is, and says whether it did.
@@ -154,10 +171,10 @@ fn values_are_edited_in_place(rt: HostRuntime) -> Result<(), Fail> {
     let value = Value::words([1, 2, 3].to_vec(alloc)?);
     assert!(rt; run(&mut storage, FIRST, value)?);
     let mut overlay = storage.overlay();
-    assert!(rt; overlay.edit(&FIRST, 1, &[7, 8])?);
-    assert!(rt; overlay.edit(&FIRST, 0, &[6])?);
-    assert!(rt; !overlay.edit(&FIRST, 2, &[0, 0])?);
-    assert!(rt; !overlay.edit(&SECOND, 0, &[0])?);
+    assert!(rt; overlay.write(&FIRST, 1, &[7, 8])?);
+    assert!(rt; overlay.write(&FIRST, 0, &[6])?);
+    assert!(rt; !overlay.write(&FIRST, 2, &[0, 0])?);
+    assert!(rt; !overlay.write(&SECOND, 0, &[0])?);
     assert_eq!(rt; view(&overlay, &FIRST, 0, 3), Some([6, 7, 8].as_slice()));
     assert!(rt; view(&overlay, &FIRST, 2, 2).is_none());
     assert!(rt; overlay.key_at(7, 0, 0) == Some(FIRST));
@@ -176,8 +193,8 @@ fn values_are_put_and_taken_again(rt: HostRuntime) -> Result<(), Fail> {
     assert!(rt; put(&mut overlay, FIRST, Value::leaf(5))?);
     assert!(rt; put(&mut overlay, SECOND, Value::words([1, 2].to_vec(alloc)?))?);
     assert!(rt; !put(&mut overlay, SECOND, Value::leaf(0))?);
-    assert!(rt; overlay.edit(&FIRST, 0, &[6])?);
-    assert!(rt; overlay.edit(&SECOND, 1, &[9])?);
+    assert!(rt; overlay.write(&FIRST, 0, &[6])?);
+    assert!(rt; overlay.write(&SECOND, 1, &[9])?);
     assert!(rt; is_taken(&mut overlay, &FIRST, &[6])?);
     assert!(rt; overlay.take(&FIRST)?.is_none());
     assert!(rt; put(&mut overlay, FIRST, Value::leaf(7))?);
@@ -201,11 +218,31 @@ fn keys_follow_one_another(rt: HostRuntime) -> Result<(), Fail> {
         for (other, other_value) in VALUES {
             assert_eq!(rt; word(&mut overlay, &one), Some(value));
             assert_eq!(rt; word(&mut overlay, &other), Some(other_value));
-            assert!(rt; overlay.edit(&other, 0, &[other_value])?);
-            assert!(rt; overlay.edit(&one, 0, &[value])?);
+            assert!(rt; overlay.write(&other, 0, &[other_value])?);
+            assert!(rt; overlay.write(&one, 0, &[value])?);
             assert!(rt; overlay.exists(&other));
         }
     }
+    Ok(())
+}
+
+// Words that are lent are changed where they stand.
+#[test]
+fn words_are_lent(rt: HostRuntime) -> Result<(), Fail> {
+    let alloc = rt.alloc();
+    let mut storage = Storage::new(alloc);
+    let value = Value::words([1, 2, 3].to_vec(alloc)?);
+    assert!(rt; run(&mut storage, FIRST, value)?);
+    let mut overlay = storage.overlay();
+    assert!(rt; edit_first(&mut overlay, &FIRST, 9)?);
+    assert!(rt; !edit_first(&mut overlay, &SECOND, 9)?);
+    assert!(rt; put(&mut overlay, SECOND, Value::leaf(5))?);
+    assert!(rt; edit_first(&mut overlay, &SECOND, 8)?);
+    assert_eq!(rt; view(&overlay, &FIRST, 0, 3), Some([9, 2, 3].as_slice()));
+    overlay.commit()?;
+    overlay.discard();
+    assert_eq!(rt; storage.get(&FIRST), Some([9, 2, 3].as_slice()));
+    assert_eq!(rt; storage.get(&SECOND), Some([8].as_slice()));
     Ok(())
 }
 
@@ -217,10 +254,10 @@ fn keys_are_used_again(rt: HostRuntime) -> Result<(), Fail> {
     assert!(rt; run(&mut storage, FIRST, Value::leaf(5))?);
     let mut overlay = storage.overlay();
     assert_eq!(rt; word(&mut overlay, &FIRST), Some(5));
-    assert!(rt; overlay.edit(&FIRST, 0, &[6])?);
+    assert!(rt; overlay.write(&FIRST, 0, &[6])?);
     assert!(rt; overlay.take(&FIRST)?.is_some());
     assert_eq!(rt; word(&mut overlay, &FIRST), None);
-    assert!(rt; !overlay.edit(&FIRST, 0, &[7])?);
+    assert!(rt; !overlay.write(&FIRST, 0, &[7])?);
     assert!(rt; !overlay.exists(&FIRST));
     assert!(rt; overlay.take(&FIRST)?.is_none());
     assert!(rt; put(&mut overlay, FIRST, Value::leaf(8))?);

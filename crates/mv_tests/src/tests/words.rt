@@ -7,38 +7,45 @@ use std::test::Fail;
 
 #[test]
 fn words_of_two_frames(rt: HostRuntime) -> Result<(), Fail> {
-    let mut words = Words::new(rt.alloc());
-    assert!(rt; words.extend([1, 2].as_slice()).is_ok());
-    assert!(rt; words.open(2).is_ok());
-    assert!(rt; words.push(7).is_ok());
-    assert_eq!(rt; words.as_slice(), [1, 2, 0, 0, 7].as_slice());
-    assert!(rt; words.settle_word(2).is_ok());
-    assert_eq!(rt; words.as_slice(), [1, 2, 7, 0].as_slice());
-    assert!(rt; words.copy(0, 3).is_ok());
-    assert!(rt; words.copy_word(2).is_ok());
-    assert_eq!(rt; words.as_slice(), [1, 2, 7, 0, 1, 2, 7, 7].as_slice());
-    assert!(rt; matches!(words.top(4), Ok(4)));
-    assert!(rt; words.settle(0, 6).is_ok());
-    assert_eq!(rt; words.as_slice(), [7, 7, 7, 0, 1, 2].as_slice());
-    words.close(1, 5);
-    assert_eq!(rt; words.as_slice(), [7, 2].as_slice());
-    words.cut(1);
-    assert!(rt; matches!(words.pop(), Ok(7)));
-    assert!(rt; matches!(words.pop(), Err(Halt::Stuck)));
-    assert_eq!(rt; words.len(), 0);
+    let mut locals = Words::new(rt.alloc());
+    let mut operands = Words::new(rt.alloc());
+    assert!(rt; locals.extend([1, 2].as_slice()).is_ok());
+    assert!(rt; locals.open(2).is_ok());
+    assert_eq!(rt; locals.as_slice(), [1, 2, 0, 0].as_slice());
+    assert!(rt; locals.settle_word(2, 7).is_ok());
+    assert_eq!(rt; locals.as_slice(), [1, 2, 7, 0].as_slice());
+    assert!(rt; operands.push(9).is_ok());
+    assert!(rt; operands.copy(&locals, 0, 3).is_ok());
+    assert!(rt; operands.copy(&locals, 1, 2).is_ok());
+    assert!(rt; operands.copy_word(&locals, 2).is_ok());
+    assert_eq!(rt; operands.as_slice(), [9, 1, 2, 7, 2, 7, 7].as_slice());
+    assert!(rt; matches!(operands.top(4), Ok(3)));
+    assert!(rt; locals.settle(2, [5, 6].as_slice()).is_ok());
+    assert!(rt; locals.settle(0, [3].as_slice()).is_ok());
+    assert!(rt; locals.settle(4, [].as_slice()).is_ok());
+    assert_eq!(rt; locals.as_slice(), [3, 2, 5, 6].as_slice());
+    assert!(rt; locals.settle(0, [8, 8, 8].as_slice()).is_ok());
+    assert_eq!(rt; locals.as_slice(), [8, 8, 8, 6].as_slice());
+    operands.cut(1);
+    assert!(rt; matches!(operands.pop(), Ok(9)));
+    assert!(rt; matches!(operands.pop(), Err(Halt::Stuck)));
+    assert_eq!(rt; operands.len(), 0);
     Ok(())
 }
 
 #[test]
 fn words_that_are_not_there(rt: HostRuntime) -> Result<(), Fail> {
-    let mut words = Words::new(rt.alloc());
-    assert!(rt; words.extend([1, 2].as_slice()).is_ok());
-    assert!(rt; matches!(words.copy(1, 2), Err(Halt::Stuck)));
-    assert!(rt; matches!(words.copy_word(2), Err(Halt::Stuck)));
-    assert!(rt; matches!(words.top(3), Err(Halt::Stuck)));
-    assert_eq!(rt; words.as_slice(), [1, 2].as_slice());
-    assert!(rt; matches!(words.settle(1, 1), Err(Halt::Stuck)));
-    assert_eq!(rt; words.as_slice(), [1, 2].as_slice());
+    let mut locals = Words::new(rt.alloc());
+    let mut operands = Words::new(rt.alloc());
+    assert!(rt; locals.extend([1, 2].as_slice()).is_ok());
+    assert!(rt; operands.extend([3, 4, 5].as_slice()).is_ok());
+    assert!(rt; matches!(operands.copy(&locals, 1, 2), Err(Halt::Stuck)));
+    assert!(rt; matches!(operands.copy_word(&locals, 2), Err(Halt::Stuck)));
+    assert!(rt; matches!(operands.top(4), Err(Halt::Stuck)));
+    assert_eq!(rt; operands.as_slice(), [3, 4, 5].as_slice());
+    assert!(rt; matches!(locals.settle(1, [6, 7].as_slice()), Err(Halt::Stuck)));
+    assert!(rt; matches!(locals.settle_word(2, 6), Err(Halt::Stuck)));
+    assert_eq!(rt; locals.as_slice(), [1, 2].as_slice());
     Ok(())
 }
 
@@ -56,23 +63,23 @@ fn words_that_hold_what_they_held(rt: HostRuntime) -> Result<(), Fail> {
 
 #[test]
 fn words_past_their_first_room(rt: HostRuntime) -> Result<(), Fail> {
-    let mut words = Words::new(rt.alloc());
-    assert!(rt; words.open(31).is_ok());
-    assert!(rt; words.extend([1, 2].as_slice()).is_ok());
-    assert!(rt; words.copy(1, 32).is_ok());
-    assert!(rt; words.push(7).is_ok());
-    assert!(rt; words.open(100).is_ok());
-    assert_eq!(rt; words.len(), 166);
-    words.cut(66);
-    assert_eq!(rt; words.len(), 66);
-    words.close(1, 33);
-    assert_eq!(rt; words.len(), 34);
-    assert!(rt; matches!(words.pop(), Ok(7)));
-    assert!(rt; matches!(words.pop(), Ok(2)));
-    words.close(0, 2);
-    assert_eq!(rt; words.len(), 30);
-    assert!(rt; matches!(words.pop(), Ok(1)));
-    assert!(rt; matches!(words.pop(), Ok(0)));
+    let mut locals = Words::new(rt.alloc());
+    let mut operands = Words::new(rt.alloc());
+    assert!(rt; locals.open(31).is_ok());
+    assert!(rt; locals.extend([1, 2].as_slice()).is_ok());
+    assert!(rt; operands.push(7).is_ok());
+    assert!(rt; operands.copy(&locals, 0, 33).is_ok());
+    assert!(rt; operands.copy(&locals, 1, 32).is_ok());
+    assert!(rt; locals.open(100).is_ok());
+    assert_eq!(rt; locals.len(), 133);
+    assert_eq!(rt; operands.len(), 66);
+    assert!(rt; matches!(operands.pop(), Ok(2)));
+    assert!(rt; matches!(operands.pop(), Ok(1)));
+    assert!(rt; matches!(operands.pop(), Ok(0)));
+    operands.cut(34);
+    assert!(rt; matches!(operands.pop(), Ok(2)));
+    operands.cut(1);
+    assert!(rt; matches!(operands.pop(), Ok(7)));
     Ok(())
 }
 

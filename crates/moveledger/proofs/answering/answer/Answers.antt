@@ -1,8 +1,8 @@
 use Rattle.std.proofs.Common.{Some, refl}
 use Rattle.mv_machine.specs.Lines.{Refused}
 use Rattle.mv_ledger.specs.Answering.{told, told_lines}
-use Rattle.moveledger.specs.declared.streaming.EngineError.TheVariants.{Read, Write}
-use Rattle.moveledger.proofs.Lines.{written_answers, begun_answers, failed_write_begins, other_replied}
+use Rattle.moveledger.specs.declared.streaming.EngineError.TheVariants.{Read}
+use Rattle.moveledger.proofs.Lines.{written_answers, begun_answers, breaks_off, other_replied}
 use Rattle.moveledger.proofs.answering.answer.Goals as goal
 
 pub returns-then-kind-eq-PUBLISH-clause-ok : goal.returns-then-kind-eq-PUBLISH-clause-ok
@@ -17,8 +17,7 @@ returns-then-kind-eq-PUBLISH-clause-err g c =
 
 pub returns-then-kind-eq-PUBLISH-clause-write : goal.returns-then-kind-eq-PUBLISH-clause-write
 returns-then-kind-eq-PUBLISH-clause-write g c failed =
-    failed_write_begins Read Write c.args.number c.args.kind 1 c.args.payload.now (told c.publish.result) c.args.ledger.now c.publish.new.self (g.W.Write.contents c.args.writer.now) (g.W.Write.contents c.write_reply.new.writer)
-    c.write_reply.result c.if-kind-eq-PUBLISH.true c.publish.ensures c.write_reply.ensures.err c.write_reply.ensures.write failed
+    breaks_off c.args.number c.args.kind 1 c.args.payload.now (told c.publish.result) c.args.ledger.now c.publish.new.self (g.W.Write.contents c.args.writer.now) (g.W.Write.contents c.write_reply.new.writer) c.if-kind-eq-PUBLISH.true c.publish.ensures (c.write_reply.ensures.write failed)
 
 pub returns-then-kind-eq-RUN-clause-ok : goal.returns-then-kind-eq-RUN-clause-ok
 returns-then-kind-eq-RUN-clause-ok g c =
@@ -32,8 +31,7 @@ returns-then-kind-eq-RUN-clause-err g c =
 
 pub returns-then-kind-eq-RUN-clause-write : goal.returns-then-kind-eq-RUN-clause-write
 returns-then-kind-eq-RUN-clause-write g c failed =
-    failed_write_begins Read Write c.args.number c.args.kind 2 c.args.payload.now (told c.execute.result) c.args.ledger.now c.execute.new.self (g.W.Write.contents c.args.writer.now) (g.W.Write.contents c.write_reply-then-kind-eq-RUN.new.writer)
-    c.write_reply-then-kind-eq-RUN.result c.if-kind-eq-RUN.true c.execute.ensures c.write_reply-then-kind-eq-RUN.ensures.err c.write_reply-then-kind-eq-RUN.ensures.write failed
+    breaks_off c.args.number c.args.kind 2 c.args.payload.now (told c.execute.result) c.args.ledger.now c.execute.new.self (g.W.Write.contents c.args.writer.now) (g.W.Write.contents c.write_reply-then-kind-eq-RUN.new.writer) c.if-kind-eq-RUN.true c.execute.ensures (c.write_reply-then-kind-eq-RUN.ensures.write failed)
 
 pub returns-then-kind-eq-SHOW-clause-ok : goal.returns-then-kind-eq-SHOW-clause-ok
 returns-then-kind-eq-SHOW-clause-ok g c =
@@ -47,8 +45,7 @@ returns-then-kind-eq-SHOW-clause-err g c =
 
 pub returns-then-kind-eq-SHOW-clause-write : goal.returns-then-kind-eq-SHOW-clause-write
 returns-then-kind-eq-SHOW-clause-write g c failed =
-    failed_write_begins Read Write c.args.number c.args.kind 3 c.args.payload.now (told_lines c.show_lines.result) c.args.ledger.now c.args.ledger.now (g.W.Write.contents c.args.writer.now) (g.W.Write.contents c.write_report.new.writer)
-    c.write_report.result c.if-kind-eq-SHOW.true c.show_lines.ensures c.write_report.ensures.err c.write_report.ensures.write failed
+    breaks_off c.args.number c.args.kind 3 c.args.payload.now (told_lines c.show_lines.result) c.args.ledger.now c.args.ledger.now (g.W.Write.contents c.args.writer.now) (g.W.Write.contents c.write_report.new.writer) c.if-kind-eq-SHOW.true c.show_lines.ensures (c.write_report.ensures.write failed)
 
 pub returns-then-kind-eq-AUDIT-clause-ok : goal.returns-then-kind-eq-AUDIT-clause-ok
 returns-then-kind-eq-AUDIT-clause-ok g c =
@@ -62,8 +59,7 @@ returns-then-kind-eq-AUDIT-clause-err g c =
 
 pub returns-then-kind-eq-AUDIT-clause-write : goal.returns-then-kind-eq-AUDIT-clause-write
 returns-then-kind-eq-AUDIT-clause-write g c failed =
-    failed_write_begins Read Write c.args.number c.args.kind 4 c.args.payload.now (told_lines c.audit_lines.result) c.args.ledger.now c.args.ledger.now (g.W.Write.contents c.args.writer.now) (g.W.Write.contents c.write_report-then-kind-eq-AUDIT.new.writer)
-    c.write_report-then-kind-eq-AUDIT.result c.if-kind-eq-AUDIT.true c.audit_lines.ensures c.write_report-then-kind-eq-AUDIT.ensures.err c.write_report-then-kind-eq-AUDIT.ensures.write failed
+    breaks_off c.args.number c.args.kind 4 c.args.payload.now (told_lines c.audit_lines.result) c.args.ledger.now c.args.ledger.now (g.W.Write.contents c.args.writer.now) (g.W.Write.contents c.write_report-then-kind-eq-AUDIT.new.writer) c.if-kind-eq-AUDIT.true c.audit_lines.ensures (c.write_report-then-kind-eq-AUDIT.ensures.write failed)
 
 pub returns-clause-ok : goal.returns-clause-ok
 returns-clause-ok g c =
@@ -80,5 +76,4 @@ returns-clause-err g c =
 pub returns-clause-write : goal.returns-clause-write
 returns-clause-write g c failed =
     let other = other_replied c.args.kind c.args.payload.now c.args.ledger.now c.if-kind-eq-PUBLISH.false c.if-kind-eq-RUN.false c.if-kind-eq-SHOW.false c.if-kind-eq-AUDIT.false c.is_sound.ensures in
-    failed_write_begins Read Write c.args.number c.args.kind c.args.kind c.args.payload.now (Some (Refused 1)) c.args.ledger.now c.args.ledger.now (g.W.Write.contents c.args.writer.now) (g.W.Write.contents c.write_reply-2.new.writer)
-    c.write_reply-2.result refl other c.write_reply-2.ensures.err c.write_reply-2.ensures.write failed
+    breaks_off c.args.number c.args.kind c.args.kind c.args.payload.now (Some (Refused 1)) c.args.ledger.now c.args.ledger.now (g.W.Write.contents c.args.writer.now) (g.W.Write.contents c.write_reply-2.new.writer) refl other (c.write_reply-2.ensures.write failed)

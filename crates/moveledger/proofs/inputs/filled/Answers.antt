@@ -1,4 +1,4 @@
-use Rattle.std.proofs.Common.{◌-◌, length, take, arith, refl}
+use Rattle.std.proofs.Common.{◌-◌, length, arith}
 use Rattle.std.proofs.KnownBytes.{Consumes-trans}
 use Rattle.std.proofs.lemmas.Grind.{common_steps}
 use Rattle.moveledger.proofs.Taken.{take-put_mid_more}

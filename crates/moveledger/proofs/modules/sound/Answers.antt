@@ -1,5 +1,6 @@
-use Rattle.std.proofs.Common.{Err, sym, ap, subst}
+use Rattle.std.proofs.Common.{Err, sym, ap, arith, subst}
 use Rattle.std.proofs.lemmas.Result.{err_from_is_err_and}
+use Rattle.mv_binary_format.proofs.Back.{all-are_bytes}
 use Rattle.mv_ledger.specs.Publishing.{Spells}
 use Rattle.moveledger.specs.Checking.{offer_of}
 use Rattle.mv_ledger.proofs.Phases.{refused_text, refused_bounds, refused_types}
@@ -16,12 +17,12 @@ pub returns-in_err-bounded-clause-refused : goal.returns-in_err-bounded-clause-r
 returns-in_err-bounded-clause-refused c =
     let p = err_from_is_err_and c.from_residual-in_err-bounded.result c.from_residual-in_err-bounded.ensures.1 in
     rw (p.1, p.2) (refused-alone c.args.bytes.now c.in_err-bounded.field-0.0 (λ certificate.
-    refused_bounds (offer_of c.args.bytes.now certificate) c.in_ok-module.module c.in_err-bounded.field-0.0 c.in_ok-module.ensures.text c.in_err-bounded.ensures.refused))
+    refused_bounds c.modules_are_read_by_text.ensures (offer_of c.args.bytes.now certificate) (all-are_bytes c.args.bytes.now (λ i. omega (arith, c.type_inv.bytes i))) c.in_ok-module.module c.in_err-bounded.field-0.0 c.in_ok-module.ensures.text c.in_err-bounded.ensures.refused))
 
 pub returns-in_err-typed-clause-refused : goal.returns-in_err-typed-clause-refused
 returns-in_err-typed-clause-refused c =
     let p = err_from_is_err_and c.from_residual-in_err-typed.result c.from_residual-in_err-typed.ensures.1 in
     let spelled = subst (Spells c.args.bytes.now) (sym c.in_ok-bounded.ensures.ok) c.in_ok-module.ensures.text in
     rw (p.1, p.2) (refused-alone c.args.bytes.now c.in_err-typed.field-0.0 (λ certificate.
-    refused_types (offer_of c.args.bytes.now certificate) c.in_ok-bounded.bounded c.in_err-typed.field-0.0 spelled
+    refused_types c.modules_are_read_by_text.ensures (offer_of c.args.bytes.now certificate) (all-are_bytes c.args.bytes.now (λ i. omega (arith, c.type_inv.bytes i))) c.in_ok-bounded.bounded c.in_err-typed.field-0.0 spelled
     c.module-defined.ensures.bounds c.module-defined.ensures.definitions c.in_err-typed.ensures.refused))

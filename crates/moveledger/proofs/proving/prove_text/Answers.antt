@@ -18,10 +18,7 @@ returns-in-Err-clause-refused c =
 
 pub returns-in-Err-clause-principal : goal.returns-in-Err-clause-principal
 returns-in-Err-clause-principal c = λ provable.
-    let bytes = c.args.module.now in
-    let are = all-are_bytes bytes (λ i. omega (arith, c.type_inv.module i)) in
-    subst IsOfLimits (sym c.unproved.ensures)
-    (provable-refused bytes c.modules_are_read_by_text.ensures are provable c.in-Err.e c.in-Err.ensures.refused)
+    subst IsOfLimits (sym c.unproved.ensures) (provable-refused c.args.module.now provable c.in-Err.e c.in-Err.ensures.refused)
 
 pub returns-in_err-certificate-clause-refused : goal.returns-in_err-certificate-clause-refused
 returns-in_err-certificate-clause-refused c =

@@ -1,6 +1,11 @@
 use Rattle.moveledger.proofs.Endings.{ends_after}
+use Rattle.moveledger.proofs.AfterRecords.{ends_by}
 use Rattle.moveledger.proofs.reporting.report.Goals as goal
 
 pub returns-clause-ends : goal.returns-clause-ends
 returns-clause-ends g c =
     rw (c.end_of.ensures) (ends_after c.answer_all-answered.result c.is_ok-is_flushed.result _ _ _ _ _ _ _ c.answer_all-answered.ensures.ok c.answer_all-answered.ensures.taken c.answer_all-answered.ensures.err c.answer_all-answered.ensures.read c.flush.ensures.bytes)
+
+pub returns-clause-done : goal.returns-clause-done
+returns-clause-done g c =
+    rw (c.end_of.ensures) (ends_by _ _ c.answer_all-answered.result c.is_ok-is_flushed.result c.answer_all-answered.ensures.done c.answer_all-answered.ensures.until)

@@ -1,8 +1,12 @@
 use Rattle.mv_certificate.specs.Functions.{LocalsHoldAt}
 use Rattle.mv_certificate.specs.Reads.{FitsAt}
 use Rattle.mv_analyser.specs.Least.{HasLeastLocals}
+use Rattle.mv_analyser.specs.Principal.{AllBefore, FindsLocals}
 use Rattle.mv_analyser.proofs.Modules.{UpTo}
 use Rattle.mv_analyser.proofs.locals.least_locals.Given as goal
 
 abbrev pub invariant-loop-f : goal.invariant-loop-f
-invariant-loop-f l = UpTo (λ k s. FitsAt l.m k s × (LocalsHoldAt l.m k s × HasLeastLocals l.m k s)) l.f l.functions.items
+invariant-loop-f l = record {
+  states : UpTo (λ k s. FitsAt l.m k s × (LocalsHoldAt l.m k s × HasLeastLocals l.m k s)) l.f l.functions.items;
+  found : AllBefore (FindsLocals l.m) l.f;
+}

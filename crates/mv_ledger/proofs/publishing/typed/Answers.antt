@@ -15,7 +15,7 @@ returns-in_err-module-clause-refused c = λ certificate.
 pub returns-in_err-bounded-clause-refused : goal.returns-in_err-bounded-clause-refused
 returns-in_err-bounded-clause-refused c = λ certificate.
     let p = err_from_is_err_and c.from_residual-in_err-bounded.result c.from_residual-in_err-bounded.ensures.1 in
-    rw (p.1, p.2) (refused_bounds (record { text = c.args.text.now; certificate = certificate }) c.in_ok-module.module c.in_err-bounded.field-0.0
+    rw (p.1, p.2) (refused_bounds c.modules_are_read_by_text.ensures (record { text = c.args.text.now; certificate = certificate }) c.are_bytes.ensures c.in_ok-module.module c.in_err-bounded.field-0.0
     c.in_ok-module.ensures.text c.in_err-bounded.ensures.refused)
 
 pub returns-clause-read : goal.returns-clause-read
@@ -30,6 +30,6 @@ returns-clause-text c =
 pub returns-clause-refused : goal.returns-clause-refused
 returns-clause-refused c = λ certificate.
     IfErr-weaker c.check-2.result (IsRefusedByTypes c.in_ok-bounded.bounded) (IsRefusedOffer (record { text = c.args.text.now; certificate = certificate }))
-    (λ e. refused_types (record { text = c.args.text.now; certificate = certificate }) c.in_ok-bounded.bounded e
+    (λ e. refused_types c.modules_are_read_by_text.ensures (record { text = c.args.text.now; certificate = certificate }) c.are_bytes.ensures c.in_ok-bounded.bounded e
     (spelled c.args.text.now c.in_ok-module.module c.in_ok-bounded.bounded c.in_ok-module.ensures.text c.in_ok-bounded.ensures.ok)
     c.module-defined.ensures.bounds c.module-defined.ensures.definitions) c.check-2.ensures.refused

@@ -85,10 +85,6 @@ pub returns-clause-lowered : goal.returns-clause-lowered
 returns-clause-lowered c =
     rw (scope-tables c.args.s.now c.args.new.now, offered-tables c.args.new.now) (rw (c.in_ok-scope.ensures.store, c.in_ok-scope.ensures.new) at c.links.ensures.lowered)
 
-pub returns-clause-dependencies : goal.returns-clause-dependencies
-returns-clause-dependencies c =
-    rw (scope-tables c.args.s.now c.args.new.now) (rw (c.in_ok-scope.ensures.store, c.in_ok-scope.ensures.new) at c.links.ensures.dependencies)
-
 pub returns-clause-refused : goal.returns-clause-refused
 returns-clause-refused c =
     if_err _ _ _ (λ (j : MayJoin c.args.sender (tables_in c.args.s.now) (tables_in (published_of c.args.new.now)) (tables_in (with_modules c.args.s.now (published_of c.args.new.now)))).

@@ -62,7 +62,7 @@ returns-in-Some c =
     let p = c.in-Some.place in
     let s = c.index_mut.result.now in
     let t = c.put.new.self in
-    let n : Places = record { tree = c.enter_noted.new.tree; slots = with_item v.slots p t; free = v.free } in
+    let n : Places = record { tree = c.enter_noted.new.tree; slots = with_item v.slots p t; nothing = v.nothing; free = v.free } in
     let had = c.in_ok-had.ensures in
     let at : get key_cmp v.tree k ≡ Some p = sym had.had ∙ c.in-Some.is in
     let is : slot_at m k ≡ Some s = sym (c.vacancy.ensures.same k) ∙ slot-read v k p s c.vacancy.ensures.sound at c.index_mut.ensures.value in
@@ -87,7 +87,7 @@ returns-in_err-had-clause-tracked c =
     let m = c.args.places.now in
     let v = c.vacancy.new.self in
     let touched = c.args.touched.now.items in
-    let n : Places = record { tree = c.enter_noted.new.tree; slots = v.slots; free = v.free } in
+    let n : Places = record { tree = c.enter_noted.new.tree; slots = v.slots; nothing = v.nothing; free = v.free } in
     let err = c.in_err-had.ensures.err in
     subst (IsTracked n) (sym err.1)
     (tracked-same m n touched touched c.requires.tracked (same-sound v n c.vacancy.ensures.sound err.0 refl c.in_err-had.ensures.ordered)

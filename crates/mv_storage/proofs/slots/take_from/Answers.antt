@@ -7,7 +7,7 @@ returns c =
     let m = c.args.places.now in
     let p = c.in-Some.place in
     let t = c.take.new.self in
-    let n : Places = record { tree = m.tree; slots = with_item m.slots p t; free = m.free } in
+    let n : Places = record { tree = m.tree; slots = with_item m.slots p t; nothing = m.nothing; free = m.free } in
     let w = wrote m n c.args.key.now p c.index_mut.result.now t c.requires.tracked.sound c.in-Some.ensures.place c.index_mut.ensures.value c.take.ensures.used refl refl in
     record {
       tracked = w.tracked c.index.result.now c.args.touched.now.items c.note.new.touched.items c.index.ensures c.requires.tracked c.note.ensures.kept c.in_ok-note.ensures.noted c.note.ensures.placed;

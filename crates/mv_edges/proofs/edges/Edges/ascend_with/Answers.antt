@@ -7,5 +7,5 @@ returns-in-Some c =
     let same = c.deref.ensures.value ∙ c.self.view_is in
     let last = c.in-Some.last.now in
     let is_last = subst (λ es. slice_get es (length es - 1) ≡ Some last) same (sym c.in-Some.ensures.value) in
-    let ascending = subst (λ es. are_ascending es ≡ true) c.self.view_is c.self.invariant in
+    let ascending = subst (λ es. are_ascending es ≡ true) c.self.view_is c.self.invariant.0 in
     c.is_before.ensures ∙ sym (ascending-push_some c.args.self.now c.args.e.now last is_last ascending)

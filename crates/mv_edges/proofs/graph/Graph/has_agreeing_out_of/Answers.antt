@@ -1,8 +1,7 @@
-use Rattle.mv_edges.proofs.Common.{◌∙◌, ap, sym, list_any, edges_of, agrees, out_of, edges_held, sorted}
+use Rattle.mv_edges.proofs.Common.{◌∙◌, ap, list_any, agrees, out_of}
+use Rattle.mv_edges.specs.Ways.{edges_of}
 use Rattle.mv_edges.proofs.Held.{held_agreeing}
 use Rattle.mv_edges.proofs.graph.Graph.has_agreeing_out_of.Goals as goal
 
-pub returns-in-Composed : goal.returns-in-Composed
-returns-in-Composed c =
-    c.any_between.ensures ∙ held_agreeing c.deref.result.now c.args.n c.args.position
-    ∙ ap (λ es. list_any (λ e. agrees c.args.position e.label) (out_of c.args.n es)) (ap (λ x. sorted (edges_of x)) c.deref.ensures ∙ ap edges_held (sym c.in-Composed.is) ∙ c.self.view_is)
+pub returns : goal.returns
+returns c = c.any_between.ensures ∙ held_agreeing (edges_of c.self.inside.ways) c.args.n c.args.position ∙ ap (λ es. list_any (λ e. agrees c.args.position e.label) (out_of c.args.n es)) c.self.view_is

@@ -1,12 +1,10 @@
-use Rattle.mv_ledger.proofs.Common.{◌++◌, ◌<◌, ◌∙◌, ◌∷◌, ◌≡◌, List, Tallied, ap, codes, count_object, counted_in, length, map, stored_of, subst, sym, ℕ}
-use Rattle.mv_ledger.specs.JsonLeft.{counted_objects}
-use Rattle.mv_ledger.specs.Pieces.{json_left}
-use Rattle.mv_ledger.specs.declared.json_pieces.Place.TheVariants.{Later}
-use Rattle.mv_ledger.proofs.Shows.Pieces.{first-plain, goes_on, rest-plain, some-counts}
+use Rattle.mv_ledger.proofs.Common.{[], ◌++◌, ◌-◌, ◌∙◌, ◌∷◌, ◌≡◌, Bool, List, Tallied, ap, codes, cond, count_object, counted_in, length, map, stored_of, sym, take, ℕ}
+use Rattle.mv_ledger.specs.declared.audit.Counted.{Counted}
+use Rattle.mv_ledger.proofs.Shows.Pieces.{IsLast, first-plain, last-so, rest-plain, some-counts, told}
 use Rattle.mv_ledger.proofs.json_pieces.CountedJson.next_entry.Goals as goal
 
-pub counts_behind-requires : goal.counts_behind-requires
-counts_behind-requires c =
+pub counts_before-requires : goal.counts_before-requires
+counts_before-requires c =
     first-plain c.args.self.counts (counted_in c.in-Some.counted) c.next.new.self c.args.self.plain (sym c.copied-counts.ensures ∙ c.in-Some.ensures)
 
 pub invariant_of-result : goal.invariant_of-result
@@ -14,13 +12,18 @@ invariant_of-result c = record {
   plain = rest-plain c.args.self.counts (counted_in c.in-Some.counted) c.next.new.self c.args.self.plain (sym c.copied-counts.ensures ∙ c.in-Some.ensures);
 }
 
-pub returns-in-Ok-counts_behind : goal.returns-in-Ok-counts_behind
-returns-in-Ok-counts_behind c =
+pub returns-in-Ok-counts_before : goal.returns-in-Ok-counts_before
+returns-in-Ok-counts_before c =
     let object_of : Tallied → List ℕ = λ (t : Tallied). count_object (stored_of t) t in
+    let objects : List Tallied → List (List ℕ) = λ (ts : List Tallied). map object_of ts in
     let first : Tallied = counted_in c.in-Some.counted in
     let more : List Tallied = c.next.new.self in
-    let is : c.args.self.counts ≡ first ∷ more = sym c.copied-counts.ensures ∙ c.in-Some.ensures in (
-      subst (λ (t : List ℕ). 0 < length t) (sym c.in-Ok-counts_behind.ensures) (some-counts c.args.self.place (stored_of first) first),
-      goes_on (codes "audit") c.args.self.place (counted_objects c.args.self) (object_of first) (map object_of more) c.requires (ap (map object_of) is)
-          ∙ ap (λ (t : List ℕ). t ++ json_left (codes "audit") Later (map object_of more)) (sym c.in-Ok-counts_behind.ensures),
-    )
+    let after : List Tallied = c.next-in-Ok-counts_before.new.self in
+    let is : c.args.self.counts ≡ first ∷ more = sym c.copied-counts.ensures ∙ c.in-Some.ensures in
+    let last : Bool = c.is_none-is_last.result in
+    let lasts : IsLast last (objects more) =
+    last-so ((c.copied.result ≡ []) × (after ≡ [])) (λ (d : Counted). c.copied.result ≡ counted_in d ∷ after) c.next-in-Ok-counts_before.result (objects more) last c.is_none-is_last.ensures
+    c.next-in-Ok-counts_before.ensures (λ none. ap objects (sym c.copied.ensures ∙ none.0))
+    (λ (d : Counted) at. (object_of (counted_in d), objects after, ap objects (sym c.copied.ensures ∙ at))) in
+    told (codes "audit") c.args.self.place (objects c.args.self.counts) (object_of first) (objects more) last c.between-text.result.items c.requires (ap objects is)
+    (some-counts (stored_of first) first) lasts (c.between-text.ensures ∙ ap (λ (l : List ℕ). cond last (take (length l - 1) l) l) c.in-Ok-counts_before.ensures)

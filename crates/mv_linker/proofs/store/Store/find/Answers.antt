@@ -1,8 +1,9 @@
-use Rattle.mv_linker.proofs.Common.{◌∙◌, ModuleName, ap, module_place, refl, tables_in}
+use Rattle.mv_linker.proofs.Common.{◌∙◌, ap, module_place, name_in, refl, tables_in}
 use Rattle.mv_linker.proofs.Kept.Keyed.{place-keyed}
 use Rattle.mv_linker.proofs.store.Store.find.Goals as goal
 
 pub returns : goal.returns
 returns c =
-    let name : ModuleName = record { address = c.args.address; name = c.args.name.now } in
-    c.get_index_of.ensures.index ∙ place-keyed _ name (λ k. refl) c.self.inside.modules.entries c.self.invariant.1 ∙ ap (λ s. module_place (tables_in s) name) c.self.view_is
+    let asked = c.asked_for.result in
+    c.get_index_of.ensures.index ∙ place-keyed _ (name_in asked) (λ k. refl) c.self.inside.modules.entries c.self.invariant.1 ∙ ap (λ s. module_place (tables_in s) (name_in asked)) c.self.view_is
+    ∙ ap (module_place (tables_in c.args.self.now)) c.asked_for.ensures

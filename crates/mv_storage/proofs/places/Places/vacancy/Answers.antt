@@ -8,7 +8,7 @@ returns-clause-sound c = pushed-sound c.args.self.now _ (Vacant c.args.self.now.
 pub returns-clause-same : goal.returns-clause-same
 returns-clause-same c =
     let m = c.args.self.now in
-    λ q. pushed-same m (record { tree = m.tree; slots = c.push.new.self; free = c.len-place.result }) (Vacant m.free) c.requires refl c.in_ok-push.ensures.items q
+    λ q. pushed-same m (record { tree = m.tree; slots = c.push.new.self; nothing = m.nothing; free = c.len-place.result }) (Vacant m.free) c.requires refl c.in_ok-push.ensures.items q
 
 pub returns-clause-vacant : goal.returns-clause-vacant
 returns-clause-vacant c =

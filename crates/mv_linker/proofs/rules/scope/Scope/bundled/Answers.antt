@@ -1,4 +1,4 @@
-use Rattle.mv_linker.proofs.Common.{ℕ, ◌-◌, ◌==◌, ◌∙◌, ◌≡◌, List, Some, ap, offered, places_in, position, slice_get, sym, tables_in}
+use Rattle.mv_linker.proofs.Common.{ℕ, ◌-◌, ◌==◌, ◌∙◌, ◌≡◌, List, Some, ap, offered, position, slice_get, sym, tables_in}
 use Rattle.mv_linker.proofs.Joining.PlacedApart.{first-placed}
 use Rattle.mv_linker.proofs.rules.scope.Scope.bundled.Goals as goal
 

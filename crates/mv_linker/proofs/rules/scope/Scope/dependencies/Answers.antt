@@ -1,5 +1,5 @@
 use Rattle.mv_linker.proofs.Common.{ℕ, ◌<◌, ◌∙◌, ◌≡◌, AreHandlePlaces, List, Module, New, Some, ap, arith, get_or, length, length-map, modules_in, offered, places_in, refl, same_Some, slice_get, slice_get-get_or, slice_get_read, subst, sym, tables_in}
-use Rattle.mv_linker.specs.ScopeDependencies.{IsNeeded}
+use Rattle.mv_linker.specs.DependencyGraph.{AreNeeds}
 use Rattle.mv_linker.proofs.Joining.Bundled.{bundle-at}
 use Rattle.mv_linker.proofs.Joining.Joins.{placed-length}
 use Rattle.mv_linker.proofs.Cycles.DependencyLemmas.{none-yet, one-more, all-found}
@@ -40,19 +40,19 @@ next c =
           (c.requires.names.each k m.0 n m.1 (slice_get-get_or c.args.names.now k c.index-names-k.result c.loop-k-test.true)).places;
     }
 
-pub of-requires : goal.of-requires
-of-requires c =
+pub needs_of-requires : goal.needs_of-requires
+needs_of-requires c =
     let s = c.args.self.now in
-    let x = next (goal.at.of-requires c).After-deref in
+    let x = next (goal.at.needs_of-requires c).After-deref in
     others-below (modules_in s) x.m c.index.result.now c.deref.result.now x.standing (differ-result (tables_in s.store.now) (offered s.new.now) c.requires.store.once) x.handles c.requires.few
 
 pub loop-k-preserved : goal.loop-k-preserved
 loop-k-preserved c =
     let s = c.args.self.now in
     let x = next (goal.at.loop-k-preserved c).After-deref in
-    let is = c.in_ok-of.ensures (modules_in s) x.m x.standing (differ-result (tables_in s.store.now) (offered s.new.now) c.requires.store.once) x.handles in
-    one-more _ _ _ _ _ c.in_ok-of.field-0 c.loop-k.invariant c.in_ok-push.ensures.items
-    (λ (m : Module) at. subst (λ (n : Module). IsNeeded (modules_in s) n c.in_ok-of.field-0) (same_Some x.m m (sym x.at ∙ at)) is)
+    let is = c.in_ok-needs_of.ensures (modules_in s) x.m x.standing (differ-result (tables_in s.store.now) (offered s.new.now) c.requires.store.once) x.handles in
+    one-more _ _ _ _ _ c.in_ok-needs_of.field-0 c.loop-k.invariant c.in_ok-push.ensures.items
+    (λ (m : Module) at. subst (λ (n : Module). AreNeeds (modules_in s) n c.in_ok-needs_of.field-0) (same_Some x.m m (sym x.at ∙ at)) is)
 
 pub returns : goal.returns
 returns c = all-found _ _ _ _ c.loop-k.invariant (omega (arith, c.requires.names.len))

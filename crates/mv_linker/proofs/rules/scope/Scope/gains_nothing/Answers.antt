@@ -1,4 +1,4 @@
-use Rattle.mv_linker.proofs.Common.{◌<◌, ◌∙◌, ◌≡◌, ◌≤◌, Dependencies, New, PublishedModule, Some, ap, arith, both_ways, false, get_or, length, length-map, modules_in, offered, refl, slice_get, slice_get-get_or, slice_get_read, sym, tables_in}
+use Rattle.mv_linker.proofs.Common.{◌<◌, ◌∙◌, ℕ, ◌≡◌, ◌≤◌, List, New, PublishedModule, Some, ap, arith, both_ways, false, get_or, length, length-map, modules_in, offered, refl, slice_get, slice_get-get_or, slice_get_read, subst, sym, tables_in}
 use Rattle.mv_linker.specs.Places.{IsOutside, IsWithin}
 use Rattle.mv_linker.specs.ScopeDependencies.{AreNeedsAt}
 use Rattle.mv_linker.proofs.Joining.Joins.{placed-length}
@@ -19,7 +19,7 @@ inside c =
     omega (arith, c.loop-k-test.true, c.len-k-end.ensures, s.places.ok.0, placed-length s, c.requires.needed.len, length-map s.new.now (λ (n : New). n.module))
 
 -- what it depends on
-new-needs : (c : After-index-place) (d : Dependencies) → AreNeedsAt (modules_in c.args.self.now) c.index-place.result.now (get_or c.args.needed.now c.loop-k.k d).needs
+new-needs : (c : After-index-place) (d : List ℕ) → AreNeedsAt (modules_in c.args.self.now) c.index-place.result.now (get_or c.args.needed.now c.loop-k.k d)
 new-needs c d m m_at =
     let s = c.args.self.now in
     let fits = c.requires.fits in
@@ -38,11 +38,12 @@ returns-then-is_some c =
     let fits = c.requires.fits in
     let i = (goal.at.returns-then-is_some c).After-index-place in
     let place = c.index-place.result.now in
-    let new = get_or c.args.needed.now c.loop-k.k c.index-needed-k.result in
-    let q = next-some _ (IsOutside 0 new.needs c.needs_at-old.result.now) c.outside.result (sym c.is_some.ensures ∙ c.if-is_some.true) c.outside.ensures in
+    let new = c.index-needed-k.result in
+    let those = subst (λ (d : List ℕ). AreNeedsAt (modules_in s) c.index-place.result.now d) (sym c.index-needed-k.is) (new-needs i c.index-needed-k.result) in
+    let q = next-some _ (IsOutside 0 new c.needs_at-old.result.now) c.outside.result (sym c.is_some.ensures ∙ c.if-is_some.true) c.outside.ensures in
     let there = place-there (tables_in s.store.now) (offered s.new.now) fits.once c.loop-k.k place (ap (λ l. slice_get l c.loop-k.k) (sym s.placed) ∙ standing i) in
     let low : c.index-place.result.now < length (tables_in s.store.now) = omega (arith, c.if-place-len.false, c.len.ensures.count, length-map s.store.now (λ (p : PublishedModule). p.tables)) in
-    (λ e. absurd (both_ways false refl e), λ nothing. absurd (gained (tables_in s.store.now) (offered s.new.now) fits.store.once place q.0 c.needs_at-old.result.now new.needs low there c.needs_at-old.ensures (new-needs i c.index-needed-k.result) q.1 nothing))
+    (λ e. absurd (both_ways false refl e), λ nothing. absurd (gained (tables_in s.store.now) (offered s.new.now) fits.store.once place q.0 c.needs_at-old.result.now new low there c.needs_at-old.ensures those q.1 nothing))
 
 pub loop-k-preserved-then-place-len : goal.loop-k-preserved-then-place-len
 loop-k-preserved-then-place-len c =
@@ -56,11 +57,12 @@ pub loop-k-preserved : goal.loop-k-preserved
 loop-k-preserved c =
     let s = c.args.self.now in
     let i = (goal.at.loop-k-preserved c).After-index-place in
-    let new = get_or c.args.needed.now c.loop-k.k c.index-needed-k.result in
-    let within = next-none (IsWithin 0 new.needs c.needs_at-old.result.now) _ c.outside.result (sym c.is_some.ensures ∙ c.if-is_some.false) c.outside.ensures in
+    let new = c.index-needed-k.result in
+    let those = subst (λ (d : List ℕ). AreNeedsAt (modules_in s) c.index-place.result.now d) (sym c.index-needed-k.is) (new-needs i c.index-needed-k.result) in
+    let within = next-none (IsWithin 0 new c.needs_at-old.result.now) _ c.outside.result (sym c.is_some.ensures ∙ c.if-is_some.false) c.outside.ensures in
     let low : c.index-place.result.now < length (tables_in s.store.now) = omega (arith, c.if-place-len.false, c.len.ensures.count, length-map s.store.now (λ (p : PublishedModule). p.tables)) in
     each-more s.places.items c.loop-k.k c.index-place.result.now c.loop-k.invariant (standing i)
-    (gains-none (tables_in s.store.now) (offered s.new.now) c.requires.fits.store.once c.index-place.result.now c.needs_at-old.result.now new.needs low c.needs_at-old.ensures (new-needs i c.index-needed-k.result) within)
+    (gains-none (tables_in s.store.now) (offered s.new.now) c.requires.fits.store.once c.index-place.result.now c.needs_at-old.result.now new low c.needs_at-old.ensures those within)
 
 pub returns : goal.returns
 returns c =

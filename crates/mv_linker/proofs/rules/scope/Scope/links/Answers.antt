@@ -1,7 +1,5 @@
-use Rattle.mv_linker.proofs.Common.{ℕ, ◌∙◌, ◌≡◌, List, ap, false, refl, subst, sym, true, err_from_is_err_and, tables_in, Links, offered, KeepsDependencies, modules_in}
-use Rattle.mv_linker.specs.declared.store.dependencies.DependenciesAt.{DependenciesAt}
+use Rattle.mv_linker.proofs.Common.{◌≡◌, false, refl, true, err_from_is_err_and, tables_in, Links, offered, modules_in}
 use Rattle.mv_linker.proofs.Joining.Assembling.{bundle-links, links-all}
-use Rattle.mv_linker.proofs.Cycles.DependenciesStay.{placed, keeps-dependencies}
 use Rattle.mv_linker.proofs.Joining.Resolving.{refused_by}
 use Rattle.mv_linker.proofs.rules.scope.Scope.links.Goals as goal
 use Rattle.mv_linker.proofs.rules.scope.Scope.links.Goals.{In_ok-sizes}
@@ -31,14 +29,6 @@ lowered-requires-clause-joins c = record {
 
 pub returns-clause-ok : goal.returns-clause-ok
 returns-clause-ok c = all-linked (goal.at.returns-clause-ok c).In_ok-sizes
-
-pub returns-clause-dependencies : goal.returns-clause-dependencies
-returns-clause-dependencies c =
-    let s = c.args.self.now in
-    let needed = c.in_ok-needed.needed.items in
-    let is : c.in_ok-dependencies.dependencies.items ≡ placed s.places.items needed = c.in_ok-dependencies.ensures ∙ ap (λ (l : List ℕ). placed l needed) c.deref-7.ensures.value in
-    subst (λ (l : List DependenciesAt). KeepsDependencies (tables_in s.store.now) (modules_in s) l) (sym is)
-    (keeps-dependencies (tables_in s.store.now) (offered s.new.now) c.requires.fits.store.once c.requires.fits.once c.requires.fits.store.links s.places.items s.placed needed c.in_ok-needed.ensures)
 
 pub returns-in_err-sizes-clause-refused : goal.returns-in_err-sizes-clause-refused
 returns-in_err-sizes-clause-refused c =

@@ -1,4 +1,4 @@
-use Rattle.mv_linker.proofs.Common.{◌<◌, ◌==◌, ◌∙◌, ◌≡◌, New, None, Some, ap, arith, length, length-map, offered, places_in, position, get_or, slice_get, slice_get-get_or, slice_get_within, sym, tables_in, true}
+use Rattle.mv_linker.proofs.Common.{◌<◌, ◌==◌, ◌∙◌, ◌≡◌, New, None, Some, ap, arith, length, length-map, offered, places_in, position, slice_get, slice_get-get_or, slice_get_within, sym, tables_in, true}
 use Rattle.mv_linker.specs.Places.{has}
 use Rattle.mv_linker.proofs.Joining.Bundled.{no-newest, place-at}
 use Rattle.mv_linker.proofs.Cycles.DependenciesStay.{bundled-dependencies, kept-those}
@@ -34,9 +34,9 @@ pub returns-in-Some : goal.returns-in-Some
 returns-in-Some c m m_at =
     let s = c.args.self.now in
     let i = (goal.at.returns-in-Some c).In-Some in
-    let d = get_or c.args.needed.now c.in-Some.k c.index-needed-k.result in
+    let d = c.index-needed-k.result in
     (bundled-dependencies (tables_in s.store.now) (offered s.new.now) c.requires.store.once s.once c.requires.store.links c.args.needed.now c.requires.needed c.in-Some.k c.args.place d
-    (ap (λ l. slice_get l c.in-Some.k) (sym s.placed) ∙ standing i) (slice_get-get_or c.args.needed.now c.in-Some.k c.index-needed-k.result (inside i)) m m_at)
+    (ap (λ l. slice_get l c.in-Some.k) (sym s.placed) ∙ standing i) (slice_get-get_or c.args.needed.now c.in-Some.k d (inside i) ∙ ap Some (sym c.index-needed-k.is)) m m_at)
 
 pub returns-in-None : goal.returns-in-None
 returns-in-None c =

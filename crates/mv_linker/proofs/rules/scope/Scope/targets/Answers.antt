@@ -1,16 +1,17 @@
-use Rattle.mv_linker.proofs.Common.{◌≡◌, ap, arith, length, subst, true, modules_are_there, modules_in}
+use Rattle.mv_linker.proofs.Common.{◌≡◌, ap, arith, length, subst, true, err_from_is_err_and, modules_are_there, modules_in}
 use Rattle.mv_linker.proofs.Joining.Resolving.{refused_by, no-targets, more-targets, modules_there_at}
 use Rattle.mv_linker.proofs.rules.scope.Scope.targets.Goals as goal
 
 pub loop-h-init : goal.loop-h-init
 loop-h-init c = no-targets _ _ _ c.in_ok-targets.ensures.items
 
-pub returns-in-Err-clause-refused : goal.returns-in-Err-clause-refused
-returns-in-Err-clause-refused c =
-    refused_by _ _ c.in-Err.e (modules_there_at (modules_in c.args.self.now) c.args.m.now (length c.args.m.now.module_handles) c.loop-h.h (omega (arith, ap length c.module_handles-h-end.ensures))) c.in-Err.ensures.refused
+pub returns-in_err-target-clause-refused : goal.returns-in_err-target-clause-refused
+returns-in_err-target-clause-refused c =
+    let p = err_from_is_err_and c.from_residual-in_err-target.result c.from_residual-in_err-target.ensures.1 in
+    rw (p.1, p.2) (refused_by _ _ _ (modules_there_at (modules_in c.args.self.now) c.args.m.now (length c.args.m.now.module_handles) c.loop-h.h (omega (arith, ap length c.module_handles-h-end.ensures))) c.in_err-target.ensures.refused)
 
 pub loop-h-preserved : goal.loop-h-preserved
-loop-h-preserved c = more-targets _ _ _ _ _ c.in-Ok.target c.loop-h.invariant c.in_ok-pushed-in-Ok.ensures.ok c.in-Ok.ensures.ok
+loop-h-preserved c = more-targets _ _ _ _ _ c.in_ok-target.target c.loop-h.invariant c.in_ok-pushed.ensures.ok c.in_ok-target.ensures.ok
 
 pub returns-clause-ok : goal.returns-clause-ok
 returns-clause-ok c = record {

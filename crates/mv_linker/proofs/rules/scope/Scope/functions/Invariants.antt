@@ -1,0 +1,6 @@
+use Rattle.mv_linker.specs.Targets.{modules_in}
+use Rattle.mv_linker.proofs.Joining.Resolving.{FunctionsSoFar}
+use Rattle.mv_linker.proofs.rules.scope.Scope.functions.Given as goal
+
+abbrev pub invariant-loop-h : goal.invariant-loop-h
+invariant-loop-h l = FunctionsSoFar (modules_in l.self) l.m l.found.items l.h

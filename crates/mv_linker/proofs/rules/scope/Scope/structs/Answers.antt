@@ -1,0 +1,40 @@
+use Rattle.mv_linker.proofs.Common.{ap, arith, length, err_from_is_err_and, modules_in}
+use Rattle.mv_linker.proofs.Joining.Resolving.{refused_by, no-structs, more-structs, all-structs, struct-of-all}
+use Rattle.mv_linker.proofs.Orders.{within-same, past-same, read-same}
+use Rattle.mv_linker.proofs.rules.scope.Scope.structs.Goals as goal
+
+pub loop-h-init : goal.loop-h-init
+loop-h-init c = no-structs _ _ _ c.in_ok-found.ensures.items
+
+pub returns-in_err-definition-clause-refused : goal.returns-in_err-definition-clause-refused
+returns-in_err-definition-clause-refused c =
+    let low = within-same c.loop-h.h c.struct_handles-h-end.result.now c.args.m.now.struct_handles c.loop-h-test.true c.struct_handles-h-end.ensures in
+    let p = err_from_is_err_and c.from_residual-in_err-definition.result c.from_residual-in_err-definition.ensures.1 in
+    rw (p.1, p.2) (refused_by _ _ _ (struct-of-all (modules_in c.args.self.now) c.args.m.now c.loop-h.h _ (read-same c.loop-h.h _ _ _ c.struct_handles.ensures low)) c.in_err-definition.ensures.refused)
+
+pub loop-h-preserved : goal.loop-h-preserved
+loop-h-preserved c =
+    let low = within-same c.loop-h.h c.struct_handles-h-end.result.now c.args.m.now.struct_handles c.loop-h-test.true c.struct_handles-h-end.ensures in
+    more-structs _ _ _ _ _ _ c.in_ok-definition.definition c.loop-h.invariant c.in_ok-pushed.ensures.ok (read-same c.loop-h.h _ _ _ c.struct_handles.ensures low) c.in_ok-definition.ensures.ok c.in_ok-definition.ensures.there
+
+pub returns-clause-ok : goal.returns-clause-ok
+returns-clause-ok c = record {
+  len = omega (arith, c.loop-h.invariant.len, ap length c.struct_handles-h-end.ensures);
+  each = c.loop-h.invariant.each;
+}
+
+pub returns-clause-there : goal.returns-clause-there
+returns-clause-there c =
+    let most = past-same c.loop-h.h c.struct_handles-h-end.result.now c.args.m.now.struct_handles c.loop-h-test.false c.struct_handles-h-end.ensures in
+    all-structs _ _ _ _ c.loop-h.invariant most
+
+pub structure-requires-clause-named : goal.structure-requires-clause-named
+structure-requires-clause-named c = c.requires.named
+
+pub structure-requires-clause-handle : goal.structure-requires-clause-handle
+structure-requires-clause-handle c =
+    let low = within-same c.loop-h.h c.struct_handles-h-end.result.now c.args.m.now.struct_handles c.loop-h-test.true c.struct_handles-h-end.ensures in
+    read-same c.loop-h.h _ _ _ c.struct_handles.ensures low
+
+pub structure-requires-clause-few : goal.structure-requires-clause-few
+structure-requires-clause-few c = c.requires.few

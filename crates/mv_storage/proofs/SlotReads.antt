@@ -1,0 +1,28 @@
+-- Slots that are read and written at a place of a list, and the place that was found.
+use Rattle.mv_storage.proofs.Common.{[], ℕ, ◌<◌, ◌∷◌, ◌≡◌, Bool, List, None, Option, Some, ap, arith, cond, false, is_some, length, refl, slice_get, slice_index_or, slice_set, subst, sym, true, get, Key, key_cmp, Places, Slot}
+use Rattle.std.proofs.Common.{suc, zero}
+use Rattle.std.specs.Prelude.{IfOk, IfSome, Result, Ok, Err}
+use Rattle.std.specs.declared.alloc.AllocError.{AllocError}
+use Rattle.mv_storage.specs.Slots.{IsOwn, IsOwnAt}
+
+pub get-read : (xs : List Slot) (i : ℕ) (s : Slot) → i < length xs → s ≡ slice_index_or xs i s → slice_get xs i ≡ Some s
+get-read [] i s l e = absurd (omega (arith, l))
+get-read (x ∷ xs) zero s l e = ap Some (sym e)
+get-read (x ∷ xs) (suc i) s l e = get-read xs i s (omega (arith, l)) e
+
+pub set-read : (xs : List Slot) (i : ℕ) (s t : Slot) → slice_get xs i ≡ Some s → slice_get (slice_set xs i t) i ≡ Some t
+set-read [] i s t e = cc
+set-read (x ∷ xs) zero s t e = refl
+set-read (x ∷ xs) (suc i) s t e = set-read xs i s t e
+
+pub some-cond : (b : Bool) (p : ℕ) → is_some (cond b (Some p) None) ≡ b
+some-cond true p = refl
+some-cond false p = refl
+
+pub own-at : (n : Places) (key : Key) (p : ℕ) (t : Slot) (b : Bool) (r : Result (Option ℕ) AllocError) → get key_cmp n.tree key ≡ Some p → slice_get n.slots.items p ≡ Some t
+    → IfOk r (λ found. found ≡ cond b (Some p) None) → IfOk r (λ found. is_some found ≡ true → IsOwn t)
+    → IfOk r (λ found. IfSome found (IsOwnAt n key))
+own-at n key p t b (Err x) at there e own = tt
+own-at n key p t b (Ok None) at there e own = tt
+own-at n key p t true (Ok (Some q)) at there e own = let same : p ≡ q = cc in subst (IsOwnAt n key) same (at, (t, there, own refl))
+own-at n key p t false (Ok (Some q)) at there e own = cc
