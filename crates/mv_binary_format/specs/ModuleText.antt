@@ -10,7 +10,7 @@
 use Rattle.std.specs.Prelude.{ℕ, ◌==◌, ◌||◌, List, length, flat_map, nat_lt, [], ◌∷◌, filter, ◌+◌, ◌++◌, nat_le, IsTrue, sum_by, ◌≡◌, IsPermutation}
 use Rattle.std.specs.List.{list_all}
 use Rattle.std.specs.Int.{w32, to_le_bytes}
-use Rattle.mv_move_types.specs.Limits.{most_functions}
+use Rattle.mv_move_types.specs.Limits.{most_content_bytes, most_functions}
 use Rattle.mv_move_types.specs.Module.{Module}
 use Rattle.mv_module_text.specs.Entries.{module_handle_text, struct_definition_text, address_text, function_handle_text, struct_handle_text}
 use Rattle.mv_module_text.specs.Entries.{identifier_text, signature_text, function_definition_text, constant_text, field_handle_text, counted}
@@ -87,7 +87,7 @@ pub record HasText (m : Module) : Type 0 where
   pub few_functions : IsTrue (nat_le (length m.functions) most_functions)
   pub field_handles : IsTrue (list_all field_handle_fits m.field_handles)
   pub own : IsTrue (is_index m.own)
-  pub size : IsTrue (nat_le (sum_by (λ t. length t.content) (tables m)) 65536)
+  pub size : IsTrue (nat_le (sum_by (λ t. length t.content) (tables m)) most_content_bytes)
 
 -- The bytes are the module's: the contents of its tables tile their area in some order, and their headers stand in some order.
 pub record IsModuleText (bytes : List ℕ) (m : Module) : Type 0 where

@@ -13,7 +13,7 @@ use Rattle.std.specs.Bool.{then_some}
 use Rattle.std.specs.List.{find, list_any}
 use Rattle.std.specs.Option.{option_map_or}
 use Rattle.mv_uleb.specs.Parsing.{number_from}
-use Rattle.mv_move_types.specs.Limits.{most_functions}
+use Rattle.mv_move_types.specs.Limits.{most_content_bytes, most_functions}
 use Rattle.mv_move_types.specs.Options.{◌>>=◌}
 use Rattle.mv_move_types.specs.Module.{Module}
 use Rattle.mv_module_text.specs.Parsing.{Read, byte_from, mark_from, bytes_from, index_from, counted_from, all_from, module_handle_from}
@@ -45,8 +45,8 @@ kinds = 0x01 ∷ 0x02 ∷ 0x03 ∷ 0x05 ∷ 0x06 ∷ 0x07 ∷ 0x08 ∷ 0x0A ∷ 
 unfoldable pub header_from : List ℕ → Read Header
 header_from bytes = do
   kind ← byte_from bytes
-  offset ← number_from 65536 kind.1
-  size ← number_from 65536 offset.1
+  offset ← number_from most_content_bytes kind.1
+  size ← number_from most_content_bytes offset.1
   then_some (list_any (λ k. k == kind.0) kinds && nat_lt 0 size.0) (record { kind = kind.0; offset = offset.0; length = size.0 }, size.1)
 
 -- the elements beside the first that passes the test
@@ -59,13 +59,13 @@ abbrev pub begins_at : ℕ → Header → Bool
 begins_at offset h = h.offset == offset
 
 -- The contents that headers tell of, in at most so many turns: each begins where the one before it ends, the first at
--- this offset, and they end at 65,536 or before.
+-- this offset, and they end at most_content_bytes or before.
 unfoldable pub contents_from : ℕ → ℕ → List Header → List ℕ → Read (List Table)
 contents_from turns offset [] bytes = Some ([], bytes)
 contents_from zero offset (h ∷ hs) bytes = None
 contents_from (suc turns) offset (h ∷ hs) bytes = do
   first ← find (begins_at offset) (h ∷ hs)
-  end ← then_some (nat_le (offset + first.length) 65536) (offset + first.length)
+  end ← then_some (nat_le (offset + first.length) most_content_bytes) (offset + first.length)
   content ← bytes_from first.length bytes
   others ← contents_from turns end (without (begins_at offset) (h ∷ hs)) content.1
   Some (record { kind = first.kind; content = content.0 } ∷ others.0, others.1)

@@ -9,7 +9,7 @@
 --   all_locals_hold, all_edges_hold m c   phase 10, and phase 11: for every function (why one after the other: decision 17)
 --   certificate_holds m c                 the certificate holds of the module
 -- The others are parts of these.
-use Rattle.std.specs.Prelude.{List, Bool, ◌&&◌, Option, Some, ◌+◌, [], ◌∷◌, slice_range, ℕ, ◌==◌, find, option_and_then, false, true, zip, map, option_map}
+use Rattle.std.specs.Prelude.{List, Bool, ◌&&◌, Option, Some, ◌+◌, [], ◌∷◌, slice_range, ℕ, ◌==◌, find, option_and_then, None, false, true, zip, map, option_map}
 use Rattle.std.specs.Option.{option_map_or}
 use Rattle.std.specs.List.{list_all}
 use Rattle.mv_move_types.specs.declared.borrow.Availability.{Availability}
@@ -64,12 +64,11 @@ stated_at stated i = option_and_then (λ b. b.1) (find (λ b. b.0.first == i) st
 abbrev pub flows_into : {S : Type 0} → (S → S → Bool) → List (BasicBlock × Option S) → S → ℕ → Bool
 flows_into leq stated known i = option_map_or (leq known) (stated_at stated i) false
 
--- a reached block meets every need, and what is known at its end is below what is stated of each successor
+-- a block that isn't reached holds; a reached one meets every need, and what is known at its end is below what is stated of each successor
 abbrev pub block_holds : {S : Type 0} → Rule S → (S → S → Bool) → Module → FunctionDefinition → List (BasicBlock × Option S) → BasicBlock × Option S → Bool
-block_holds rule leq m d stated b =
-    option_map_or (λ known.
-    option_map_or (λ end. list_all (flows_into leq stated end.0) b.0.next) (through rule m d (instructions_of d b.0) (known, [])) false)
-    b.1 true
+block_holds rule leq m d stated (b, None) = true
+block_holds rule leq m d stated (b, Some known) =
+    option_map_or (λ end. list_all (flows_into leq stated end.0) b.next) (through rule m d (instructions_of d b) (known, [])) false
 
 -- what is known at the start is below what is stated of the first block, and each reached block holds
 abbrev pub flow_holds : {S : Type 0} → Rule S → (S → S → Bool) → Module → FunctionDefinition → S → List (Option S) → Bool

@@ -102,8 +102,8 @@ pub use Rattle.mv_machine.specs.Flat.{FlatEntry, fields_from, flat, flat_fields,
 pub use Rattle.mv_machine.specs.Ledger.{Answers, AreRead, AsJson, AsText, Audit, Bad, BadRun, Format, LedgerState, Offer, Publish, Request, Run, RunRequest, Show, admitted, are_arguments}
 pub use Rattle.mv_machine.specs.Ledger.{attempted, audited, is_argument, modules_of, scarce_name, scarce_structs, settled, shown, tally_of, tally_with, untouched_tally, with_bundle}
 pub use Rattle.mv_machine.specs.Ledger.{with_returned, with_run, with_signer, with_signer as with_sender}
-pub use Rattle.mv_machine.specs.Lines.{Aborted as RanToAbort, Aborted as ToldAborted, Exhausted as RanOut, Exhausted as ToldExhausted, Published, Published as ToldPublished, Refused, count_line}
-pub use Rattle.mv_machine.specs.Lines.{Refused as ToldRefused, Rejected as ToldRejected, Reply, Reply as Told, Returned as RanToEnd, Returned as ToldReturned, Tallied, Told as ToldLines, count_object}
+pub use Rattle.mv_machine.specs.Lines.{RanOut, RanToAbort, Published, Published as ToldPublished, Refused, count_line}
+pub use Rattle.mv_machine.specs.Lines.{Refused as ToldRefused, Rejected as ToldRejected, Reply, Reply as Told, RanToEnd, Tallied, Told as ToldLines, count_object}
 pub use Rattle.mv_machine.specs.Lines.{audit_json, audit_lines, end_line, entry_line, entry_object, hex_digit, json_line, key_text, leaf_text, member, object, rest_text, value_text, with_commas}
 pub use Rattle.mv_machine.specs.Returns.{AtReturn}
 pub use Rattle.mv_machine.specs.Run.{Aborted, Exhausted, Faulted, FunctionCall, Returned, RunOutcome, first_state, outcome_from, packs, run, turns, unpacks}

@@ -1,7 +1,7 @@
 -- What the ledger's calls reply, from what their parts say.
 use Rattle.mv_ledger.proofs.Common.{[], ◌+◌, ◌∙◌, ◌∷◌, ◌≡◌, Err, List, None, Ok, Option, Result, Some, ap, arith, false, map, refl, subst, sym, true, ℕ, is_some, PublishedModule, with_modules}
 use Rattle.mv_ledger.proofs.Common.{Phase, FlatEntry, storage_of, Answers, AreRead, Bad, BadRun, LedgerState, Offer, Publish, Run, RunRequest, admitted, attempted, modules_of, scarce_structs}
-use Rattle.mv_ledger.proofs.Common.{settled, tally_of, with_bundle, ToldAborted, ToldExhausted, ToldPublished, ToldRefused, ToldRejected, Told, ToldReturned, Tallied, FunctionCall, run, Storage}
+use Rattle.mv_ledger.proofs.Common.{settled, tally_of, with_bundle, RanToAbort, RanOut, ToldPublished, ToldRefused, ToldRejected, Told, RanToEnd, Tallied, FunctionCall, run, Storage}
 use Rattle.mv_ledger.proofs.Common.{IsStore, tables_in, call_of, IsSoundLedger, AnswersRecord, Replies, Leaves, RunsTo, IsAccepted, IsRefused, failing, no_bundle, IsAcceptedBy, IsRefusedBy}
 use Rattle.mv_ledger.proofs.Common.{AllPass, Spells, IsShaped, IsShapeless, IsAdmission, IsAdmitted, IsSettled, AddsTallies, LedgerView, state_of, tallied, view_of, Rejected, BarredRejected, Call}
 use Rattle.mv_ledger.proofs.Common.{Tally}
@@ -134,9 +134,9 @@ module _ (published : List PublishedModule) (payload : List ℕ) (stored : List 
     same_had p q = rw (p, q) refl
 
     leaves_for : (t : Told) → RunsTo (Some t) stored new tallies after → Leaves t held holds
-    leaves_for (ToldReturned steps) h = tt
-    leaves_for (ToldAborted kind n steps) h = same_had h.0 h.1
-    leaves_for (ToldExhausted stop steps) h = same_had h.0 h.1
+    leaves_for (RanToEnd steps) h = tt
+    leaves_for (RanToAbort kind n steps) h = same_had h.0 h.1
+    leaves_for (RanOut stop steps) h = same_had h.0 h.1
     leaves_for _ h = absurd h
 
     -- a run that was had leaves a sound ledger

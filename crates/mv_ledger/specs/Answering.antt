@@ -13,7 +13,7 @@ use Rattle.mv_move_types.specs.declared.refusal.Refusal.TheVariants.{Phase, Memo
 use Rattle.mv_machine.specs.declared.Ending.{Ending}
 use Rattle.mv_machine.specs.declared.Ending.TheVariants.{Returned as HasReturned, Aborted as HasAborted, Exhausted as HasExhausted}
 use Rattle.mv_machine.specs.Lines.{Reply as Told, Published as ToldPublished, Refused as ToldRefused, Rejected as ToldRejected}
-use Rattle.mv_machine.specs.Lines.{Returned as ToldReturned, Aborted as ToldAborted, Exhausted as ToldExhausted, Told as ToldLines}
+use Rattle.mv_machine.specs.Lines.{RanToEnd, RanToAbort, RanOut, Told as ToldLines}
 use Rattle.mv_machine.specs.Ledger.{LedgerState, Request, Answers}
 use Rattle.mv_ledger.specs.View.{LedgerView, state_of}
 use Rattle.mv_ledger.specs.RecordText.{Asks}
@@ -27,9 +27,9 @@ use Rattle.mv_ledger.specs.declared.Reply.TheVariants.{Published, Refused, Rejec
 
 -- what a run's ending says after so many steps
 abbrev pub told_ending : Ending → ℕ → Told
-told_ending HasReturned steps = ToldReturned steps
-told_ending (HasAborted kind number) steps = ToldAborted kind number steps
-told_ending (HasExhausted stop) steps = ToldExhausted stop steps
+told_ending HasReturned steps = RanToEnd steps
+told_ending (HasAborted kind number) steps = RanToAbort kind number steps
+told_ending (HasExhausted stop) steps = RanOut stop steps
 
 -- what a reply says; want of memory says nothing
 abbrev pub told : Reply → Option Told

@@ -1,7 +1,7 @@
 -- What a reply leaves as it was.
 use Rattle.std.specs.Prelude.{◌≡◌, ◌+◌, List, Option, Some, None, ⊤}
 use Rattle.mv_machine.specs.Flat.{FlatEntry}
-use Rattle.mv_machine.specs.Lines.{Reply, Published, Refused, Rejected, Returned, Aborted, Exhausted, Told}
+use Rattle.mv_machine.specs.Lines.{Reply, Published, Refused, Rejected, RanToEnd, RanToAbort, RanOut, Told}
 use Rattle.mv_ledger.specs.declared.tallies.Tally.{Tally}
 use Rattle.mv_ledger.specs.View.{LedgerView}
 
@@ -15,9 +15,9 @@ abbrev pub Leaves : Reply → LedgerView → LedgerView → Type 0
 Leaves (Published n) old new = (new.stored ≡ old.stored) × (new.runs ≡ old.runs)
 Leaves (Refused phase) old new = new ≡ old
 Leaves (Rejected reason) old new = new ≡ old
-Leaves (Returned steps) old new = ⊤
-Leaves (Aborted kind n steps) old new = new ≡ with_run_had old
-Leaves (Exhausted stop steps) old new = new ≡ with_run_had old
+Leaves (RanToEnd steps) old new = ⊤
+Leaves (RanToAbort kind n steps) old new = new ≡ with_run_had old
+Leaves (RanOut stop steps) old new = new ≡ with_run_had old
 Leaves (Told lines) old new = new ≡ old
 
 -- storage and tallies stay
@@ -27,9 +27,9 @@ IsKept old new before after = (new ≡ old) × (after ≡ before)
 -- what a run with this reply changes: only one that returned changes anything
 abbrev pub RunsTo : Option Reply → List FlatEntry → List FlatEntry → List Tally → List Tally → Type 0
 RunsTo None old new before after = IsKept old new before after
-RunsTo (Some (Returned steps)) old new before after = ⊤
-RunsTo (Some (Aborted k n steps)) old new before after = IsKept old new before after
-RunsTo (Some (Exhausted stop steps)) old new before after = IsKept old new before after
+RunsTo (Some (RanToEnd steps)) old new before after = ⊤
+RunsTo (Some (RanToAbort k n steps)) old new before after = IsKept old new before after
+RunsTo (Some (RanOut stop steps)) old new before after = IsKept old new before after
 RunsTo (Some (Published n)) old new before after = ⊥
 RunsTo (Some (Refused phase)) old new before after = ⊥
 RunsTo (Some (Rejected reason)) old new before after = ⊥

@@ -1,7 +1,7 @@
 -- What a reply to a publish record says of the bundle that its payload has.
 use Rattle.std.specs.Prelude.{◌≡◌, ℕ, List, length}
 use Rattle.mv_move_types.specs.Published.{PublishedModule}
-use Rattle.mv_machine.specs.Lines.{Reply, Published, Refused, Rejected, Returned, Aborted, Exhausted, Told}
+use Rattle.mv_machine.specs.Lines.{Reply, Published, Refused, Rejected, RanToEnd, RanToAbort, RanOut, Told}
 use Rattle.mv_machine.specs.Ledger.{Offer, LedgerState, Publish, with_bundle}
 use Rattle.mv_ledger.specs.RecordText.{IsShaped, IsShapeless}
 use Rattle.mv_ledger.specs.Publishing.{IsPublished, IsRefusedAt}
@@ -24,7 +24,7 @@ IsRightly old payload (Published n) new =
     (bundle : List PublishedModule) × (IsAccepted old payload bundle × (n ≡ length bundle) × (new ≡ with_bundle old bundle))
 IsRightly old payload (Refused phase) new = IsRefused old payload phase × (new ≡ old)
 IsRightly old payload (Rejected reason) new = ⊥
-IsRightly old payload (Returned steps) new = ⊥
-IsRightly old payload (Aborted kind n steps) new = ⊥
-IsRightly old payload (Exhausted stop steps) new = ⊥
+IsRightly old payload (RanToEnd steps) new = ⊥
+IsRightly old payload (RanToAbort kind n steps) new = ⊥
+IsRightly old payload (RanOut stop steps) new = ⊥
 IsRightly old payload (Told lines) new = ⊥

@@ -32,7 +32,7 @@ unfoldable pub use Rattle.mv_machine.specs.Run.{run, turns}
 pub use Rattle.mv_machine.specs.State.{Frame, State, Storage, place_value, stored_at, with_place, with_stored, without_stored}
 pub use Rattle.mv_machine.specs.Step.{Goes, OwnStruct, Returns, entered_frame}
 unfoldable pub use Rattle.mv_machine.specs.Step.{rule, step}
-unfoldable pub use Rattle.mv_machine.specs.StepControl.{abort, branch_if, call, callee, return_results, signature_tags}
+unfoldable pub use Rattle.mv_machine.specs.StepControl.{abort, branch_if, call, callee, found_by, return_results, said_by, signature_tags}
 pub use Rattle.mv_machine.specs.StepGlobals.{key_at}
 unfoldable pub use Rattle.mv_machine.specs.StepGlobals.{borrow_global, exists, keyed_struct, move_from, move_to}
 pub use Rattle.mv_machine.specs.StepLocals.{with_own_local}

@@ -140,9 +140,9 @@ pub data Reply : Type 0 where
   Published : (count : ℕ) → Reply
   Refused : (phase : ℕ) → Reply
   Rejected : (reason : ℕ) → Reply
-  Returned : (steps : ℕ) → Reply
-  Aborted : (kind : Kind) (number steps : ℕ) → Reply
-  Exhausted : (stop : Stop) (steps : ℕ) → Reply
+  RanToEnd : (steps : ℕ) → Reply
+  RanToAbort : (kind : Kind) (number steps : ℕ) → Reply
+  RanOut : (stop : Stop) (steps : ℕ) → Reply
   Told : (lines : List (List ℕ)) → Reply
 
 -- why a run aborted
@@ -162,10 +162,10 @@ abbrev pub reply_lines : Reply → List (List ℕ)
 reply_lines (Published n) = (codes "published " ++ decimal n) ∷ []
 reply_lines (Refused p) = (codes "refused " ++ decimal p) ∷ []
 reply_lines (Rejected p) = (codes "rejected " ++ decimal p) ∷ []
-reply_lines (Returned steps) = (codes "returned " ++ decimal steps) ∷ []
-reply_lines (Aborted kind n steps) =
+reply_lines (RanToEnd steps) = (codes "returned " ++ decimal steps) ∷ []
+reply_lines (RanToAbort kind n steps) =
     (codes "aborted " ++ kind_text kind ++ codes " " ++ decimal n ++ codes " " ++ decimal steps) ∷ []
-reply_lines (Exhausted stop steps) = (codes "exhausted " ++ stop_text stop ++ codes " " ++ decimal steps) ∷ []
+reply_lines (RanOut stop steps) = (codes "exhausted " ++ stop_text stop ++ codes " " ++ decimal steps) ∷ []
 reply_lines (Told lines) = lines
 
 -- a line of the report: the record's number, a space, the text and a line end

@@ -1,6 +1,6 @@
 -- Which entries have a text.
 -- In the order of Entries.antt. Most names end in `_fits`: whether an entry of that kind has a text, in this version if that matters.
---   is_index n                                 whether a number can be an index or a count: it has 16 bits
+--   index_limit, is_index n                    indices and counts are below this; whether a number can be one: it has 16 bits
 --   token_fits version t                       u16 and u32 are types of version 6 alone
 --   signature_fits version tokens              at most 64 types
 --   is_byte b                                  whether a number is a byte
@@ -32,9 +32,13 @@ use Rattle.mv_move_types.specs.Instructions.{immediate_of}
 use Rattle.mv_move_types.specs.Tokens.{width_bits}
 use Rattle.mv_move_types.specs.declared.tables.Field.{Field}
 
+-- indices and counts are below this: they have 16 bits
+abbrev pub index_limit : ℕ
+index_limit = 2 ^ 16
+
 -- whether a number can be an index or a count
 abbrev pub is_index : ℕ → Bool
-is_index n = nat_lt n (2 ^ 16)
+is_index n = nat_lt n index_limit
 
 -- u16 and u32 stand in version 6 alone
 abbrev pub width_fits : ℕ → Width → Bool

@@ -8,9 +8,12 @@
 --   most_modules, .., most_runs             ledgers and runs
 use Rattle.std.specs.Prelude.{ℕ}
 
--- bytes of a module's text, of a certificate's, and of a record's payload
+-- bytes of a module's text, of what its tables contain, of a certificate's text, and of a record's payload
 abbrev pub most_module_bytes : ℕ
 most_module_bytes = 65536
+
+abbrev pub most_content_bytes : ℕ
+most_content_bytes = 65536
 
 abbrev pub most_certificate_bytes : ℕ
 most_certificate_bytes = 1048576

@@ -46,12 +46,14 @@ abbrev pub top_type : Types → Option (Token × Types)
 top_type [] = None
 top_type (t ∷ below) = Some (t, below)
 
--- the types below these, the last of them topmost
+-- The types below these, the last of them topmost: a call that takes a u8 and then a bool finds the bool on top, so that
+-- taken (u8 ∷ bool ∷ []) (bool ∷ u8 ∷ below) is Some below.
 abbrev pub taken : List Token → Types → Option Types
 taken wanted stack =
     provided (same_tokens (take (length wanted) stack) (reverse wanted)) (drop (length wanted) stack)
 
--- takes these, and gives those
+-- Takes these, and gives those, the last of them topmost: takes_gives (u8 ∷ bool ∷ []) (address ∷ []) (bool ∷ u8 ∷ below) is
+-- Some (address ∷ below).
 abbrev pub takes_gives : List Token → List Token → Types → Option Types
 takes_gives wanted given stack = taken wanted stack >>= λ below. Some (reverse given ++ below)
 

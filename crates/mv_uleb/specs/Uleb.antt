@@ -23,6 +23,7 @@ abbrev pub uleb_in : ℕ → ℕ → List ℕ
 uleb_in zero n = n ∷ []
 uleb_in (suc k) n = cond (nat_lt n 128) (n ∷ []) ((n % 128 + 128) ∷ uleb_in k (n / 128))
 
--- the one form of a number below 2 ^ 70
+-- The one form of a number below 2 ^ 70. It is the only list of bytes that IsUleb says is the number's: 300 is 0xAC, 0x02. IsUleb reads the
+-- form, and this writes it; that they are one is a law (HasForm and HasOneForm, Laws.antt).
 unfoldable pub uleb : ℕ → List ℕ
 uleb n = uleb_in 9 n

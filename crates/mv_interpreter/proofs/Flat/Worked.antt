@@ -9,7 +9,7 @@ use Rattle.mv_machine.specs.{StepGlobals.move_from}
 use Rattle.mv_machine.specs.StepNumbers.{binary, comparison, shift, cast, logic, negation, constant, equality}
 use Rattle.mv_machine.specs.Step.{held, move_local, borrow_local, own_struct, pack, keyed_struct, move_to, signature_tags, return_results, rule, step}
 use Rattle.mv_machine.specs.StepReferences.{own_field, borrow_field, read_reference, write_reference, freeze}
-use Rattle.mv_machine.specs.StepControl.{callee, call, branch_if, abort}
+use Rattle.mv_machine.specs.StepControl.{said_by, found_by, callee, call, branch_if, abort}
 use Rattle.mv_machine.proofs.Coin.{coin_module, mint, one_coin}
 use Rattle.mv_type_states.specs.TypeRules.{types_after}
 use Rattle.mv_linker.specs.Linked.{linked}
@@ -17,7 +17,7 @@ use Rattle.mv_interpreter.specs.{Flat.FlatStep.apply, Flat.FlatRun.flat_turns, F
 
 -- all that a flat run computes with
 unfoldable computes : ℕ
-unfolding binary comparison shift cast logic negation constant pop equality held copy_local move_local store_local borrow_local own_struct pack unpack own_field borrow_field read_reference write_reference freeze keyed_struct exists borrow_global move_from move_to signature_tags callee call return_results branch_if abort rule step turns run types_after linked apply flat_turns flat_run
+unfolding binary comparison shift cast logic negation constant pop equality held copy_local move_local store_local borrow_local own_struct pack unpack own_field borrow_field read_reference write_reference freeze keyed_struct exists borrow_global move_from move_to signature_tags said_by found_by callee call return_results branch_if abort rule step turns run types_after linked apply flat_turns flat_run
 computes = 0
 
 -- where nothing lies above the locals, they are zeros

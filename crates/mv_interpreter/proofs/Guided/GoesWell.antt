@@ -2,7 +2,7 @@
 use Rattle.mv_interpreter.proofs.Guided.Common.{◌≡◌, ℕ, Some, slice_get, List, true, false, Bool, Ok, cond, Err, ok_or, Module, Token, Plain, ReferenceTo, MutableReferenceTo, ValueType, OfLeaf, OfStruct}
 use Rattle.mv_interpreter.proofs.Guided.Common.{local_tag, constant_value, Here, operand, as_boolean, Failure, Faults, TypeFault, entry, tag_named, value_type_tag, Value}
 use Rattle.mv_move_types.specs.{declared.token.Width.Width, Numbers.leaf_number}
-use Rattle.mv_machine.specs.{Numbers.Operator, StepReferences.freeze, StepReferences.own_field, StepGlobals.keyed_struct, StepStructs.own_struct, StepControl.callee, StepControl.call}
+use Rattle.mv_machine.specs.{Numbers.Operator, StepReferences.freeze, StepReferences.own_field, StepGlobals.keyed_struct, StepStructs.own_struct, StepControl.callee, StepControl.said_by, StepControl.found_by, StepControl.call}
 use Rattle.mv_machine.specs.{StepControl.signature_tags, StepLocals.held, Typing.has_tag}
 use Rattle.mv_machine.specs.StepNumbers.{binary, comparison, shift, cast, logic, negation}
 use Rattle.mv_interpreter.proofs.Guided.Ends.{Goes_well, after, tests, found-well, operand-well, operands-well, number-well, boolean-well, reference-well, each-well}
@@ -88,7 +88,7 @@ constant-well (Plain (OfLeaf kind)) bytes = after _ (ok_or (leaf_number kind byt
 constant-well t bytes = tt
 
 pub callee-well : (h : Here) (i : ℕ) → Goes_well (callee h i)
-unfolding callee
+unfolding callee said_by found_by
 callee-well h i = search (parts_well, signature-well) depth 40
 
 pub call-well : (h : Here) (i : ℕ) → Goes_well (call h i)

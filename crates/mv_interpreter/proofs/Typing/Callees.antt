@@ -8,7 +8,7 @@ use Rattle.mv_interpreter.proofs.{Typing.Operands.tags_by, Typing.Advances.start
 use Rattle.mv_move_types.specs.{Names.same_module, Module.module_name, Tags.same_tags, Named.is_module, Named.have_one_name, Named.is_public}
 use Rattle.mv_linker.specs.{StoreRules.function_named, StoreRules.function_fits, StoreRules.function_is_there}
 use Rattle.mv_interface.specs.{TypesByName.signature_named, TypesByName.same_signature}
-use Rattle.mv_machine.specs.{Step.signature_tags, StepControl.callee}
+use Rattle.mv_machine.specs.{Step.signature_tags, StepControl.callee, StepControl.said_by, StepControl.found_by}
 use Rattle.mv_linker.proofs.{TagTests.same_tags-is, TagTests.same_tags-same}
 use Rattle.mv_interface.proofs.{NameLemmas.same_module-is, Found.one_place}
 
@@ -36,7 +36,7 @@ pub call_facts : (h : Here) → StoreAccepted h.modules → slice_get h.modules 
     → (i : ℕ) (handle : FunctionHandle) (parameters results : List Token) → slice_get h.home.function_handles i ≡ Some handle
     → slice_get h.home.signatures handle.parameters ≡ Some parameters → slice_get h.home.signatures handle.results ≡ Some results
     → CallFacts h i handle parameters results
-unfolding callee
+unfolding callee said_by found_by
 call_facts h store home_at i handle parameters results handle_at parameters_at results_at =
     let m : Module = h.home in
     let all = all_at (λ m. list_all (function_is_there h.modules m) m.function_handles) h.modules h.state.top.function.place m store.links.functions home_at in
