@@ -76,6 +76,7 @@ fn offer<'a>(reader: &mut Reader<'a>) -> Result<Offered<'a>, Refusal>
 }
 
 /// Reads modules with their certificates, of which there are at most so many, after their number.
+#[inline(always)]
 pub fn offers<'a>(
     alloc: Global,
     reader: &mut Reader<'a>,

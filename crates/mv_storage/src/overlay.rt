@@ -1,5 +1,5 @@
 // What a run sees of the storage, and what it does to it.
-ghost use Rattle.std.specs.Prelude.{◌≡◌, ◌≤◌, ◌+◌, length, cond, not, take, drop, None, is_some, IfOk, IfSome, IsOk, OnOk, OnErr, MatchOption, option_copied, option_and_then, option_map};
+ghost use Rattle.std.specs.Prelude.{◌≡◌, ◌≤◌, ◌+◌, length, cond, not, take, drop, None, is_some, IfOk, IfSome, IsOk, OnOk, OnErr, MatchOption, option_copied, option_and_then, option_map, slice_get};
 ghost use Rattle.mv_move_types.specs.declared.tables.Key.{Key};
 ghost use Rattle.mv_storage.specs.WordLists.{spliced};
 ghost use Rattle.mv_storage.specs.FlatStorage.{words_under, with_words, without_words};
@@ -52,12 +52,24 @@ impl Overlay<'_> {
         self.storage.allocator()
     }
 
-    /// Remembers where the value under a key is, so that what follows with this key needs no search. Nothing else changes.
-    #[inline]
-    pub fn recall(&mut self, key: &Key)
-        ensures { self.new ≡ self.old }
+    /// Whether the run sees a value under a key. Where it is stands remembered, so that what follows with this key needs no
+    /// search. Nothing else changes.
+    #[inline(always)]
+    pub fn recall(&mut self, key: &Key) -> bool
+        ensures found { result ≡ is_some (words_under self.old.storage.now.current key.now) }
+        ensures same { self.new ≡ self.old }
     {
-        self.storage.recall(key);
+        self.storage.recall(key)
+    }
+
+    /// The word at a place among those that the run sees under a key, if there is one. Where the value is stands remembered, so
+    /// that what follows with this key needs no search. Nothing else changes.
+    #[inline(always)]
+    pub fn word(&mut self, key: &Key, at: usize) -> Option<u128>
+        ensures word { result ≡ option_and_then (λ words. slice_get words at) (words_under self.old.storage.now.current key.now) }
+        ensures same { self.new ≡ self.old }
+    {
+        self.storage.word(key, at)
     }
 
     /// Whether the run sees a value under a key.

@@ -86,21 +86,33 @@ impl Places {
     {
         match recalled(last, key) {
             Some(place) => Some(place),
-            None => self.search(last, *key),
+            None => self.search(last, key.address, key.place, key.index),
         }
     }
 
-    // The same by a search.
+    // The same by a search. The key is given in its parts, since a whole one would be put into memory on the way that is gone
+    // most.
     #[cold]
     #[inline(never)]
-    fn search(&self, last: &mut Option<(Key, usize)>, key: Key) -> Option<usize>
+    fn search(
+        &self,
+        last: &mut Option<(Key, usize)>,
+        address: u128,
+        place: u16,
+        index: u16,
+    ) -> Option<usize>
         requires { IsRemembered self.now.tree last.old }
         ensures remembered { IsRemembered self.now.tree last.new }
-        ensures place { result ≡ get key_cmp self.now.tree key }
+        ensures place { result ≡ get key_cmp self.now.tree (record { address = address; place = place; index = index }) }
     {
-        let place = self.place(&key)?;
-        *last = Some((key, place));
-        Some(place)
+        let key = Key {
+            address,
+            place,
+            index,
+        };
+        let found = self.place(&key)?;
+        *last = Some((key, found));
+        Some(found)
     }
 
     // Whether a place is free.

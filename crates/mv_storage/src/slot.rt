@@ -1,7 +1,7 @@
 // What stands under a key: a value that the run at work has left alone, one that it has put, or the committed one and what
 // the run has made of it.
 ghost use Rattle.std.specs.Prelude.{◌≡◌, None, Some, true, false, cond, not, is_some, option_copied, option_and_then, IfOk, OnOk, OnErr};
-ghost use Rattle.std.specs.Prelude.{◌≤◌, ◌+◌, length, take, drop, option_map, IfSome};
+ghost use Rattle.std.specs.Prelude.{◌≤◌, ◌+◌, length, take, drop, option_map, slice_get, IfSome};
 ghost use Rattle.std.specs.Borrow.{sem};
 ghost use Rattle.mv_storage.specs.Slots.{version, of_layer, is_change, is_vacant, edited, IsOwn};
 ghost use Rattle.mv_storage.specs.Lending.{LendsVersion, LendsSlot};
@@ -138,8 +138,31 @@ impl Slot {
         matches!(self, Slot::Vacant(_))
     }
 
+    // Whether the run sees a value here.
+    #[inline(always)]
+    pub(crate) fn is_seen(&self) -> bool
+        ensures { result ≡ is_some (of_layer Current self.now) }
+    {
+        match self {
+            Slot::Vacant(_) | Slot::Empty => false,
+            Slot::One(_) | Slot::Many(_) | Slot::AddedOne(_) | Slot::AddedMany(_) => true,
+            Slot::Changed(versions) => versions.current.is_some(),
+        }
+    }
+
+    // The word at a place among those that the run sees, if there is one.
+    #[inline(always)]
+    pub(crate) fn word(&self, at: usize) -> Option<u128>
+        ensures { result ≡ option_and_then (λ words. slice_get words at) (of_layer Current self.now) }
+    {
+        match self.current() {
+            Some(words) => words.get(at).copied(),
+            None => None,
+        }
+    }
+
     // The words that the run sees.
-    #[inline]
+    #[inline(always)]
     pub(crate) fn current(&self) -> Option<&[u128]>
         ensures { option_copied result ≡ of_layer Current self.now }
     {

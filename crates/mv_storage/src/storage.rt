@@ -1,5 +1,5 @@
 // Storage: values under keys, and what a run at work has made of them.
-ghost use Rattle.std.specs.Prelude.{◌≡◌, ◌<◌, ◌≤◌, ◌+◌, ◌^◌, length, take, drop, [], cond, not, None, is_some, IfOk, IfSome, OnOk, OnErr, MatchOption, option_copied, option_and_then, option_map};
+ghost use Rattle.std.specs.Prelude.{◌≡◌, ◌<◌, ◌≤◌, ◌+◌, ◌^◌, length, take, drop, [], cond, not, None, is_some, IfOk, IfSome, OnOk, OnErr, MatchOption, option_copied, option_and_then, option_map, slice_get};
 ghost use Rattle.mv_storage.specs.WordLists.{spliced};
 ghost use Rattle.mv_storage.specs.FlatStorage.{words_under, with_words, without_words};
 ghost use Rattle.mv_storage.specs.Map.{overwritten, Ascends};
@@ -134,12 +134,30 @@ impl Storage {
         Overlay { storage: self }
     }
 
-    // Remembers where the value under a key is, so that what follows with this key needs no search. Nothing else changes.
-    #[inline]
-    pub(crate) fn recall(&mut self, key: &Key)
-        ensures { self.new ≡ self.old }
+    // Whether the run sees a value under a key. Where it is stands remembered, so that what follows with this key needs no
+    // search. Nothing else changes.
+    #[inline(always)]
+    pub(crate) fn recall(&mut self, key: &Key) -> bool
+        ensures found { result ≡ is_some (words_under self.old.current key.now) }
+        ensures same { self.new ≡ self.old }
     {
-        self.places.recall(&mut self.last, key);
+        match self.places.recall(&mut self.last, key) {
+            Some(place) => self.places.slots[place].is_seen(),
+            None => false,
+        }
+    }
+
+    // The word at a place among those that the run sees under a key, if there is one. Where the value is stands remembered, so
+    // that what follows with this key needs no search. Nothing else changes.
+    #[inline(always)]
+    pub(crate) fn word(&mut self, key: &Key, at: usize) -> Option<u128>
+        ensures word { result ≡ option_and_then (λ words. slice_get words at) (words_under self.old.current key.now) }
+        ensures same { self.new ≡ self.old }
+    {
+        match self.places.recall(&mut self.last, key) {
+            Some(place) => self.places.slots[place].word(at),
+            None => None,
+        }
     }
 
     // The words that the run sees under a key.

@@ -91,14 +91,10 @@ fn is_taken(overlay: &mut Overlay<'_>, key: &Key, words: &[u128]) -> Result<bool
 
 // What a run reads of a value of one leaf.
 fn word(overlay: &mut Overlay<'_>, key: &Key) -> Option<u128> {
-    overlay.recall(key);
-    if overlay.len(key)? != 1 {
+    if !overlay.recall(key) || overlay.len(key)? != 1 || overlay.word(key, 1).is_some() {
         return None;
     }
-    match overlay.view(key, 0, 1) {
-        Some([word]) => Some(*word),
-        _ => None,
-    }
+    overlay.word(key, 0)
 }
 
 // The leaves of a value from a place on, so many, if they are there.
