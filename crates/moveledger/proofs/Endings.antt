@@ -4,7 +4,7 @@ use Rattle.std.specs.Io.KnownBytes.{Keeps}
 use Rattle.std.proofs.KnownBytes.{Appends-kept}
 use Rattle.mv_ledger.specs.View.{LedgerView}
 use Rattle.moveledger.specs.Headline.{Headline}
-use Rattle.moveledger.specs.Outcome.{Ends, ReadsAll, Stops, StopsReading}
+use Rattle.moveledger.specs.Outcome.{Ends, ReadsAll, Stops, StopsAt, StopsByLines, StopsReading, StopsWith, Begun, BegunByLines}
 use Rattle.moveledger.specs.Status.{end_after}
 use Rattle.moveledger.specs.declared.streaming.EngineError.{EngineError}
 use Rattle.moveledger.specs.declared.streaming.EngineError.TheVariants.{Read, Write, Memory}
@@ -26,8 +26,9 @@ Headline-kept given held mid holds old new n h kept = record {
   written = Appends-kept held mid holds h.text h.written kept;
 }
 
-Stops-kept : (given gives held mid holds : Option (List ℕ)) (old new : LedgerView) → Stops given gives held mid old new → Keeps mid holds → Stops given gives held holds old new
-Stops-kept given gives held mid holds old new h kept = record {
+Stops-kept : (Last : ℕ → List ℕ → List ℕ → LedgerView → LedgerView → List ℕ → Type 0) (given gives held mid holds : Option (List ℕ)) (old new : LedgerView) → StopsWith Last given gives held mid old new
+    → Keeps mid holds → StopsWith Last given gives held holds old new
+Stops-kept Last given gives held mid holds old new h kept = record {
   whole = h.whole;
   took = h.took;
   records = h.records;
@@ -58,11 +59,11 @@ StopsReading-kept given gives held mid holds old new h kept = record {
 -- the end of what was answered, after what the writer held was written out or wasn't
 pub ends_after : (answered : Result ℕ EngineError) (is_flushed : Bool) (given gives held mid holds : Option (List ℕ)) (old new : LedgerView)
     → IfOk answered (λ n. Headline given held mid old new n) → IfOk answered (λ n. ReadsAll given gives n) → IfErr answered (λ _. Stops given gives held mid old new)
-    → (answered ≡ Err Read → StopsReading given gives held mid old new) → Keeps mid holds
+    → (answered ≡ Err Read → StopsReading given gives held mid old new) → (answered ≡ Err Memory → StopsByLines given gives held mid old new) → Keeps mid holds
     → Ends (end_after answered is_flushed) given gives held holds old new
-ends_after (Ok n) false given gives held mid holds old new ok taken err read kept = inr (n, Headline-kept given held mid holds old new n ok kept, taken)
-ends_after (Err e) false given gives held mid holds old new ok taken err read kept = inl (Stops-kept given gives held mid holds old new err kept)
-ends_after (Ok n) true given gives held mid holds old new ok taken err read kept = (n, Headline-kept given held mid holds old new n ok kept, taken)
-ends_after (Err Read) true given gives held mid holds old new ok taken err read kept = StopsReading-kept given gives held mid holds old new (read refl) kept
-ends_after (Err Write) true given gives held mid holds old new ok taken err read kept = inl (Stops-kept given gives held mid holds old new err kept)
-ends_after (Err Memory) true given gives held mid holds old new ok taken err read kept = Stops-kept given gives held mid holds old new err kept
+ends_after (Ok n) false given gives held mid holds old new ok taken err read memory kept = inr (n, Headline-kept given held mid holds old new n ok kept, taken)
+ends_after (Err e) false given gives held mid holds old new ok taken err read memory kept = inl (Stops-kept (StopsAt Begun) given gives held mid holds old new err kept)
+ends_after (Ok n) true given gives held mid holds old new ok taken err read memory kept = (n, Headline-kept given held mid holds old new n ok kept, taken)
+ends_after (Err Read) true given gives held mid holds old new ok taken err read memory kept = StopsReading-kept given gives held mid holds old new (read refl) kept
+ends_after (Err Write) true given gives held mid holds old new ok taken err read memory kept = inl (Stops-kept (StopsAt Begun) given gives held mid holds old new err kept)
+ends_after (Err Memory) true given gives held mid holds old new ok taken err read memory kept = Stops-kept (StopsAt BegunByLines) given gives held mid holds old new (memory refl) kept

@@ -1,21 +1,25 @@
 -- What a reply that was written answers.
 use Rattle.std.proofs.Common.{◌≡◌, ◌≢◌, ℕ, List, [], ◌∷◌, refl, sym, ap, ◌∙◌, subst, append-nil, Option, Some, None, inl, inr, flat_map}
-use Rattle.std.specs.Prelude.{Result, Ok, Err, IfErr, OnOk}
+use Rattle.std.specs.Prelude.{Result, Ok, Err, IfErr, IfOk, OnOk}
 use Rattle.std.specs.Io.{StartsWith}
 use Rattle.std.specs.Io.KnownBytes.{Appends}
 use Rattle.mv_machine.specs.declared.Ending.{Ending}
 use Rattle.mv_machine.specs.declared.Ending.TheVariants.{Returned as HasReturned, Aborted as HasAborted, Exhausted as HasExhausted}
 use Rattle.mv_machine.specs.Lines.{Reply as Told, Refused as ToldRefused, reply_lines, numbered}
-use Rattle.mv_machine.specs.Ledger.{Publish, Run, Show, Audit, BadRun, Bad}
-use Rattle.mv_ledger.specs.RecordText.{IsShapeless}
-use Rattle.mv_ledger.specs.Answering.{Replies, told, told_ending}
+use Rattle.mv_machine.specs.Ledger.{Publish, Run, Show, Audit, BadRun, Bad, Format, AsText, AsJson}
+use Rattle.mv_move_types.specs.declared.refusal.Refusal.{Refusal as ReportRefusal}
+use Rattle.mv_ledger.specs.LinesView.{LinesView}
+use Rattle.mv_ledger.specs.RecordText.{IsShapeless, format_text}
+use Rattle.mv_ledger.specs.Answering.{Replies, told, told_ending, told_lines}
 use Rattle.mv_ledger.specs.View.{LedgerView, state_of}
 use Rattle.mv_ledger.specs.Accepted.SoundLedger.{IsSoundLedger}
 use Rattle.mv_ledger.specs.declared.Reply.{Reply}
 use Rattle.mv_ledger.specs.declared.Reply.TheVariants.{Published, Refused, Rejected, Ran, Memory}
 use Rattle.moveledger.proofs.HeadlineLemmas.{answers_whole}
-use Rattle.moveledger.specs.Answered.{BreaksOffReply, IsAnswered, IsBrokenOff, MayBeAnswered, WritesReply, WritesReplyPart, line_of}
-use Rattle.moveledger.specs.Writing.{BreaksOff}
+use Rattle.moveledger.specs.Answered.{BreaksOffReply, IsAnswered, IsBrokenOff, MayBeAnswered, MayBeAnsweredByLines, WritesReply, WritesReplyWholeLines, WritesReplyPart, line_of}
+use Rattle.moveledger.specs.Records.{Whole}
+use Rattle.moveledger.specs.Writing.{AsksJson, BreaksOff}
+use Rattle.moveledger.proofs.Taken.{Appends-same}
 
 -- ---- a reply has one line
 
@@ -76,6 +80,52 @@ may_be_answered : (n kind : ℕ) (payload : List ℕ) (reply : Option Told) (old
     → MayBeAnswered n kind payload old new held holds
 may_be_answered n kind payload None old new held holds replies written = inl (replies, written)
 may_be_answered n kind payload (Some t) old new held holds replies written = inr (reply_lines t, ((t, (answers_whole kind payload t old new replies, refl)), written))
+
+-- whole lines of what is told were written
+answered_by_lines : (n kind : ℕ) (payload : List ℕ) (reply : Option Told) (old new : LedgerView) (held holds : Option (List ℕ)) → Replies kind payload reply old new
+    → WritesReplyWholeLines n reply held holds → MayBeAnsweredByLines n kind payload old new held holds
+answered_by_lines n kind payload None old new held holds replies written = inl (replies, written)
+answered_by_lines n kind payload (Some t) old new held holds replies written =
+    inr (reply_lines t, written.0, (t, (answers_whole kind payload t old new replies, refl)), inl written.1, written.2)
+
+-- or a prefix of them, and JSON is asked for
+answered_in_json : (n kind : ℕ) (payload : List ℕ) (reply : Option Told) (old new : LedgerView) (held holds : Option (List ℕ)) → AsksJson (Whole kind payload) → Replies kind payload reply old new
+    → WritesReplyPart n reply held holds → MayBeAnsweredByLines n kind payload old new held holds
+answered_in_json n kind payload None old new held holds json replies written = inl (replies, written)
+answered_in_json n kind payload (Some t) old new held holds json replies written =
+    inr (reply_lines t, written.0, (t, (answers_whole kind payload t old new replies, refl)), inr (json, written.1), written.2)
+
+-- nothing is as many lines as none
+pub no_lines : (n : ℕ) (reply : Option Told) (held holds : Option (List ℕ)) → holds ≡ held → WritesReplyWholeLines n reply held holds
+no_lines n None held holds same = Appends-same held holds same
+no_lines n (Some t) held holds same = ([], ([], reply_lines t, refl, refl), Appends-same held holds same)
+
+-- where memory ran out, nothing was written of a reply
+pub unwritten_answers : (n kind same : ℕ) (payload : List ℕ) (reply : Option Told) (old new : LedgerView) (held holds : Option (List ℕ)) → kind ≡ same → Replies same payload reply old new → holds ≡ held
+    → MayBeAnsweredByLines n kind payload old new held holds
+unwritten_answers n kind same payload reply old new held holds is replies none =
+    let P : ℕ → Type 0 = λ k. Replies k payload reply old new in
+    answered_by_lines n kind payload reply old new held holds (subst P (sym is) replies) (no_lines n reply held holds none)
+
+-- and whole lines of a show or an audit, unless it is told as JSON
+module _ (n kind same : ℕ) (payload : List ℕ) (v : LedgerView) (held holds : Option (List ℕ)) (is : kind ≡ same) (json : payload ≡ format_text AsJson → AsksJson (Whole same payload)) where
+  report_so : (reply : Option Told) → Replies same payload reply v v → WritesReplyPart n reply held holds → (f : Format) → payload ≡ format_text f
+      → (f ≡ AsText → WritesReplyWholeLines n reply held holds) → MayBeAnsweredByLines n kind payload v v held holds
+  report_so reply replies part AsText asked whole =
+      let P : ℕ → Type 0 = λ k. Replies k payload reply v v in
+      answered_by_lines n kind payload reply v v held holds (subst P (sym is) replies) (whole refl)
+  report_so reply replies part AsJson asked whole =
+      let P : ℕ → Type 0 = λ k. Replies k payload reply v v in
+      let Q : ℕ → Type 0 = λ k. AsksJson (Whole k payload) in
+      answered_in_json n kind payload reply v v held holds (subst Q (sym is) (json asked)) (subst P (sym is) replies) part
+
+  pub report_answers : (report : Result LinesView ReportRefusal) → Replies same payload (told_lines report) v v → IfOk report (λ lines. payload ≡ format_text lines.format)
+      → (IfOk report (λ lines. lines.format ≡ AsText) → WritesReplyWholeLines n (told_lines report) held holds) → WritesReplyPart n (told_lines report) held holds
+      → MayBeAnsweredByLines n kind payload v v held holds
+  report_answers (Ok lines) replies asked whole part = report_so (told_lines (Ok lines)) replies part lines.format asked whole
+  report_answers (Err e) replies asked whole part =
+      let P : ℕ → Type 0 = λ k. Replies k payload (told_lines (Err e)) v v in
+      answered_by_lines n kind payload (told_lines (Err e)) v v held holds (subst P (sym is) replies) (whole tt)
 
 pub written_answers : {T E : Type 0} (n kind same : ℕ) (payload : List ℕ) (reply : Option Told) (old new : LedgerView) (held holds : Option (List ℕ)) (r : Result T E) → kind ≡ same
     → Replies same payload reply old new

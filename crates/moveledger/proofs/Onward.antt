@@ -8,10 +8,10 @@ use Rattle.mv_ledger.specs.View.{LedgerView}
 use Rattle.mv_machine.specs.Lines.{Refused, reply_lines, numbered}
 use Rattle.moveledger.specs.Records.{Record, Whole, Cut, IsText, AreRecords, AreWhole}
 use Rattle.moveledger.specs.Headline.{Reports}
-use Rattle.moveledger.specs.Reading.{IsCutAt, IsUnfinished}
-use Rattle.moveledger.specs.Outcome.{left_of, StopsAt, being_answered, part_of_a_record, read_and_nothing_done}
-use Rattle.moveledger.specs.Answered.{IsAnswered, MayBeAnswered}
-use Rattle.moveledger.specs.Continuing.{GoesOn, StopsAfter}
+use Rattle.moveledger.specs.Reading.{IsCutAt, IsTaken, IsUnfinished}
+use Rattle.moveledger.specs.Outcome.{left_of, Begun, BegunByLines, StopsAt, being_answered, part_of_a_record, read_and_nothing_done}
+use Rattle.moveledger.specs.Answered.{IsAnswered, MayBeAnswered, MayBeAnsweredByLines}
+use Rattle.moveledger.specs.Continuing.{GoesOn, StopsAfter, StopsAfterByLines, StopsAfterWith}
 use Rattle.moveledger.proofs.Steps.{AreRecords-push, Reports-push, length-push, Tells-trans, nonempty}
 use Rattle.moveledger.proofs.Taken.{Tells-taken}
 use Rattle.moveledger.proofs.Unfinished.{NoWhole-cut, some-cut}
@@ -115,11 +115,11 @@ Continues-cut before given gives gives2 held holds holds2 old new n took p taken
     }
 
 -- It stops in one more record.
-pub Continues-stops : (before : ℕ) (given gives gives2 held holds holds2 : Option (List ℕ)) (old new new2 : LedgerView) (n : ℕ) (took part : List ℕ)
+Continues-stops : (Last : ℕ → List ℕ → List ℕ → LedgerView → LedgerView → List ℕ → Type 0) (before : ℕ) (given gives gives2 held holds holds2 : Option (List ℕ)) (old new new2 : LedgerView) (n : ℕ) (took part : List ℕ)
     → Continues before given gives held holds old new n → Consumes gives gives2 took
-    → StopsAt (n + 1) took (left_of gives2) new new2 part
-    → Appends holds holds2 part → StopsAfter before given gives2 held holds2 old new2 n
-Continues-stops before given gives gives2 held holds holds2 old new new2 n took part p taken last written = record {
+    → Last (n + 1) took (left_of gives2) new new2 part
+    → Appends holds holds2 part → StopsAfterWith Last before given gives2 held holds2 old new2 n
+Continues-stops Last before given gives gives2 held holds holds2 old new new2 n took part p taken last written = record {
   whole = p.whole;
   took = took;
   records = p.records;
@@ -135,23 +135,39 @@ Continues-stops before given gives gives2 held holds holds2 old new new2 n took 
 }
 
 -- a read failed, or room for a payload was refused
-pub Continues-unread : (before : ℕ) (given gives gives2 held holds : Option (List ℕ)) (old new : LedgerView) (n : ℕ) (took : List ℕ)
-    → Continues before given gives held holds old new n → Consumes gives gives2 took → IsUnfinished took → StopsAfter before given gives2 held holds old new n
-Continues-unread before given gives gives2 held holds old new n took p taken part =
-    Continues-stops before given gives gives2 held holds holds old new new n took [] p taken (part_of_a_record part refl refl) (Appends-nil holds)
+pub Continues-unread : (Within : ℕ → List ℕ → List ℕ → LedgerView → LedgerView → List ℕ → Type 0) (before : ℕ) (given gives gives2 held holds : Option (List ℕ)) (old new : LedgerView) (n : ℕ) (took : List ℕ)
+    → Continues before given gives held holds old new n → Consumes gives gives2 took → IsUnfinished took → StopsAfterWith (StopsAt Within) before given gives2 held holds old new n
+Continues-unread Within before given gives gives2 held holds old new n took p taken part =
+    Continues-stops (StopsAt Within) before given gives gives2 held holds holds old new new n took [] p taken (part_of_a_record part refl refl) (Appends-nil holds)
+
+-- one more record was read and nothing came of it
+pub Continues-idle : (Within : ℕ → List ℕ → List ℕ → LedgerView → LedgerView → List ℕ → Type 0) (before : ℕ) (given gives gives2 held holds holds2 : Option (List ℕ)) (old new new2 : LedgerView) (n : ℕ) (r : Record) (took : List ℕ)
+    → Continues before given gives held holds old new n → Consumes gives gives2 took → IsTaken took (left_of gives2) r → new2 ≡ new → Appends holds holds2 []
+    → StopsAfterWith (StopsAt Within) before given gives2 held holds2 old new2 n
+Continues-idle Within before given gives gives2 held holds holds2 old new new2 n r took p taken is same none =
+    Continues-stops (StopsAt Within) before given gives gives2 held holds holds2 old new new2 n took [] p taken (read_and_nothing_done r is same refl) none
 
 -- an answer may have been begun
 pub Continues-answered : (before : ℕ) (given gives gives2 held holds holds2 : Option (List ℕ)) (old new new2 : LedgerView) (n kind : ℕ) (payload took : List ℕ)
     → Continues before given gives held holds old new n → Consumes gives gives2 took → IsText took kind payload
     → MayBeAnswered (n + 1) kind payload new new2 holds holds2 → StopsAfter before given gives2 held holds2 old new2 n
 Continues-answered before given gives gives2 held holds holds2 old new new2 n kind payload took p taken is (inl h) =
-    Continues-stops before given gives gives2 held holds holds2 old new new2 n took [] p taken (read_and_nothing_done (Whole kind payload) is h.0 refl) h.1
+    Continues-idle Begun before given gives gives2 held holds holds2 old new new2 n (Whole kind payload) took p taken is h.0 h.1
 Continues-answered before given gives gives2 held holds holds2 old new new2 n kind payload took p taken is (inr h) =
-    Continues-stops before given gives gives2 held holds holds2 old new new2 n took h.1.1.0 p taken (being_answered (Whole kind payload, h.0, is, h.1.0, h.1.1.1)) h.1.1.2
+    Continues-stops (StopsAt Begun) before given gives gives2 held holds holds2 old new new2 n took h.1.1.0 p taken (being_answered (Whole kind payload, h.0, is, h.1.0, h.1.1.1)) h.1.1.2
+
+-- or whole lines of it were written, if it doesn't ask for JSON
+pub Continues-by_lines : (before : ℕ) (given gives gives2 held holds holds2 : Option (List ℕ)) (old new new2 : LedgerView) (n kind : ℕ) (payload took : List ℕ)
+    → Continues before given gives held holds old new n → Consumes gives gives2 took → IsText took kind payload
+    → MayBeAnsweredByLines (n + 1) kind payload new new2 holds holds2 → StopsAfterByLines before given gives2 held holds2 old new2 n
+Continues-by_lines before given gives gives2 held holds holds2 old new new2 n kind payload took p taken is (inl h) =
+    Continues-idle BegunByLines before given gives gives2 held holds holds2 old new new2 n (Whole kind payload) took p taken is h.0 h.1
+Continues-by_lines before given gives gives2 held holds holds2 old new new2 n kind payload took p taken is (inr h) =
+    Continues-stops (StopsAt BegunByLines) before given gives gives2 held holds holds2 old new new2 n took h.1 p taken (being_answered (Whole kind payload, h.0, is, h.2, h.3)) h.4
 
 -- the line of a cut record was begun
 pub Continues-begun_cut : (before : ℕ) (given gives gives2 held holds holds2 : Option (List ℕ)) (old new : LedgerView) (n : ℕ) (took part : List ℕ)
     → Continues before given gives held holds old new n → Consumes gives gives2 took → IsCutAt took (left_of gives2)
     → StartsWith (flat_map (numbered (n + 1)) (reply_lines (Refused 1))) part → Appends holds holds2 part → StopsAfter before given gives2 held holds2 old new n
 Continues-begun_cut before given gives gives2 held holds holds2 old new n took part p taken cut front written =
-    Continues-stops before given gives gives2 held holds holds2 old new new n took part p taken (being_answered (Cut, reply_lines (Refused 1), cut, (refl, refl), front)) written
+    Continues-stops (StopsAt Begun) before given gives gives2 held holds holds2 old new new n took part p taken (being_answered (Cut, reply_lines (Refused 1), cut, (refl, refl), front)) written

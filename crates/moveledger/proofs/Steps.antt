@@ -9,10 +9,10 @@ use Rattle.mv_machine.specs.Lines.{numbered}
 use Rattle.moveledger.specs.Records.{Record, Whole, Cut, IsText, Begins, AreRecords}
 use Rattle.moveledger.specs.Headline.{Step, Reports, Tells, Headline}
 use Rattle.moveledger.specs.Reading.{IsCutAt, IsTaken, IsUnfinished}
-use Rattle.moveledger.specs.Outcome.{left_of, Begun, BrokenOff, Finished, ReadsAll, Stops, StopsBehind, StopsReading, StopsWith, StopsWriting, at_a_cut_record, at_the_end}
-use Rattle.moveledger.specs.Outcome.{at_the_last_number, being_answered, part_of_a_record, read_and_nothing_done}
+use Rattle.moveledger.specs.Outcome.{left_of, Begun, BegunByLines, BrokenOff, Finished, ReadsAll, Stops, StopsAt, StopsBehind, StopsByLines, StopsReading, StopsWith, StopsWriting}
+use Rattle.moveledger.specs.Outcome.{at_a_cut_record, at_the_end, at_the_last_number, being_answered, part_of_a_record, read_and_nothing_done}
 use Rattle.moveledger.specs.Progress.{Progress}
-use Rattle.moveledger.specs.Answered.{IsBegun, IsBrokenOff, MayBeAnswered}
+use Rattle.moveledger.specs.Answered.{IsBegun, IsBrokenOff, MayBeAnswered, MayBeAnsweredByLines}
 use Rattle.moveledger.specs.Writing.{BreaksOff}
 use Rattle.moveledger.proofs.Taken.{Tells-taken}
 use Rattle.moveledger.proofs.Unfinished.{NoWhole-cut, some-cut}
@@ -145,8 +145,9 @@ Stops-written given gives held holds old new h = record {
 }
 
 -- and so is a failed read
-pub Stops-read : (given gives held holds : Option (List ℕ)) (old new : LedgerView) → StopsReading given gives held holds old new → Stops given gives held holds old new
-Stops-read given gives held holds old new h = record {
+pub Stops-read : (Within : ℕ → List ℕ → List ℕ → LedgerView → LedgerView → List ℕ → Type 0) (given gives held holds : Option (List ℕ)) (old new : LedgerView) → StopsReading given gives held holds old new
+    → StopsWith (StopsAt Within) given gives held holds old new
+Stops-read Within given gives held holds old new h = record {
   whole = h.whole;
   took = h.part;
   records = h.records;
@@ -161,21 +162,10 @@ Stops-read given gives held holds old new h = record {
 }
 
 -- one more record was read and nothing came of it
-Stops-idle : (given gives gives2 held holds holds2 : Option (List ℕ)) (old new : LedgerView) (n : ℕ) (r : Record) (took : List ℕ)
-    → Progress given gives held holds old new n → Consumes gives gives2 took → IsTaken took (left_of gives2) r → Appends holds holds2 [] → Stops given gives2 held holds2 old new
-Stops-idle given gives gives2 held holds holds2 old new n r took p taken is none = record {
-  whole = p.whole;
-  took = took;
-  records = p.records;
-  text = p.text;
-  part = [];
-  mid = new;
-  taken = Consumes-trans given gives gives2 p.whole took p.taken taken;
-  read = p.read;
-  report = p.report;
-  last = read_and_nothing_done r is refl refl;
-  written = Appends-trans held holds holds2 p.text [] p.written none;
-}
+pub Stops-idle : (Within : ℕ → List ℕ → List ℕ → LedgerView → LedgerView → List ℕ → Type 0) (given gives gives2 held holds holds2 : Option (List ℕ)) (old new : LedgerView) (n : ℕ) (r : Record) (took : List ℕ)
+    → Progress given gives held holds old new n → Consumes gives gives2 took → IsTaken took (left_of gives2) r → Appends holds holds2 [] → StopsWith (StopsAt Within) given gives2 held holds2 old new
+Stops-idle Within given gives gives2 held holds holds2 old new n r took p taken is none =
+    Stops-with (StopsAt Within) given gives gives2 held holds holds2 old new new n took [] p taken (read_and_nothing_done r is refl refl) none
 
 -- one more record was read, and writing its answer broke off
 pub Stops-broken_off : (given gives gives2 held holds holds2 : Option (List ℕ)) (old new new2 : LedgerView) (n kind : ℕ) (payload took : List ℕ)
@@ -197,9 +187,19 @@ pub Stops-answered : (given gives gives2 held holds holds2 : Option (List ℕ)) 
     → MayBeAnswered (n + 1) kind payload new new2 holds holds2 → Stops given gives2 held holds2 old new2
 Stops-answered given gives gives2 held holds holds2 old new new2 n kind payload took p taken is (inl h) =
     let P : LedgerView → Type 0 = λ s. Stops given gives2 held holds2 old s in
-    subst P (sym h.0) (Stops-idle given gives gives2 held holds holds2 old new n (Whole kind payload) took p taken is h.1)
+    subst P (sym h.0) (Stops-idle Begun given gives gives2 held holds holds2 old new n (Whole kind payload) took p taken is h.1)
 Stops-answered given gives gives2 held holds holds2 old new new2 n kind payload took p taken is (inr h) =
     Stops-written given gives2 held holds2 old new2 (Stops-begun given gives gives2 held holds holds2 old new new2 n kind payload took p taken is h)
+
+-- or whole lines of its answer were written, if it doesn't ask for JSON
+pub Stops-by_lines : (given gives gives2 held holds holds2 : Option (List ℕ)) (old new new2 : LedgerView) (n kind : ℕ) (payload took : List ℕ)
+    → Progress given gives held holds old new n → Consumes gives gives2 took → IsText took kind payload
+    → MayBeAnsweredByLines (n + 1) kind payload new new2 holds holds2 → StopsByLines given gives2 held holds2 old new2
+Stops-by_lines given gives gives2 held holds holds2 old new new2 n kind payload took p taken is (inl h) =
+    let P : LedgerView → Type 0 = λ s. StopsByLines given gives2 held holds2 old s in
+    subst P (sym h.0) (Stops-idle BegunByLines given gives gives2 held holds holds2 old new n (Whole kind payload) took p taken is h.1)
+Stops-by_lines given gives gives2 held holds holds2 old new new2 n kind payload took p taken is (inr h) =
+    Stops-with (StopsAt BegunByLines) given gives gives2 held holds holds2 old new new2 n took h.1 p taken (being_answered (Whole kind payload, h.0, is, h.2, h.3)) h.4
 
 -- a text begins with itself
 pub StartsWith-whole : (text : List ℕ) → StartsWith text text

@@ -1,7 +1,7 @@
 -- What several reads took, and what several writes gave, one after the other.
 use Rattle.std.proofs.Common.{◌≡◌, ℕ, ◌+◌, ◌-◌, ◌≤◌, List, [], ◌++◌, length, take, drop, arith, refl, sym, ap, ◌∙◌, subst, length-take-le, append-nil, Option, Some, None, take_all, length-drop}
 use Rattle.std.specs.Io.KnownBytes.{Consumes, Appends, IsAtEnd}
-use Rattle.std.proofs.KnownBytes.{Consumes-trans, Appends-trans}
+use Rattle.std.proofs.KnownBytes.{Consumes-trans, Appends-nil, Appends-trans}
 use Rattle.std.proofs.Math.Seq.{take-append-add, take-append-le, take-add}
 use Rattle.moveledger.specs.Headline.{Tells}
 use Rattle.moveledger.specs.Outcome.{left_of}
@@ -28,6 +28,10 @@ left_of-end (Some xs) p = p
 -- a read that took nothing
 pub Consumes-none : (a b c : Option (List ℕ)) (bs : List ℕ) → Consumes a b bs → Consumes b c [] → Consumes a c bs
 Consumes-none a b c bs p q = subst (Consumes a c) (append-nil bs) (Consumes-trans a b c bs [] p q)
+
+-- a writer that took nothing
+pub Appends-same : (a b : Option (List ℕ)) → b ≡ a → Appends a b []
+Appends-same a b same = subst (λ (o : Option (List ℕ)). Appends a o []) (sym same) (Appends-nil a)
 
 -- what is written of a text goes on
 pub Appends-more : (a b c : Option (List ℕ)) (text : List ℕ) (i n : ℕ) → Appends a b (take i text) → Appends b c (take n (take (length text - i) (drop i text))) → Appends a c (take (i + n) text)

@@ -4,9 +4,11 @@ use Rattle.std.proofs.Common.{arith, length-append, length-drop, inl, inr}
 use Rattle.std.specs.Prelude.{not}
 use Rattle.std.specs.Io.KnownBytes.{Appends}
 use Rattle.std.proofs.KnownBytes.{Appends-nil, Appends-trans, starts_with_rest}
+use Rattle.std.proofs.lemmas.List.{flat_map_more}
 use Rattle.mv_machine.specs.Lines.{numbered}
+use Rattle.mv_ledger.specs.Answering.{ended}
 use Rattle.mv_ledger.specs.Pieces.{TakesPiece, piece_text}
-use Rattle.moveledger.specs.Answered.{Writes, WritesPart, number_at}
+use Rattle.moveledger.specs.Answered.{Writes, WritesPart, WritesWholeLines, number_at}
 use Rattle.moveledger.specs.Writing.{BreaksOff}
 use Rattle.moveledger.specs.declared.streaming.EngineError.{EngineError}
 use Rattle.moveledger.specs.declared.streaming.EngineError.TheVariants.{Read, Write, Memory}
@@ -37,6 +39,26 @@ pub left-piece : (n : ℕ) (begun last : Bool) (piece : List ℕ) (old new : Lis
 left-piece n begun true piece old new takes = ap (text_left n begun) takes ∙ left-last n begun piece new
 left-piece n begun false piece old new takes =
     ap (text_left n begun) takes.3 ∙ left-open n begun piece takes.0 takes.1 ∙ sym (ap (λ ls. written_piece n begun false piece ++ text_left n true ls) takes.4)
+
+-- fewer bytes are left behind a piece
+
+ended-piece : (last : Bool) (piece : List ℕ) (old new : List (List ℕ)) → TakesPiece last piece old new → ended old ≡ piece_text last piece ++ ended new
+ended-piece true piece old new takes = ap ended takes
+ended-piece false piece old new takes =
+    let rest : List ℕ = takes.0 in
+    let lines : List (List ℕ) = takes.1 in
+    ap ended takes.3
+    ∙ ap (λ (l : List ℕ). l ++ ended lines) (append_assoc piece rest (10 ∷ []))
+    ∙ append_assoc piece (rest ++ 10 ∷ []) (ended lines)
+    ∙ sym (ap (λ ls. piece ++ ended ls) takes.4)
+
+some-piece : (last : Bool) (piece : List ℕ) (old new : List (List ℕ)) → TakesPiece last piece old new → 0 < length (piece_text last piece)
+some-piece true piece old new takes = omega (arith, length-append piece (10 ∷ []))
+some-piece false piece old new takes = takes.2
+
+pub fewer-left : (last : Bool) (piece : List ℕ) (old new : List (List ℕ)) → TakesPiece last piece old new → length (ended new) < length (ended old)
+fewer-left last piece old new takes =
+    omega (arith, ap length (ended-piece last piece old new takes), length-append (piece_text last piece) (ended new), some-piece last piece old new takes)
 
 -- ---- what is written so far
 
@@ -102,3 +124,28 @@ HasWritten-failed n begun last piece all old new a b c e h takes (inl is) write 
     ((λ same. cc), BreaksOff-part n all a c (HasWritten-broken n begun last piece all old new a b c h takes (write is)))
 HasWritten-failed n begun last piece all old new a b c e h takes (inr is) write memory =
     ((λ same. cc), HasWritten-kept n begun all old a b c h (memory is))
+
+-- ---- whole lines
+
+-- a writer took the first of all these lines, whole, and the others are left
+abbrev pub HasWrittenLines : ℕ → Bool → List (List ℕ) → List (List ℕ) → Option (List ℕ) → Option (List ℕ) → Type 0
+HasWrittenLines n begun all left held holds = (begun ≡ false) × (first : List (List ℕ)) × (all ≡ first ++ left) × Appends held holds (flat_map (numbered n) first)
+
+pub HasWrittenLines-start : (n : ℕ) (all : List (List ℕ)) (held : Option (List ℕ)) → HasWrittenLines n false all all held held
+HasWrittenLines-start n all held = (refl, [], refl, Appends-nil held)
+
+-- a piece that is a whole line is written
+pub HasWrittenLines-next : (n : ℕ) (begun last : Bool) (piece : List ℕ) (all old new : List (List ℕ)) (a b c : Option (List ℕ)) → HasWrittenLines n begun all old a b
+    → TakesPiece last piece old new → last ≡ true → Appends b c (written_piece n begun last piece) → HasWrittenLines n (not last) all new a c
+HasWrittenLines-next n true last piece all old new a b c h takes whole w = cc
+HasWrittenLines-next n false false piece all old new a b c h takes whole w = cc
+HasWrittenLines-next n false true piece all old new a b c h takes whole w =
+    let before : List ℕ = flat_map (numbered n) h.1 in
+    let text : before ++ written_piece n false true piece ≡ flat_map (numbered n) (h.1 ++ piece ∷ []) =
+    ap (λ l. before ++ l) (sym (append_assoc (decimal n ++ codes " ") piece (10 ∷ []))) ∙ flat_map_more (numbered n) [] h.1 piece in
+    (refl, h.1 ++ piece ∷ [], h.2 ∙ ap (λ ls. h.1 ++ ls) takes ∙ sym (append_assoc h.1 (piece ∷ []) new), subst (Appends a c) text (Appends-trans a b c before (written_piece n false true piece) h.3 w))
+
+-- memory ran out between two lines
+pub HasWrittenLines-whole : (n : ℕ) (begun : Bool) (all left : List (List ℕ)) (a b c : Option (List ℕ)) → HasWrittenLines n begun all left a b → c ≡ b → WritesWholeLines n all a c
+HasWrittenLines-whole n begun all left a b c h same =
+    subst (WritesWholeLines n all a) (sym same) (flat_map (numbered n) h.1, (h.1, left, h.2, refl), h.3)

@@ -2,11 +2,13 @@
 -- In all of these `given` and `gives` are what of the input was left before and after, `held` and `holds` what the writer had taken,
 -- and `old` and `new` the ledger.
 --   ReadsAll given gives n           all of the input was read, which is n records
---   StopsAt n took left old new part where it stopped behind whole records: at a part of a record, before one was answered, or within
+--   StopsAt Within n took left ..    where it stopped behind whole records: at a part of a record, before one was answered, or within
 --   Begun n took left old new part   it was answered, and a prefix of its lines was written
+--   BegunByLines                     the same, and whole lines were; or the record asks for JSON
 --   BrokenOff, Finished              the same, and not all of its lines were written, or all of them
 --   StopsWith Last ..                whole records were read and answered, and Last says what became of the bytes after them
---   Stops                            the same, where the last record is as Stays or Begun says
+--   Stops                            the same, where the last record is as StopsAt says, at most as Begun
+--   StopsByLines                     the same, at most as BegunByLines
 --   StopsReading                     whole records were read and answered, and a part of one was read
 --   StopsWriting, StopsBehind        the same as Stops, where the last record is as BrokenOff or Finished says
 --   AnswersAll                       the headline holds, and all was read
@@ -20,6 +22,7 @@ use Rattle.moveledger.specs.Records.{Record, AreWhole, most_records}
 use Rattle.moveledger.specs.Reading.{IsCutAt, IsTaken, IsUnfinished}
 use Rattle.mv_machine.specs.Lines.{numbered}
 use Rattle.moveledger.specs.Headline.{Headline, Step, Reports}
+use Rattle.moveledger.specs.Writing.{IsByLines}
 use Rattle.moveledger.specs.declared.ending.End.{End}
 use Rattle.moveledger.specs.declared.ending.End.TheVariants.{Done, Read, Write, Memory, Words, Refused, LoadRefused, TooComplex}
 
@@ -49,6 +52,11 @@ abbrev pub Begun : ℕ → List ℕ → List ℕ → LedgerView → LedgerView �
 Begun n took left old new part = (r : Record) × (lines : List (List ℕ)) × IsTaken took left r × Step old r lines new
     × StartsWith (flat_map (numbered n) lines) part
 
+-- as Begun, and whole lines were written; or the record asks for JSON, and a prefix of its one line was
+abbrev pub BegunByLines : ℕ → List ℕ → List ℕ → LedgerView → LedgerView → List ℕ → Type 0
+BegunByLines n took left old new part = (r : Record) × (lines : List (List ℕ)) × IsTaken took left r × Step old r lines new
+    × IsByLines r n lines part
+
 -- as Begun, and not all of its lines was written
 abbrev pub BrokenOff : ℕ → List ℕ → List ℕ → LedgerView → LedgerView → List ℕ → Type 0
 BrokenOff n took left old new part = (r : Record) × (lines : List (List ℕ)) × IsTaken took left r × Step old r lines new
@@ -60,11 +68,11 @@ Finished n took left old new part = (r : Record) × (lines : List (List ℕ)) ×
     × (part ≡ flat_map (numbered n) lines)
 
 -- Where it stopped behind whole records, at the record of this number: after a part of it was read; after it was read, before anything
--- was done with it; or while it was being answered.
-pub data StopsAt (n : ℕ) (took left : List ℕ) (old new : LedgerView) (part : List ℕ) : Type 0 where
-  part_of_a_record : IsUnfinished took → new ≡ old → part ≡ [] → StopsAt n took left old new part
-  read_and_nothing_done : (r : Record) → IsTaken took left r → new ≡ old → part ≡ [] → StopsAt n took left old new part
-  being_answered : Begun n took left old new part → StopsAt n took left old new part
+-- was done with it; or while it was being answered, of which Within says what was written.
+pub data StopsAt (Within : ℕ → List ℕ → List ℕ → LedgerView → LedgerView → List ℕ → Type 0) (n : ℕ) (took left : List ℕ) (old new : LedgerView) (part : List ℕ) : Type 0 where
+  part_of_a_record : IsUnfinished took → new ≡ old → part ≡ [] → StopsAt Within n took left old new part
+  read_and_nothing_done : (r : Record) → IsTaken took left r → new ≡ old → part ≡ [] → StopsAt Within n took left old new part
+  being_answered : Within n took left old new part → StopsAt Within n took left old new part
 
 -- What was read is whole records, and some bytes behind them of which there is this to say. All lines of the whole records
 -- were written, and what is said of the others. The ledger is as the whole records left it, and then as is said.
@@ -84,7 +92,11 @@ pub record StopsWith (Last : ℕ → List ℕ → List ℕ → LedgerView → Le
 -- All lines of some whole records of the input were written, and a prefix of those of at most one more record. The ledger is as
 -- these records left it. No byte was read behind the last record of which anything was read.
 abbrev pub Stops : (given gives held holds : Option (List ℕ)) → (old new : LedgerView) → Type 0
-Stops = StopsWith StopsAt
+Stops = StopsWith (StopsAt Begun)
+
+-- The same, but of the last record whole lines were written; or it asks for JSON, and a prefix of its one line was.
+abbrev pub StopsByLines : (given gives held holds : Option (List ℕ)) → (old new : LedgerView) → Type 0
+StopsByLines = StopsWith (StopsAt BegunByLines)
 
 -- What was read is whole records and a part of one. The ledger is as the whole ones left it, and what was
 -- written is exactly their report.
@@ -118,7 +130,7 @@ abbrev pub Ends : End → (given gives held holds : Option (List ℕ)) → (old 
 Ends Done given gives held holds old new = AnswersAll given gives held holds old new
 Ends Read given gives held holds old new = StopsReading given gives held holds old new
 Ends Write given gives held holds old new = Stops given gives held holds old new ⊎ AnswersAll given gives held holds old new
-Ends Memory given gives held holds old new = Stops given gives held holds old new
+Ends Memory given gives held holds old new = StopsByLines given gives held holds old new
 Ends Words given gives held holds old new = ⊥
 Ends (Refused phase) given gives held holds old new = ⊥
 Ends (LoadRefused number) given gives held holds old new = ⊥

@@ -1,10 +1,12 @@
 // What is written for a record.
 ghost use Rattle.std.specs.Prelude.{◌≡◌, ◌≢◌, ◌⊎◌, ◌++◌, Some, Err, IfOk, IfErr, OnOk, codes, decimal, flat_map, string_bytes};
 ghost use Rattle.std.specs.Io.KnownBytes.{Appends};
+ghost use Rattle.mv_machine.specs.Ledger.{AsText};
 ghost use Rattle.mv_machine.specs.Lines.{Reply as Told, numbered, kind_text, stop_text};
 ghost use Rattle.mv_ledger.specs.Answering.{told, told_ending, told_lines};
 ghost use Rattle.mv_ledger.specs.Pieces.{piece_text};
-ghost use Rattle.moveledger.specs.Answered.{BreaksOffReply, IsAnswered, IsBrokenOff, MayBeAnswered, Writes, WritesPart, WritesReply, WritesReplyPart, line_of, number_at};
+ghost use Rattle.moveledger.specs.Answered.{BreaksOffReply, IsAnswered, IsBrokenOff, MayBeAnswered, MayBeAnsweredByLines, Writes, WritesPart, WritesWholeLines};
+ghost use Rattle.moveledger.specs.Answered.{WritesReply, WritesReplyWholeLines, WritesReplyPart, line_of, number_at};
 ghost use Rattle.moveledger.specs.Writing.{BreaksOff};
 
 use crate::streaming::EngineError;
@@ -182,10 +184,13 @@ fn write_lines<W: Write>(
     number: u64,
     mut lines: Lines<'_>,
 ) -> Result<(), EngineError>
-    ensures ok { OnOk result (Writes number lines.entry (W.contents writer.old) (W.contents writer.new)) }
+    ensures ok { OnOk result (Writes number lines.entry.left (W.contents writer.old) (W.contents writer.new)) }
     ensures err { IfErr result (λ e. (e ≢ EngineError.Read)
-        × WritesPart number lines.entry (W.contents writer.old) (W.contents writer.new)) }
-    ensures write { result ≡ Err EngineError.Write → BreaksOff (flat_map (numbered number) lines.entry)
+        × WritesPart number lines.entry.left (W.contents writer.old) (W.contents writer.new)) }
+    ensures write { result ≡ Err EngineError.Write → BreaksOff (flat_map (numbered number) lines.entry.left)
+        (W.contents writer.old) (W.contents writer.new) }
+    // Memory runs out between two lines of text, and not within one.
+    ensures memory { result ≡ Err EngineError.Memory → lines.entry.format ≡ AsText → WritesWholeLines number lines.entry.left
         (W.contents writer.old) (W.contents writer.new) }
 {
     let mut line = Vec::new(alloc);
@@ -230,6 +235,9 @@ fn write_report<W: Write>(
         × WritesReplyPart number (told_lines report.entry) (W.contents writer.old) (W.contents writer.new)) }
     ensures write { result ≡ Err EngineError.Write → BreaksOffReply number (told_lines report.entry)
         (W.contents writer.old) (W.contents writer.new) }
+    // Memory runs out between two lines, unless the report is a line of JSON.
+    ensures memory { result ≡ Err EngineError.Memory → IfOk report.entry (λ lines. lines.format ≡ AsText)
+        → WritesReplyWholeLines number (told_lines report.entry) (W.contents writer.old) (W.contents writer.new) }
 {
     match report {
         Ok(lines) => write_lines(alloc, writer, number, lines),
@@ -269,6 +277,9 @@ pub fn answer<W: Write>(
         (W.contents writer.old) (W.contents writer.new)) }
     // A write fails only where there is something to write: the ledger is as after the record then, and not all is written.
     ensures write { result ≡ Err EngineError.Write → IsBrokenOff number kind payload.now ledger.old ledger.new
+        (W.contents writer.old) (W.contents writer.new) }
+    // Memory runs out between two lines, unless the record asks for JSON.
+    ensures memory { result ≡ Err EngineError.Memory → MayBeAnsweredByLines number kind payload.now ledger.old ledger.new
         (W.contents writer.old) (W.contents writer.new) }
 {
     if kind == PUBLISH {

@@ -1,6 +1,6 @@
 // An input whose records are numbered on from those of the inputs before it.
-ghost use Rattle.std.specs.Prelude.{◌≡◌, OnOk, OnErr};
-ghost use Rattle.moveledger.specs.Continuing.{GoesOn, StopsAfter};
+ghost use Rattle.std.specs.Prelude.{◌≡◌, Err, OnOk, OnErr};
+ghost use Rattle.moveledger.specs.Continuing.{GoesOn, StopsAfter, StopsAfterByLines};
 
 use crate::answering::{answer, write_reply};
 use crate::reading::{Next, next_record};
@@ -25,6 +25,9 @@ pub fn answer_on<R: Read, W: Write>(
         (W.contents writer.old) (W.contents writer.new) ledger.old ledger.new answered.new) }
     ensures err { OnErr result (StopsAfter answered.old (R.remaining reader.old)
         (R.remaining reader.new) (W.contents writer.old) (W.contents writer.new) ledger.old ledger.new answered.new) }
+    // Want of memory: whole lines, unless the last record asks for JSON.
+    ensures memory { result ≡ Err EngineError.Memory → StopsAfterByLines answered.old (R.remaining reader.old)
+        (R.remaining reader.new) (W.contents writer.old) (W.contents writer.new) ledger.old ledger.new answered.new }
 {
     let alloc = ledger.allocator();
     // The line of each reply is made in the memory of the one before it.

@@ -4,7 +4,7 @@ ghost use Rattle.moveledger.specs.Records.{Record, AreRecords};
 ghost use Rattle.mv_ledger.specs.View.{state_of};
 ghost use Rattle.moveledger.specs.Headline.{Headline, IsAccounted};
 ghost use Rattle.moveledger.specs.OneReport.{OneReport};
-ghost use Rattle.moveledger.specs.Outcome.{ReadsAll, Stops, StopsBehind, StopsReading, StopsWriting};
+ghost use Rattle.moveledger.specs.Outcome.{ReadsAll, Stops, StopsBehind, StopsByLines, StopsReading, StopsWriting};
 ghost use Rattle.moveledger.specs.Pacing.{IsDoneForAll, IsDoneUntil, IsFailed};
 
 use crate::answering::{answer, write_reply};
@@ -66,6 +66,9 @@ pub fn engine<R: Read, W: Write>(
     // A failed write: a prefix of the lines of the record that was being answered, and not all of them, and nothing read behind it.
     ensures write { result ≡ Err EngineError.Write → StopsWriting (R.remaining reader.old)
         (R.remaining reader.new) (W.contents writer.old) (W.contents writer.new) ledger.old ledger.new }
+    // Want of memory: whole lines, unless the last record asks for JSON, which is written entry by entry.
+    ensures memory { result ≡ Err EngineError.Memory → StopsByLines (R.remaining reader.old)
+        (R.remaining reader.new) (W.contents writer.old) (W.contents writer.new) ledger.old ledger.new }
     // Whatever the end: what is stored is accounted for, before as after.
     ensures began { IsAccounted (state_of ledger.old) }
     ensures accounted { IsAccounted (state_of ledger.new) }
@@ -97,6 +100,8 @@ pub fn answer_all<R: Read, W: Write, A: AfterRecord<R, W>>(
         (R.remaining reader.new) (W.contents writer.old) (W.contents writer.new) ledger.old ledger.new
         ⊎ (StopsBehind (R.remaining reader.old) (R.remaining reader.new) (W.contents writer.old) (W.contents writer.new) ledger.old ledger.new
         × IsFailed R.remaining W.contents A.does (R.remaining reader.old) (W.contents writer.old) ledger.old EngineError.Write after.new) }
+    ensures memory { result ≡ Err EngineError.Memory → StopsByLines (R.remaining reader.old)
+        (R.remaining reader.new) (W.contents writer.old) (W.contents writer.new) ledger.old ledger.new }
     // What is wanted was done after each whole record, before anything behind it was read, and with all lines up to its own written.
     ensures done { IfOk result (λ n. IsDoneForAll R.remaining W.contents A.does (R.remaining reader.old) (W.contents writer.old)
         ledger.old (R.remaining reader.new) n after.old after.new) }

@@ -193,9 +193,9 @@ pub use Rattle.mv_ledger.specs.View.{ArePlaced, AreScarce, AreSized, IsLedger, I
 pub use Rattle.mv_ledger.specs.declared.executing.Barred.{Barred}
 pub use Rattle.mv_ledger.specs.declared.executing.Barred.TheVariants.{Rejected, Rejected as BarredRejected}
 pub use Rattle.mv_ledger.specs.declared.executing.Call.{Call}
-pub use Rattle.mv_ledger.specs.declared.loading.LoadError.TheVariants.{Body, Head, Link, Link as NoLink, Module as BadModule, Module as NoModule, Tally as BadTally}
+pub use Rattle.mv_ledger.specs.declared.saved.loading.LoadError.TheVariants.{Body, Head, Link, Link as NoLink, Module as BadModule, Module as NoModule, Tally as BadTally}
 pub use Rattle.mv_ledger.specs.declared.payload.Offered.{Offered}
-pub use Rattle.mv_ledger.specs.declared.saving.Section.{Section}
+pub use Rattle.mv_ledger.specs.declared.saved.saving.Section.{Section}
 pub use Rattle.mv_ledger.specs.declared.tallies.Placed.{Placed}
 pub use Rattle.mv_ledger.specs.declared.tallies.Tally.{Tally}
 pub use Rattle.hex.specs.Hex.{encode_lower, lower_digits}

@@ -4,8 +4,8 @@ use Rattle.mv_ledger.proofs.Common.{◌≡◌, ℕ, List, refl, subst, sym, IsRe
 use Rattle.mv_ledger.specs.Accepted.SoundLedger.{IsSoundLedger}
 use Rattle.mv_ledger.specs.Loading.{IsLoadRefusal}
 use Rattle.mv_ledger.specs.SavedLaws.{IsSavable, NoSaveIsRefused}
-use Rattle.mv_ledger.specs.declared.loading.LoadError.{LoadError}
-use Rattle.mv_ledger.specs.declared.loading.LoadError.TheVariants.{Head, Module, Link, Body, Tally, Memory}
+use Rattle.mv_ledger.specs.declared.saved.loading.LoadError.{LoadError}
+use Rattle.mv_ledger.specs.declared.saved.loading.LoadError.TheVariants.{Head, Module, Link, Body, Tally, Memory}
 use Rattle.mv_ledger.proofs.SavedFails.{loads-hold}
 use Rattle.mv_ledger.proofs.Saves.SavedLoads.{saves-load}
 

@@ -6,7 +6,8 @@
 --   Characters  The lines of a show and of an audit are texts of characters.
 --   Sends       What a report in JSON sends, and which text is written for it.
 --   Objects     That text is the line of JSON, since its texts are plain.
---   Pieces      A line of JSON, piece by piece, and a text of pieces.
+--   Pieces      A line of JSON, piece by piece.
+--   Parted      The texts of a stored value, one behind the other.
 --   Audits      The counts of an audit, module by module.
 --   Reports     What a show and an audit reply.
 pub mod Digits
@@ -17,5 +18,6 @@ pub mod Characters
 pub mod Sends
 pub mod Objects
 pub mod Pieces
+pub mod Parted
 pub mod Audits
 pub mod Reports

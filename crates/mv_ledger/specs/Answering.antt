@@ -17,6 +17,7 @@ use Rattle.mv_machine.specs.Lines.{RanToEnd, RanToAbort, RanOut, Told as ToldLin
 use Rattle.mv_machine.specs.Ledger.{LedgerState, Request, Answers}
 use Rattle.mv_ledger.specs.View.{LedgerView, state_of}
 use Rattle.mv_ledger.specs.RecordText.{Asks}
+use Rattle.mv_ledger.specs.LinesView.{LinesView}
 use Rattle.mv_ledger.specs.Changes.{Leaves}
 use Rattle.mv_ledger.specs.Exact.{IsRightly}
 use Rattle.mv_ledger.specs.Publishing.{Spells}
@@ -40,8 +41,8 @@ told (Ran outcome) = Some (told_ending outcome.ending outcome.steps)
 told Memory = None
 
 -- what a show or an audit says: its lines, or that it is refused; want of memory says nothing
-abbrev pub told_lines : Result (List (List ℕ)) Refusal → Option Told
-told_lines (Ok lines) = Some (ToldLines lines)
+abbrev pub told_lines : Result LinesView Refusal → Option Told
+told_lines (Ok lines) = Some (ToldLines lines.left)
 told_lines (Err (Phase phase)) = Some (ToldRefused phase)
 told_lines (Err NoMemory) = None
 

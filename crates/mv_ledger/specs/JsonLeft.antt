@@ -17,9 +17,9 @@ abbrev pub counted_objects : CountedJson → List (List ℕ)
 counted_objects c = map (λ t. count_object (stored_of t) t) c.counts
 
 -- what is left of a show
-abbrev pub show_left : StoredJson → List ℕ
+abbrev pub show_left : StoredJson → List (List ℕ)
 show_left s = json_left (codes "show") s.place (stored_objects s)
 
 -- what is left of an audit
-abbrev pub audit_left : CountedJson → List ℕ
+abbrev pub audit_left : CountedJson → List (List ℕ)
 audit_left c = json_left (codes "audit") c.place (counted_objects c)

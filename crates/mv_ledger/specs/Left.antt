@@ -1,29 +1,29 @@
 -- Which lines of a report are left. The first of them may be begun: then it is the rest of one.
-use Rattle.std.specs.Prelude.{◌≡◌, ℕ, List, [], ◌∷◌, Option, MatchOption, Result, MatchResult}
-use Rattle.std.specs.Global.{Vec}
+--   stored_left, counting_left   those of a show and of an audit as text
+--   lines_left                   those of a report, and its format
+use Rattle.std.specs.Prelude.{ℕ, List, [], cond}
 use Rattle.mv_linker.specs.Link.{tables_in}
-use Rattle.mv_ledger.specs.declared.lines.Piece.{Piece}
+use Rattle.mv_machine.specs.Ledger.{AsJson, AsText}
+use Rattle.mv_ledger.specs.declared.lines.Stored as stored
+use Rattle.mv_ledger.specs.declared.lines.Counting as counting
 use Rattle.mv_ledger.specs.declared.lines.Left.{Left}
-use Rattle.mv_ledger.specs.declared.lines.Left.TheVariants.{Stored, Counting, StoredJson, CountedJson, Nothing}
+use Rattle.mv_ledger.specs.declared.lines.Left.TheVariants.{Stored, Counting, StoredJson, CountedJson}
 use Rattle.mv_ledger.specs.Showing.{show_from}
 use Rattle.mv_ledger.specs.Auditing.{audit_from}
-use Rattle.mv_ledger.specs.Pieces.{TakesPiece}
 use Rattle.mv_ledger.specs.JsonLeft.{show_left, audit_left}
+use Rattle.mv_ledger.specs.LinesView.{LinesView}
 
--- those of the values or the counts that are not told yet, as text or as JSON, or none
-abbrev pub lines_left : Left → List (List ℕ)
-lines_left (Stored s) = show_from (tables_in s.store.now) s.entries s.told
-lines_left (Counting c) = audit_from c.counts c.told
-lines_left (StoredJson s) = show_left s ∷ []
-lines_left (CountedJson c) = audit_left c ∷ []
-lines_left Nothing = []
+-- those of the values that are not told yet
+abbrev pub stored_left : stored.Stored → List (List ℕ)
+stored_left s = cond s.is_ended [] (show_from (tables_in s.store.now) s.entries s.told)
 
--- The next of these lines was told, and the others are left; or no line was, and all are left.
-abbrev pub Tells : List (List ℕ) → Result (Vec ℕ × Left) Left → Type 0
-Tells lines told = MatchResult told (λ r. lines ≡ r.0.items ∷ lines_left r.1) (λ left. lines_left left ≡ lines)
+-- those of the counts that are not told yet
+abbrev pub counting_left : counting.Counting → List (List ℕ)
+counting_left c = cond c.is_ended [] (audit_from c.counts c.told)
 
--- the next piece of these lines, if there is one, was told, and the rest is left; or all are left
-abbrev pub TellsAny : List (List ℕ) → Result (Option Piece × Left) Left → Type 0
-TellsAny lines told =
-    MatchResult told
-    (λ r. MatchOption r.0 ((lines ≡ []) × (lines_left r.1 ≡ [])) (λ p. TakesPiece p.is_last p.text.items lines (lines_left r.1))) (λ left. lines_left left ≡ lines)
+-- those of a report
+abbrev pub lines_left : Left → LinesView
+lines_left (Stored s) = record { format = AsText; left = stored_left s }
+lines_left (Counting c) = record { format = AsText; left = counting_left c }
+lines_left (StoredJson s) = record { format = AsJson; left = show_left s }
+lines_left (CountedJson c) = record { format = AsJson; left = audit_left c }

@@ -5,6 +5,7 @@ pub mod Running
 pub mod Tallying
 pub mod RecordText
 pub mod Publishing
+pub mod LinesView
 pub mod Answering
 pub mod Exact
 pub mod Payloads

@@ -16,8 +16,8 @@ use Rattle.mv_linker.specs.Link.{have_one_name, tables_in}
 use Rattle.mv_linker.specs.StoreRules.{Links}
 use Rattle.mv_ledger.specs.Publishing.{AllPass, FailsAmong, offered}
 use Rattle.mv_ledger.specs.SavedText.{Form, head_text, HeadFits, IsSavedText}
-use Rattle.mv_ledger.specs.declared.loading.LoadError.{LoadError}
-use Rattle.mv_ledger.specs.declared.loading.LoadError.TheVariants.{Head, Module, Link, Body, Tally, Memory}
+use Rattle.mv_ledger.specs.declared.saved.loading.LoadError.{LoadError}
+use Rattle.mv_ledger.specs.declared.saved.loading.LoadError.TheVariants.{Head, Module, Link, Body, Tally, Memory}
 
 -- the bytes begin with a form, so many runs, and these modules with their certificates
 pub record HasHead (bytes : List ℕ) (form : Form) (runs : ℕ) (offers : List Offer) : Type 0 where

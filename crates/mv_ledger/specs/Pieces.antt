@@ -1,15 +1,15 @@
 -- Pieces of lines, and what is left of a line of JSON.
 --   TakesPiece ends piece old new   a piece was taken off the front of the first of these lines
+--   TakesNext piece old new         the next piece of these lines was taken, if there is one
 --   piece_text ends piece           what is written for it
 --   rest_after before objects       the rest of a list of objects in JSON
 --   comma_at place                  what stands before the next object
 --   json_left key place objects     what is left of a line of JSON
---   TellsPiece left line told       a piece of the line was told; where memory ran out, none
-use Rattle.std.specs.Prelude.{◌≡◌, ℕ, ◌<◌, Bool, true, false, List, [], ◌∷◌, ◌++◌, codes, length, Option, MatchOption, Result, MatchResult}
-use Rattle.std.specs.Global.{Vec}
+use Rattle.std.specs.Prelude.{◌≡◌, ℕ, ◌<◌, Bool, true, false, List, [], ◌∷◌, ◌++◌, codes, length, Option, MatchOption}
 use Rattle.mv_machine.specs.Lines.{json_line, with_commas}
 use Rattle.mv_ledger.specs.declared.json_pieces.Place.{Place}
-use Rattle.mv_ledger.specs.declared.json_pieces.Place.TheVariants.{Opening, Entries}
+use Rattle.mv_ledger.specs.declared.json_pieces.Place.TheVariants.{Opening, Entries, Ended}
+use Rattle.mv_ledger.specs.declared.pieces.Piece.{Piece}
 
 -- A piece was taken off the front of the first of these lines. The line ends with it, or goes on; then the piece has bytes.
 abbrev pub TakesPiece : Bool → List ℕ → List (List ℕ) → List (List ℕ) → Type 0
@@ -22,12 +22,12 @@ abbrev pub piece_text : Bool → List ℕ → List ℕ
 piece_text true piece = piece ++ 10 ∷ []
 piece_text false piece = piece
 
--- what is left of a line of JSON with this key and these objects to come
-abbrev pub json_left : List ℕ → Place → List (List ℕ) → List ℕ
-json_left key Opening objects = json_line key objects
-json_left key Entries objects = with_commas objects ++ codes "]}"
+-- The next piece of these lines was taken; or there is none, and no line is left.
+abbrev pub TakesNext : Option Piece → List (List ℕ) → List (List ℕ) → Type 0
+TakesNext piece old new = MatchOption piece ((old ≡ []) × (new ≡ [])) (λ p. TakesPiece p.is_last p.text.items old new)
 
--- A piece of this line was told: all of it, or bytes in front of what is left. Where memory ran out all of it is left.
-abbrev pub TellsPiece : {S : Type 0} → (S → List ℕ) → List ℕ → Result (Vec ℕ × Option S) S → Type 0
-TellsPiece left line told =
-    MatchResult told (λ r. MatchOption r.1 (line ≡ r.0.items) (λ s. (0 < length r.0.items) × (line ≡ r.0.items ++ left s))) (λ s. left s ≡ line)
+-- what is left of a line of JSON with this key and these objects to come
+abbrev pub json_left : List ℕ → Place → List (List ℕ) → List (List ℕ)
+json_left key Opening objects = json_line key objects ∷ []
+json_left key Entries objects = (with_commas objects ++ codes "]}") ∷ []
+json_left key Ended objects = []

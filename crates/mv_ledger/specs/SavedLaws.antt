@@ -15,8 +15,8 @@ use Rattle.mv_ledger.specs.SavedText.{Form, Second, saved_text, HeadFits, IsSave
 use Rattle.mv_ledger.specs.Publishing.{AllPass, offered}
 use Rattle.mv_ledger.specs.Accepted.SoundLedger.{IsSoundLedger}
 use Rattle.mv_ledger.specs.Loading.{IsLoaded, FailsLoad, IsLoadRefusal}
-use Rattle.mv_ledger.specs.declared.loading.LoadError.{LoadError}
-use Rattle.mv_ledger.specs.declared.loading.LoadError.TheVariants.{Memory}
+use Rattle.mv_ledger.specs.declared.saved.loading.LoadError.{LoadError}
+use Rattle.mv_ledger.specs.declared.saved.loading.LoadError.TheVariants.{Memory}
 
 -- a ledger's parts are within the limits of a saved one, and its modules passed with the texts that they came in
 pub record IsSavable (s : LedgerState) : Type 0 where

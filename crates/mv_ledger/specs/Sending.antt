@@ -1,5 +1,6 @@
 -- What a report in JSON sends to a serializer.
 --   members_of, items_of         texts under their keys, and the items of a list, as data that is sent
+--   texts_of, texts_data         three texts by the keys of a stored value's, and the object that they make
 --   entry_texts, entry_data      a stored value: its texts by key, and the object that they make
 --   count_texts, count_data      the same of a struct's counts
 --   SendsReport key ds old new   what a report sends: an object with one key, under which a list stands (why: decision 33)
@@ -23,10 +24,16 @@ abbrev pub items_of : List Data → Items
 items_of [] = no_items
 items_of (d ∷ ds) = item d (items_of ds)
 
+-- texts of an address, of a struct and of a value, under their keys
+abbrev pub texts_of : List ℕ → List ℕ → List ℕ → List (List ℕ × List ℕ)
+texts_of address name value = (codes "address", address) ∷ (codes "struct", name) ∷ (codes "value", value) ∷ []
+
+abbrev pub texts_data : List ℕ → List ℕ → List ℕ → Data
+texts_data address name value = object (members_of (texts_of address name value))
+
 -- the texts of a stored value
 abbrev pub entry_texts : List Module → Entry → List (List ℕ × List ℕ)
-entry_texts modules e =
-    (codes "address", address_text e.key.address) ∷ (codes "struct", key_text modules e.key) ∷ (codes "value", value_text e.value) ∷ []
+entry_texts modules e = texts_of (address_text e.key.address) (key_text modules e.key) (value_text e.value)
 
 abbrev pub entry_data : List Module → Entry → Data
 entry_data modules e = object (members_of (entry_texts modules e))

@@ -5,16 +5,16 @@ ghost use Rattle.serde_json.specs.Data.{string};
 ghost use Rattle.serde_json.specs.Events.{SendsValue, SendsItems};
 ghost use Rattle.mv_linker.specs.Link.{tables_in};
 ghost use Rattle.mv_machine.specs.Flat.{storage_of, value_under};
-ghost use Rattle.mv_machine.specs.Lines.{address_text, key_text, struct_text, value_text, show_json};
+ghost use Rattle.mv_machine.specs.Lines.{struct_text, show_json};
 ghost use Rattle.mv_ledger.specs.Auditing.{counted_in, counts_json};
 ghost use Rattle.mv_ledger.specs.Plain.{IsPlain};
 ghost use Rattle.mv_ledger.specs.Sending.{entry_data, count_data, items_of};
 ghost use Rattle.mv_ledger.specs.View.{all_of, tallied};
 
 use crate::audit::{Counted, Counts};
+use crate::json_entries::{as_str, parted, put_texts};
 use crate::tallies::Tallies;
-use crate::texts::{definition_of, put_address, put_key, put_name, put_number, struct_at};
-use crate::values::put_value;
+use crate::texts::{put_name, put_number};
 use mv_linker::{Store, StructName};
 use mv_move_types::Key;
 use mv_storage::Storage;
@@ -23,68 +23,6 @@ use std::alloc::{AllocError, Global};
 
 /// What is said where an allocation for a text failed.
 pub const NO_MEMORY: &str = "out of memory";
-
-/// A plain text as characters.
-fn as_str(text: &[u8]) -> &str
-    requires { IsPlain text.now }
-    ensures { result.now ≡ text.now }
-{
-    match str::from_utf8(text) {
-        Ok(text) => text,
-        Err(_) => unreachable!(),
-    }
-}
-
-/// Sends an address, whose text is made in this room.
-fn send_address<S: Serializer>(
-    room: &mut Vec<u8>,
-    address: u128,
-    out: &mut S,
-) -> Result<(), S::Error>
-    ensures { OnOk result (SendsValue (string (address_text address)) (S.written out.old) (S.written out.new)) }
-{
-    room.clear();
-    match put_address(room, address) {
-        Ok(()) => out.str(as_str(room)),
-        Err(_) => Err(out.custom(NO_MEMORY)),
-    }
-}
-
-/// Sends the name of a key's struct.
-fn send_key<S: Serializer>(
-    room: &mut Vec<u8>,
-    store: &Store,
-    key: Key,
-    out: &mut S,
-) -> Result<(), S::Error>
-    ensures { OnOk result (SendsValue (string (key_text (tables_in store.now) key)) (S.written out.old) (S.written out.new)) }
-{
-    // For the prover: what it holds is a store.
-    let _len = store.len();
-    let name = struct_at(store, key);
-    room.clear();
-    match put_key(room, name.as_ref()) {
-        Ok(()) => out.str(as_str(room)),
-        Err(_) => Err(out.custom(NO_MEMORY)),
-    }
-}
-
-/// Sends a stored value.
-fn send_value<S: Serializer>(
-    room: &mut Vec<u8>,
-    store: &Store,
-    key: Key,
-    words: &[u128],
-    out: &mut S,
-) -> Result<(), S::Error>
-    ensures { OnOk result (SendsValue (string (value_text (value_under (tables_in store.now) key words.now))) (S.written out.old) (S.written out.new)) }
-{
-    room.clear();
-    match put_value(room, store, definition_of(key), words) {
-        Ok(()) => out.str(as_str(room)),
-        Err(_) => Err(out.custom(NO_MEMORY)),
-    }
-}
 
 /// Sends a number, in decimal.
 fn send_number<S: Serializer>(room: &mut Vec<u8>, n: u128, out: &mut S) -> Result<(), S::Error>
@@ -123,14 +61,12 @@ pub fn send_entry<S: Serializer>(
 ) -> Result<(), S::Error>
     ensures { OnOk result (SendsValue (entry_data (tables_in store.now) (record { key = key; value = value_under (tables_in store.now) key words.now })) (S.written out.old) (S.written out.new)) }
 {
-    out.begin_map(Some(3))?;
-    out.key("address")?;
-    send_address(room, key.address, out)?;
-    out.key("struct")?;
-    send_key(room, store, key, out)?;
-    out.key("value")?;
-    send_value(room, store, key, words, out)?;
-    out.end_map()
+    // For the prover: what it holds is a store.
+    let _len = store.len();
+    match put_texts(room, store, key, words) {
+        Ok((name, value)) => parted(room, name, value).serialize(out),
+        Err(_) => Err(out.custom(NO_MEMORY)),
+    }
 }
 
 /// Sends a struct's counts.

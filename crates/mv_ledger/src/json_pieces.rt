@@ -1,17 +1,19 @@
 // A show and an audit in JSON, piece by piece: how the line begins, each entry with the comma behind it, and the end. serde_json
 // writes each entry; no other one stands in memory then.
-ghost use Rattle.std.specs.Prelude.{◌≡◌, ◌≢◌, ◌++◌, ◌-◌, codes, cond, length, map, take, IfOk};
+ghost use Rattle.std.specs.Prelude.{◌≡◌, ◌∷◌, [], ◌++◌, ◌-◌, codes, cond, length, map, take, IfOk, OnErr};
 ghost use Rattle.mv_linker.specs.Link.{tables_in};
 ghost use Rattle.mv_machine.specs.Flat.{storage_of, value_under};
 ghost use Rattle.mv_machine.specs.Lines.{count_object, entry_object, show_json, struct_text};
 ghost use Rattle.mv_ledger.specs.Auditing.{counted_in, counts_json, stored_of};
-ghost use Rattle.mv_ledger.specs.Pieces.{TellsPiece};
+ghost use Rattle.mv_ledger.specs.Pieces.{TakesNext, TakesPiece};
 ghost use Rattle.mv_ledger.specs.Plain.{ArePlain, IsPlain};
 ghost use Rattle.mv_ledger.specs.View.{all_of, tallied};
 
 use crate::ahead::Ahead;
 use crate::audit::{Counted, Counts};
-use crate::json_lines::{NO_MEMORY, send_counts, send_entry};
+use crate::json_entries::{parted, put_texts};
+use crate::json_lines::{NO_MEMORY, send_counts};
+use crate::pieces::Piece;
 use crate::tallies::Tallies;
 use mv_linker::Store;
 use mv_move_types::Key;
@@ -28,35 +30,8 @@ const AUDIT: &[u8] = b"json {\"audit\":[";
 // How both end.
 const END: &[u8] = b"]}";
 
-// The bytes for which the text of a member begins with room: those of an address and two names.
-const MEMBER_ROOM: usize = 128;
-
-/// A stored value with its key, which is sent as an object.
-#[derive(Clone, Copy)]
-struct EntryShow<'a> {
-    alloc: Global,
-    store: &'a Store,
-    key: Key,
-    words: &'a [u128],
-}
-
-impl<'a> Described for EntryShow<'a> {
-    ghost use Rattle.serde_json.specs.Events.{SendsValue};
-    ghost use Rattle.mv_linker.specs.Link.{tables_in};
-    ghost use Rattle.mv_machine.specs.Flat.{value_under};
-    ghost use Rattle.mv_ledger.specs.Sending.{entry_data};
-
-    ghost writes = { λ e. SendsValue (entry_data (tables_in e.store.now) (record { key = e.key; value = value_under (tables_in e.store.now) e.key e.words.now })) };
-}
-
-impl<'a> Serialize for EntryShow<'a> {
-    fn serialize<S: Serializer>(&self, out: &mut S) -> Result<(), S::Error> {
-        match Vec::with_capacity(self.alloc, MEMBER_ROOM) {
-            Ok(mut room) => send_entry(&mut room, self.store, self.key, self.words, out),
-            Err(_) => Err(out.custom(NO_MEMORY)),
-        }
-    }
-}
+// The bytes for which the text of a name begins with room: those of an address and two names.
+const NAME_ROOM: usize = 128;
 
 /// A struct's counts, which are sent as an object.
 #[derive(Clone, Copy)]
@@ -76,7 +51,7 @@ impl<'a> Described for CountAudit<'a> {
 
 impl<'a> Serialize for CountAudit<'a> {
     fn serialize<S: Serializer>(&self, out: &mut S) -> Result<(), S::Error> {
-        match Vec::with_capacity(self.alloc, MEMBER_ROOM) {
+        match Vec::with_capacity(self.alloc, NAME_ROOM) {
             Ok(mut room) => send_counts(&mut room, self.counted, out),
             Err(_) => Err(out.custom(NO_MEMORY)),
         }
@@ -90,20 +65,24 @@ pub enum Place {
     Opening,
     /// Behind its opening: what is left are entries, and the end.
     Entries,
+    /// Behind its end.
+    Ended,
 }
 
-/// A stored value with its key as JSON.
-fn entry_json(alloc: Global, store: &Store, key: Key, words: &[u128]) -> Result<Vec<u8>, AllocError>
+/// A stored value with its key as JSON. Its texts are made in this room.
+fn entry_json(
+    alloc: Global,
+    room: &mut Vec<u8>,
+    store: &Store,
+    key: Key,
+    words: &[u128],
+) -> Result<Vec<u8>, AllocError>
     ensures { IfOk result (λ text. text.items ≡ entry_object (tables_in store.now) (record { key = key; value = value_under (tables_in store.now) key words.now })) }
 {
     // For the prover: what it holds is a store.
     let _len = store.len();
-    let entry = EntryShow {
-        alloc,
-        store,
-        key,
-        words,
-    };
+    let (name, value) = put_texts(room, store, key, words)?;
+    let entry = parted(room, name, value);
     match serde_json::to_vec(alloc, &entry) {
         Ok(json) => Ok(json),
         Err(_) => Err(AllocError),
@@ -140,16 +119,17 @@ fn between(mut entry: Vec<u8>, is_last: bool) -> Vec<u8>
     entry
 }
 
-/// A stored value with its key as JSON, and a comma.
+/// A stored value with its key as JSON, and a comma. Its texts are made in this room.
 fn entry_before(
     alloc: Global,
+    room: &mut Vec<u8>,
     store: &Store,
     key: Key,
     words: &[u128],
 ) -> Result<Vec<u8>, AllocError>
     ensures { IfOk result (λ text. text.items ≡ entry_object (tables_in store.now) (record { key = key; value = value_under (tables_in store.now) key words.now }) ++ codes ",") }
 {
-    let entry = entry_json(alloc, store, key, words)?;
+    let entry = entry_json(alloc, room, store, key, words)?;
     with_comma(entry)
 }
 
@@ -162,93 +142,68 @@ fn counts_before(alloc: Global, counted: &Counted<'_>) -> Result<Vec<u8>, AllocE
     with_comma(counts)
 }
 
-/// What is left of the line of a show.
+/// What is left of the line of a show, and room for the texts of an entry.
 #[derive(Drop)]
 pub struct StoredJson<'a> {
     store: &'a Store,
     entries: Ahead<'a>,
     place: Place,
+    room: Vec<u8>,
 }
 
 impl<'a> StoredJson<'a> {
     ghost use Rattle.mv_ledger.specs.JsonLeft.{show_left};
 
     /// The whole line.
-    pub fn new(store: &'a Store, storage: &'a Storage) -> Self
-        ensures { show_left result ≡ show_json (tables_in store.entry.now) (storage_of (tables_in store.entry.now) storage.entry.now.committed) }
+    pub fn new(alloc: Global, store: &'a Store, storage: &'a Storage) -> Self
+        ensures { show_left result ≡ show_json (tables_in store.entry.now) (storage_of (tables_in store.entry.now) storage.entry.now.committed) ∷ [] }
     {
         StoredJson {
             store,
             entries: Ahead::new(storage.iter()),
             place: Place::Opening,
+            room: Vec::new(alloc),
         }
     }
 
-    /// The next piece, and the line behind it, if it goes on; all of what was left, where an allocation failed.
-    pub fn next(self, alloc: Global) -> Result<(Vec<u8>, Option<StoredJson<'a>>), StoredJson<'a>>
-        ensures { TellsPiece show_left (show_left self.entry) result }
+    /// The next piece, if there is one.
+    pub fn next(&mut self, alloc: Global) -> Result<Option<Piece>, AllocError>
+        ensures piece { IfOk result (λ piece. TakesNext piece (show_left self.old) (show_left self.new)) }
+        ensures kept { OnErr result (show_left self.new ≡ show_left self.old) }
     {
         match self.place {
-            Place::Opening => self.open(alloc),
-            Place::Entries => self.next_entry(alloc),
+            Place::Opening => Ok(Some(self.open(alloc)?)),
+            Place::Entries => Ok(Some(self.next_entry(alloc)?)),
+            Place::Ended => Ok(None),
         }
     }
 
-    // How the line begins, as `next`.
-    fn open(self, alloc: Global) -> Result<(Vec<u8>, Option<StoredJson<'a>>), StoredJson<'a>>
-        requires { self.place ≡ Place.Opening }
-        ensures { TellsPiece show_left (show_left self.entry) result }
+    // How the line begins.
+    fn open(&mut self, alloc: Global) -> Result<Piece, AllocError>
+        requires { self.old.place ≡ Place.Opening }
+        ensures piece { IfOk result (λ p. TakesPiece p.is_last p.text.items (show_left self.old) (show_left self.new)) }
+        ensures kept { OnErr result (show_left self.new ≡ show_left self.old) }
     {
-        match Vec::from_slice(alloc, SHOW) {
-            Ok(text) => {
-                let StoredJson { store, entries, .. } = self;
-                let place = Place::Entries;
-                Ok((
-                    text,
-                    Some(StoredJson {
-                        store,
-                        entries,
-                        place,
-                    }),
-                ))
-            }
-            Err(_) => Err(self),
-        }
+        let text = Vec::from_slice(alloc, SHOW)?;
+        self.place = Place::Entries;
+        Ok(Piece::front(text))
     }
 
-    // The next entry, or the end of the line, as `next`.
-    fn next_entry(self, alloc: Global) -> Result<(Vec<u8>, Option<StoredJson<'a>>), StoredJson<'a>>
-        requires { self.place ≢ Place.Opening }
-        ensures { TellsPiece show_left (show_left self.entry) result }
+    // The next entry, or the end of the line.
+    fn next_entry(&mut self, alloc: Global) -> Result<Piece, AllocError>
+        requires { self.old.place ≡ Place.Entries }
+        ensures piece { IfOk result (λ p. TakesPiece p.is_last p.text.items (show_left self.old) (show_left self.new)) }
+        ensures kept { OnErr result (show_left self.new ≡ show_left self.old) }
     {
         let Some((key, words)) = self.entries.first() else {
-            return match Vec::from_slice(alloc, END) {
-                Ok(text) => Ok((text, None)),
-                Err(_) => Err(self),
-            };
+            let text = Vec::from_slice(alloc, END)?;
+            self.place = Place::Ended;
+            return Ok(Piece::last(text));
         };
-        match entry_before(alloc, self.store, key, words) {
-            Ok(entry) => {
-                let StoredJson {
-                    store,
-                    mut entries,
-                    ..
-                } = self;
-                entries.skip();
-                let is_last = entries.first().is_none();
-                let text = between(entry, is_last);
-                let place = Place::Entries;
-                Ok((
-                    text,
-                    Some(StoredJson {
-                        store,
-                        entries,
-                        place,
-                    }),
-                ))
-            }
-            Err(_) => Err(self),
-        }
+        let entry = entry_before(alloc, &mut self.room, self.store, key, words)?;
+        self.entries.skip();
+        let is_last = self.entries.first().is_none();
+        Ok(Piece::front(between(entry, is_last)))
     }
 }
 
@@ -266,7 +221,7 @@ impl<'a> CountedJson<'a> {
     /// The whole line, for tallies that stand module by module as the store's modules do.
     pub fn new(store: &'a Store, tallies: &'a Tallies) -> Self
         requires { length tallies.now ≡ length store.now }
-        ensures { audit_left result ≡ counts_json (map (tallied (tables_in store.entry.now)) (all_of tallies.entry.now)) }
+        ensures { audit_left result ≡ counts_json (map (tallied (tables_in store.entry.now)) (all_of tallies.entry.now)) ∷ [] }
     {
         // For the prover: what it holds is a store.
         let _len = store.len();
@@ -276,54 +231,44 @@ impl<'a> CountedJson<'a> {
         }
     }
 
-    /// The next piece, and the line behind it, if it goes on; all of what was left, where an allocation failed.
-    pub fn next(self, alloc: Global) -> Result<(Vec<u8>, Option<CountedJson<'a>>), CountedJson<'a>>
-        ensures { TellsPiece audit_left (audit_left self.entry) result }
+    /// The next piece, if there is one.
+    pub fn next(&mut self, alloc: Global) -> Result<Option<Piece>, AllocError>
+        ensures piece { IfOk result (λ piece. TakesNext piece (audit_left self.old) (audit_left self.new)) }
+        ensures kept { OnErr result (audit_left self.new ≡ audit_left self.old) }
     {
         match self.place {
-            Place::Opening => self.open(alloc),
-            Place::Entries => self.next_entry(alloc),
+            Place::Opening => Ok(Some(self.open(alloc)?)),
+            Place::Entries => Ok(Some(self.next_entry(alloc)?)),
+            Place::Ended => Ok(None),
         }
     }
 
-    // How the line begins, as `next`.
-    fn open(self, alloc: Global) -> Result<(Vec<u8>, Option<CountedJson<'a>>), CountedJson<'a>>
-        requires { self.place ≡ Place.Opening }
-        ensures { TellsPiece audit_left (audit_left self.entry) result }
+    // How the line begins.
+    fn open(&mut self, alloc: Global) -> Result<Piece, AllocError>
+        requires { self.old.place ≡ Place.Opening }
+        ensures piece { IfOk result (λ p. TakesPiece p.is_last p.text.items (audit_left self.old) (audit_left self.new)) }
+        ensures kept { OnErr result (audit_left self.new ≡ audit_left self.old) }
     {
-        match Vec::from_slice(alloc, AUDIT) {
-            Ok(text) => {
-                let CountedJson { counts, .. } = self;
-                let place = Place::Entries;
-                Ok((text, Some(CountedJson { counts, place })))
-            }
-            Err(_) => Err(self),
-        }
+        let text = Vec::from_slice(alloc, AUDIT)?;
+        self.place = Place::Entries;
+        Ok(Piece::front(text))
     }
 
-    // The next entry, or the end of the line, as `next`.
-    fn next_entry(
-        self,
-        alloc: Global,
-    ) -> Result<(Vec<u8>, Option<CountedJson<'a>>), CountedJson<'a>>
-        requires { self.place ≢ Place.Opening }
-        ensures { TellsPiece audit_left (audit_left self.entry) result }
+    // The next entry, or the end of the line.
+    fn next_entry(&mut self, alloc: Global) -> Result<Piece, AllocError>
+        requires { self.old.place ≡ Place.Entries }
+        ensures piece { IfOk result (λ p. TakesPiece p.is_last p.text.items (audit_left self.old) (audit_left self.new)) }
+        ensures kept { OnErr result (audit_left self.new ≡ audit_left self.old) }
     {
         let mut counts = self.counts.copied();
         let Some(counted) = counts.next() else {
-            return match Vec::from_slice(alloc, END) {
-                Ok(text) => Ok((text, None)),
-                Err(_) => Err(self),
-            };
+            let text = Vec::from_slice(alloc, END)?;
+            self.place = Place::Ended;
+            return Ok(Piece::last(text));
         };
-        match counts_before(alloc, &counted) {
-            Ok(entry) => {
-                let is_last = counts.copied().next().is_none();
-                let text = between(entry, is_last);
-                let place = Place::Entries;
-                Ok((text, Some(CountedJson { counts, place })))
-            }
-            Err(_) => Err(self),
-        }
+        let entry = counts_before(alloc, &counted)?;
+        let is_last = counts.copied().next().is_none();
+        self.counts = counts;
+        Ok(Piece::front(between(entry, is_last)))
     }
 }

@@ -19,15 +19,15 @@ mod ahead;
 mod audit;
 mod executing;
 mod format;
+mod json_entries;
 mod json_lines;
 mod json_pieces;
 mod laws;
-mod layouts;
 mod lines;
-mod loading;
 mod payload;
+mod pieces;
 mod publishing;
-mod saving;
+mod saved;
 mod tallies;
 mod texts;
 mod values;
@@ -35,6 +35,7 @@ mod values;
 ghost use Rattle.std.specs.Prelude.{◌≡◌, is_some, IfOk};
 ghost use Rattle.mv_ledger.specs.View.{empty_view, state_of};
 ghost use Rattle.mv_ledger.specs.Answering.{told, told_lines, Replies, RepliesText};
+ghost use Rattle.mv_ledger.specs.RecordText.{format_text};
 ghost use Rattle.mv_ledger.specs.Accepted.SoundLedger.{IsSoundLedger};
 ghost use Rattle.mv_ledger.specs.SavedLaws.{IsSavable};
 ghost use Rattle.mv_ledger.specs.SavedText.{IsSavedText, Second};
@@ -48,13 +49,15 @@ pub use laws::{
     each_text_has_one_ledger, every_count_is_tallied, every_run_conserves, every_run_is_own_work,
     no_load_fails, no_save_is_refused, no_text_is_escaped,
 };
-pub use lines::{Lines, Piece};
-pub use loading::{LoadError, migrate};
+pub use lines::Lines;
 use mv_linker::Store;
 use mv_machine::Outcome;
 use mv_move_types::Refusal;
 use mv_storage::Storage;
 use payload::read_run;
+pub use pieces::Piece;
+pub use saved::loading::{LoadError, migrate};
+use saved::saving::text_of;
 use std::alloc::{AllocError, Global};
 use std::marker::Model;
 use tallies::Tallies;
@@ -204,7 +207,9 @@ impl Ledger {
 
     /// As `show`, but piece by piece: each is made when it is asked for.
     pub fn show_lines(&self, payload: &[u8]) -> Result<Lines<'_>, Refusal>
-        ensures { Replies 3 payload.now (told_lines result) self.now self.now }
+        ensures replies { Replies 3 payload.now (told_lines result) self.now self.now }
+        // They are told in the format that the payload asks for.
+        ensures format { IfOk result (λ lines. payload.now ≡ format_text lines.format) }
     {
         let alloc = self.alloc;
         let Some(format) = read_format(payload) else {
@@ -219,7 +224,9 @@ impl Ledger {
     /// As `audit`, but piece by piece: each is made when it is asked for. What is stored of a struct is known from its tally,
     /// without a walk.
     pub fn audit_lines(&self, payload: &[u8]) -> Result<Lines<'_>, Refusal>
-        ensures { Replies 4 payload.now (told_lines result) self.now self.now }
+        ensures replies { Replies 4 payload.now (told_lines result) self.now self.now }
+        // They are told in the format that the payload asks for.
+        ensures format { IfOk result (λ lines. payload.now ≡ format_text lines.format) }
     {
         let alloc = self.alloc;
         let Some(format) = read_format(payload) else {
@@ -241,7 +248,7 @@ impl Ledger {
         // For the prover: what it stands for is sound, and within the limits of a saved ledger.
         self.is_sound();
         self.is_savable();
-        saving::text_of(
+        text_of(
             self.alloc,
             &self.store,
             &self.storage,

@@ -10,8 +10,8 @@ ghost use Rattle.mv_ledger.specs.Parts.BodyParts.{form_of, counts_of, struct_of,
 ghost use Rattle.mv_ledger.specs.Tallying.{fresh_tally, tally_after, with_placed, AreWithin, AreInOrder, HasRoomFor, HasRoomLeft, IsRoomFor};
 ghost use Rattle.mv_ledger.specs.View.{all_of, ArePlaced, scarce_indices};
 
-use crate::loading::head::SavedForm;
-use crate::loading::tallies::read_tallies;
+use crate::saved::loading::head::SavedForm;
+use crate::saved::loading::tallies::read_tallies;
 use mv_binary_format::Module;
 use mv_frames::StructTally;
 use mv_linker::{Linked, Store, add, is_scarce};

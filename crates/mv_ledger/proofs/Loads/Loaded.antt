@@ -1,6 +1,6 @@
 -- From its parts, which ledger bytes are loaded as, and why they are not.
 use Rattle.mv_ledger.proofs.Common.{[], ◌*◌, ◌++◌, ◌+◌, ◌<◌, ◌^◌, ◌∙◌, ◌∷◌, ◌≡◌, ◌≤◌, ◌⊎◌, IsTrue, List, Some, ap, ap₂, arith, flat_map, inl, inr, length, map, refl, subst, sym, ℕ, length-map}
-use Rattle.mv_ledger.proofs.Common.{All-cons, All-nil, same_Some, first_so, second_so, list_all, All, Module, PublishedModule, Refusal, NoMemory, Phase, AreBytes, Count, FlatStorage, count, flat}
+use Rattle.mv_ledger.proofs.Common.{All-cons, All-nil, same_Some, first_so, second_so, list_all, All, Module, PublishedModule, Refusal, NoMemory, Phase, AreBytes, FlatStorage, count, flat}
 use Rattle.mv_ledger.proofs.Common.{flat_storage, storage_of, LedgerState, Offer, scarce_structs, Tallied, Storage, is_fine_entry, is_fine_storage, IsStore, tables_in, fine_storage, IsFineWords}
 use Rattle.mv_ledger.proofs.Common.{StoreAccepted, StorageTyped, IsSoundLedger, IsAscending, FailsLoad, HasHead, IsLoadRefusal, IsLoaded, no_body, no_links, no_module, no_tallies, counts_of}
 use Rattle.mv_ledger.proofs.Common.{struct_of, AreCounted, AreJoined, AreNotJoined, EachBodyIsRead, EachReadIsBody, IsBody, IsNoBody, SavedHead, body_from, counted_by, head_from, reason_of}
@@ -8,8 +8,8 @@ use Rattle.mv_ledger.proofs.Common.{AllPass, offered, offer_fits, HeadFits, IsSa
 use Rattle.mv_ledger.proofs.Common.{BadModule, Tally}
 use Rattle.mv_interpreter.proofs.Flat.Decoding.{storage_decoded}
 use Rattle.mv_interpreter.proofs.Flat.Sizes.{sizes}
-use Rattle.mv_ledger.specs.declared.loading.LoadError.{LoadError}
-use Rattle.mv_ledger.specs.declared.loading.LoadError.TheVariants.{Memory}
+use Rattle.mv_ledger.specs.declared.saved.loading.LoadError.{LoadError}
+use Rattle.mv_ledger.specs.declared.saved.loading.LoadError.TheVariants.{Memory}
 use Rattle.mv_ledger.proofs.Accepted.Stores.{accepted_store}
 use Rattle.mv_ledger.proofs.Loads.LoadedHead.{head-parts, head-whole, head-had}
 use Rattle.mv_ledger.proofs.Loads.LoadedTallies.{counts-are, still-long, still-many, still-scarce, still-named, still-tallied}

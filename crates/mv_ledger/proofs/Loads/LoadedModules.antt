@@ -1,5 +1,5 @@
 -- Modules of a saved ledger that are published: what is kept of them, and that they are linked where they are those of the offers.
-use Rattle.mv_ledger.proofs.Common.{[], ◌++◌, ◌∙◌, ◌∷◌, ◌≡◌, Bool, IsTrue, List, None, Option, Some, ap, append-nil, append_assoc, ap₂, arith, cond, false, length, map, refl, subst, sym, ℕ, and_parts}
+use Rattle.mv_ledger.proofs.Common.{[], ◌++◌, ◌∙◌, ◌∷◌, ◌≡◌, Bool, IsTrue, List, None, Option, Some, ap, append-nil, append_assoc, ap₂, arith, cond, false, length, map, refl, subst, sym, and_parts}
 use Rattle.mv_ledger.proofs.Common.{list_any, find, not, unwrap_or, Module, StructName, same_struct, PublishedModule, with_module, with_modules, IsRefusedIn, Refusal, Memory, Phase, all_differ}
 use Rattle.mv_ledger.proofs.Common.{Offer, scarce_structs, tally_of, untouched_tally, Tallied, same_struct-is, IsStore, tables_in, Links, AreLinked, AreJoined, AreNotJoined}
 use Rattle.mv_ledger.proofs.Common.{IsGathered, MayFollow, reason_of, AllPass, IsRefusedAmong, ArePlacedFor, AreWithin, with_placed, ArePlaced, all_of, tallied, NoLink, NoModule}

@@ -1,6 +1,6 @@
 -- Offered modules that are published one by one: that they pass, and that the published ones are those.
 use Rattle.mv_ledger.proofs.Common.{[], ◌++◌, ◌+◌, ◌<◌, ◌∙◌, ◌∷◌, ◌≡◌, ◌≤◌, ◌⊎◌, Bool, List, Option, Some, None, true, ap, ap₂, arith, get_or, inl, inr, length, refl, subst, sym, take, ℕ, map_more, take_all, take_more}
-use Rattle.mv_ledger.proofs.Common.{IfSome, slice_get, All-at, bytes_eq, PublishedModule, Offer, Certificate, AreBytes, IsReadByText, IsPublishable, IsStore, offer_of, offers_of, offered, AllPass}
+use Rattle.mv_ledger.proofs.Common.{IfSome, slice_get, All-at, bytes_eq, PublishedModule, Offer, AreBytes, IsReadByText, IsPublishable, IsStore, offer_of, offers_of, offered, AllPass}
 use Rattle.mv_ledger.proofs.Common.{IsOffered, IsPassed, Passes, IsRefusedAmong, IsRefusedOffer, Refusal, Offered}
 use Rattle.std.proofs.lemmas.Option.{slice_get_cases}
 use Rattle.std.proofs.lemmas.Slice.Eq.{bytes_eq-Decides}

@@ -1,7 +1,7 @@
 -- What a run leaves is what the machine's run asks for.
 use Rattle.mv_ledger.proofs.Common.{◌+◌, ◌∙◌, ◌≡◌, List, Option, Some, ap, ap₂, arith, map, sym, ℕ, All-weaker, All, Module, PublishedModule, StructTally, Layers, FlatEntry}
-use Rattle.mv_ledger.proofs.Common.{storage_of, LedgerState, settled, Told, Tallied, Aborted, Exhausted, Faulted, Returned, RunOutcome, run, Storage, HasAborted, HasExhausted, HasReturned}
-use Rattle.mv_ledger.proofs.Common.{tables_in, Agrees, call_of, Arg, told, told_ending, IsSettled, run_of, tally_after, IsNamed, IsSmall, all_of, state_of, tallied, view_of, Call, Tally}
+use Rattle.mv_ledger.proofs.Common.{storage_of, LedgerState, settled, Told, Tallied, Aborted, Exhausted, Faulted, Returned, RunOutcome, Storage, HasAborted, HasExhausted, HasReturned}
+use Rattle.mv_ledger.proofs.Common.{tables_in, Agrees, told, told_ending, IsSettled, run_of, tally_after, IsNamed, IsSmall, all_of, state_of, tallied, view_of, Call, Tally}
 use Rattle.std.proofs.Common.{refl, subst}
 use Rattle.mv_interpreter.specs.Runs.{IsFineWords}
 use Rattle.mv_machine.specs.declared.Outcome.{Outcome}

@@ -1,6 +1,6 @@
 -- What is saved of a sound ledger is loaded, what is loaded is sound, and what is loaded is saved as it was.
 use Rattle.mv_ledger.proofs.Common.{[], ◌*◌, ◌+◌, ◌<◌, ◌^◌, ◌∷◌, ◌≡◌, ◌≤◌, IsTrue, List, arith, le-leb, length, map, refl, true, ℕ, and_from, and_parts, length-map, All-cons, All-head, All-nil}
-use Rattle.mv_ledger.proofs.Common.{All-tail, AllByRecursion, list_all, All, nat_le, Module, PublishedModule, IsReadByText, Count, count, FlatEntry, storage_of, LedgerState, modules_of, Tallied}
+use Rattle.mv_ledger.proofs.Common.{All-tail, AllByRecursion, list_all, All, nat_le, Module, PublishedModule, IsReadByText, count, FlatEntry, storage_of, LedgerState, modules_of, Tallied}
 use Rattle.mv_ledger.proofs.Common.{IsPublishable, IsStore, tables_in, fine_storage, IsSoundLedger, AreTallied, AllPass, offered, offer_fits, EachLoadIsSaved, EachLoadIsSound, EachSaveIsLoaded}
 use Rattle.mv_ledger.proofs.Common.{IsSavable, First, Form, IsSavedText, Second, greatest_count, saved_text, tally_fits, IsLedger, IsSmall, all_of, state_of, tallied, view_of, Tally}
 use Rattle.mv_ledger.proofs.Accepted.Stores.{accepted_store}

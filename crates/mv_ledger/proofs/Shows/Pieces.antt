@@ -1,15 +1,14 @@
--- A line of JSON, piece by piece, and the text that the pieces of lines make.
+-- A line of JSON, piece by piece.
 use Rattle.std.proofs.Math.Seq.{take-append_seam}
 use Rattle.std.specs.Prelude.{MatchOption}
 use Rattle.mv_ledger.proofs.Common.{[], ◌++◌, ◌+◌, ◌-◌, ◌<◌, ◌∙◌, ◌∷◌, ◌≡◌, ◌≢◌, AllByRecursion, Bool, Entry, IsStore, List, Module, None, Option, PublishedModule, Some, Tallied, ap, append_assoc, arith, codes, cond, count_object, decimal}
-use Rattle.mv_ledger.proofs.Common.{entry_object, false, false≢true, first_so, is_plain, is_some, json_line, key_text, length, length-append, list_all, member, not, object, refl, second_so, stored_of, subst, suc, sym, tables_in, take, true, true≢false, value_text, with_commas, ℕ}
-use Rattle.mv_ledger.specs.Answering.{ended}
-use Rattle.mv_ledger.specs.Pieces.{TakesPiece, json_left, piece_text}
+use Rattle.mv_ledger.proofs.Common.{entry_object, false, false≢true, first_so, is_plain, is_some, key_text, length, length-append, list_all, member, not, object, refl, second_so, stored_of, subst, suc, sym, tables_in, take, true, true≢false, value_text, with_commas, ℕ}
+use Rattle.mv_ledger.specs.Pieces.{TakesPiece, json_left}
 use Rattle.mv_machine.specs.Lines.{address_text, struct_text}
 use Rattle.mv_ledger.specs.Plain.{ArePlain}
 use Rattle.mv_ledger.specs.Sending.{count_texts, entry_texts}
 use Rattle.mv_ledger.specs.declared.json_pieces.Place.{Place}
-use Rattle.mv_ledger.specs.declared.json_pieces.Place.TheVariants.{Opening, Entries}
+use Rattle.mv_ledger.specs.declared.json_pieces.Place.TheVariants.{Entries}
 use Rattle.mv_ledger.proofs.Shows.Names.{IsPlainStruct, plain-address, plain-decimal, plain-key, plain-value}
 use Rattle.mv_ledger.proofs.Shows.Objects.{IsPlainMember}
 
@@ -33,15 +32,6 @@ pub rest-plain : (ts : List Tallied) (t : Tallied) (rest : List Tallied) → Are
 rest-plain ts t rest plain is = second_so (list_all is_plain (struct_text t.struct)) (list_all (λ (u : Tallied). list_all is_plain (struct_text u.struct)) rest) (subst ArePlain is plain)
 
 -- ---- a line of JSON
-
--- it begins
-pub opens : (key : List ℕ) (os : List (List ℕ)) → json_left key Opening os ≡ (codes "json {\"" ++ key ++ codes "\":[") ++ json_left key Entries os
-opens key os = append_assoc (codes "json {\"" ++ key ++ codes "\":[") (with_commas os) (codes "]}")
-
--- behind its opening
-open-left : (key : List ℕ) (place : Place) (os : List (List ℕ)) → place ≢ Opening → json_left key place os ≡ with_commas os ++ codes "]}"
-open-left key Opening os opened = absurd (opened refl)
-open-left key Entries os opened = refl
 
 -- an object without its comma
 uncommaed : (o : List ℕ) → take (length (o ++ codes ",") - 1) (o ++ codes ",") ≡ o
@@ -89,15 +79,18 @@ last-so nothing first (Some x) os false is at none some =
     let parts = some x at in
     (λ e. absurd (false≢true e), λ e. some-more parts.0 parts.1 os parts.2)
 
--- an object is told
-pub told : (key : List ℕ) (place : Place) (all : List (List ℕ)) (o : List ℕ) (os : List (List ℕ)) (last : Bool) (text : List ℕ) → place ≢ Opening → all ≡ o ∷ os → 0 < length o
-    → IsLast last os → Between o last text → (0 < length text) × (json_left key place all ≡ text ++ json_left key Entries os)
-told key place all o os last text opened is_all some lasts is =
-    (has-bytes o last text some is, open-left key place all opened ∙ ap (λ (xs : List (List ℕ)). with_commas xs ++ codes "]}") is_all ∙ goes_on o os last text lasts is)
+-- a piece of a line that goes on was taken
+pub takes-front : (last : Bool) (piece text rest : List ℕ) (old new : List (List ℕ)) → last ≡ false → piece ≡ text → 0 < length text → old ≡ (text ++ rest) ∷ [] → new ≡ rest ∷ []
+    → TakesPiece last piece old new
+takes-front last piece text rest old new goes is some was left =
+    subst (λ (b : Bool). TakesPiece b piece old new) (sym goes) (subst (λ (p : List ℕ). TakesPiece false p old new) (sym is) (rest, [], some, was, left))
 
--- it ends
-pub ends : (key : List ℕ) (place : Place) (all : List (List ℕ)) → place ≢ Opening → all ≡ [] → json_left key place all ≡ codes "]}"
-ends key place all opened is = open-left key place all opened ∙ ap (λ (xs : List (List ℕ)). with_commas xs ++ codes "]}") is
+-- the piece of an object was
+pub told : (key : List ℕ) (place : Place) (all : List (List ℕ)) (o : List ℕ) (os : List (List ℕ)) (last is_last : Bool) (piece text : List ℕ) (new : List (List ℕ)) → place ≡ Entries → all ≡ o ∷ os
+    → 0 < length o → IsLast last os → Between o last text → is_last ≡ false → piece ≡ text → new ≡ json_left key Entries os → TakesPiece is_last piece (json_left key place all) new
+told key place all o os last is_last piece text new opened is_all some lasts is goes is_text left =
+    takes-front is_last piece text (with_commas os ++ codes "]}") (json_left key place all) new goes is_text (has-bytes o last text some is)
+    (ap (λ (p : Place). json_left key p all) opened ∙ ap (λ (xs : List (List ℕ)). json_left key Entries xs) is_all ∙ ap (λ (l : List ℕ). l ∷ []) (goes_on o os last text lasts is)) left
 
 -- its objects have bytes
 some-object : (members : List (List ℕ)) → 0 < length (object members)
@@ -111,24 +104,3 @@ pub some-counts : (stored : ℕ) (t : Tallied) → 0 < length (count_object stor
 some-counts stored t =
     some-object
     (member (codes "packed") (decimal t.packs) ∷ member (codes "stored") (decimal stored) ∷ member (codes "struct") (struct_text t.struct) ∷ member (codes "unpacked") (decimal t.unpacks) ∷ [])
-
--- ---- a text of pieces
-
-pub ended-piece : (last : Bool) (piece : List ℕ) (old new : List (List ℕ)) → TakesPiece last piece old new → ended old ≡ piece_text last piece ++ ended new
-ended-piece true piece old new takes = ap ended takes
-ended-piece false piece old new takes =
-    let rest : List ℕ = takes.0 in
-    let lines : List (List ℕ) = takes.1 in
-    ap ended takes.3
-    ∙ ap (λ (l : List ℕ). l ++ ended lines) (append_assoc piece rest (10 ∷ []))
-    ∙ append_assoc piece (rest ++ 10 ∷ []) (ended lines)
-    ∙ sym (ap (λ ls. piece ++ ended ls) takes.4)
-
-some-piece : (last : Bool) (piece : List ℕ) (old new : List (List ℕ)) → TakesPiece last piece old new → 0 < length (piece_text last piece)
-some-piece true piece old new takes = omega (arith, length-append piece (10 ∷ []))
-some-piece false piece old new takes = takes.2
-
--- fewer bytes are left behind a piece
-pub fewer-left : (last : Bool) (piece : List ℕ) (old new : List (List ℕ)) → TakesPiece last piece old new → length (ended new) < length (ended old)
-fewer-left last piece old new takes =
-    omega (arith, ap length (ended-piece last piece old new takes), length-append (piece_text last piece) (ended new), some-piece last piece old new takes)

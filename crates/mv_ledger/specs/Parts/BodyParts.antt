@@ -23,8 +23,8 @@ use Rattle.mv_module_text.specs.Parsing.{Read, index_from, number_of_from, addre
 use Rattle.mv_machine.specs.State.{key_before}
 use Rattle.mv_machine.specs.Flat.{FlatEntry}
 use Rattle.mv_storage.specs.FlatStorage.{FlatStorage, words_under, with_words}
-use Rattle.mv_ledger.specs.declared.loading.head.SavedForm.{SavedForm}
-use Rattle.mv_ledger.specs.declared.loading.head.SavedForm.TheVariants.{First as FirstForm, Second as SecondForm}
+use Rattle.mv_ledger.specs.declared.saved.loading.head.SavedForm.{SavedForm}
+use Rattle.mv_ledger.specs.declared.saved.loading.head.SavedForm.TheVariants.{First as FirstForm, Second as SecondForm}
 use Rattle.mv_ledger.specs.declared.tallies.Tally.{Tally}
 use Rattle.mv_ledger.specs.Layouts.{kinds_under}
 use Rattle.mv_ledger.specs.Payloads.{leaf_from}

@@ -26,9 +26,9 @@ use Rattle.mv_machine.specs.State.{Storage}
 use Rattle.mv_storage.specs.FlatStorage.{FlatStorage}
 use Rattle.mv_certificate.specs.Certificate.{Certificate}
 use Rattle.mv_linker.specs.Link.{IsStore, MayJoin, tables_in}
-use Rattle.mv_ledger.specs.declared.loading.LoadError.{LoadError}
-use Rattle.mv_ledger.specs.declared.loading.LoadError.TheVariants.{Head as NoHead, Module as NoModule, Link as NoLink, Body as NoBody, Tally as NoTally, Memory}
-use Rattle.mv_ledger.specs.declared.loading.head.Head.{Head}
+use Rattle.mv_ledger.specs.declared.saved.loading.LoadError.{LoadError}
+use Rattle.mv_ledger.specs.declared.saved.loading.LoadError.TheVariants.{Head as NoHead, Module as NoModule, Link as NoLink, Body as NoBody, Tally as NoTally, Memory}
+use Rattle.mv_ledger.specs.declared.saved.loading.head.Head.{Head}
 use Rattle.mv_ledger.specs.declared.tallies.Tally.{Tally}
 use Rattle.mv_ledger.specs.Asking.{offers_of}
 use Rattle.mv_ledger.specs.Parts.BodyParts.{form_of, tally_from, storage_into}

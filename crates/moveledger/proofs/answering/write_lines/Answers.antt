@@ -1,36 +1,58 @@
-use Rattle.std.proofs.Common.{Err, ap}
+use Rattle.std.proofs.Common.{Err, ap, refl, ◌∙◌}
 use Rattle.std.proofs.lemmas.Result.{err_from_is_err_and}
 use Rattle.mv_ledger.specs.Pieces.{TakesPiece}
-use Rattle.mv_ledger.proofs.Shows.Pieces.{fewer-left}
 use Rattle.moveledger.proofs.Steps.{error-is}
-use Rattle.moveledger.proofs.Writing.{HasWritten-next, HasWritten-broken, HasWritten-failed, HasWritten-part}
+use Rattle.moveledger.proofs.Writing.{HasWritten-start, HasWritten-next, HasWritten-broken, HasWritten-failed, HasWritten-part, fewer-left}
+use Rattle.moveledger.proofs.Writing.{HasWrittenLines-start, HasWrittenLines-next, HasWrittenLines-whole}
 use Rattle.moveledger.proofs.answering.write_lines.Goals as goal
 
 pub returns-in_err-write_piece-clause-err : goal.returns-in_err-write_piece-clause-err
 returns-in_err-write_piece-clause-err g c =
     let p = err_from_is_err_and c.from_residual-in_err-write_piece.result c.from_residual-in_err-write_piece.ensures.1 in
-    let takes : TakesPiece c.in-Some.piece.is_last c.in-Some.piece.text.items c.each.lines c.next_piece.new.self = rw c.in-Some.is at c.in_ok-piece.ensures.piece in
+    let takes : TakesPiece c.in-Some.piece.is_last c.in-Some.piece.text.items c.each.lines.left c.next_piece.new.self.left = rw c.in-Some.is at c.in_ok-piece.ensures.piece in
     let w = c.in_err-write_piece.ensures in
-    rw (p.1, p.2) (HasWritten-failed c.args.number c.each.is_begun c.in-Some.piece.is_last c.in-Some.piece.text.items c.args.lines c.each.lines c.next_piece.new.self _ _ _ _ c.each.invariant takes w.err (λ same. w.write (ap (λ z. Err z) same)) (λ same. w.memory (ap (λ z. Err z) same)))
+    rw (p.1, p.2) (HasWritten-failed c.args.number c.each.is_begun c.in-Some.piece.is_last c.in-Some.piece.text.items c.args.lines.left c.each.lines.left c.next_piece.new.self.left _ _ _ _ c.each.invariant.written takes w.err (λ same. w.write (ap (λ z. Err z) same)) (λ same. w.memory (ap (λ z. Err z) same)))
 
 pub returns-in_err-write_piece-clause-write : goal.returns-in_err-write_piece-clause-write
 returns-in_err-write_piece-clause-write g c failed =
     let p = err_from_is_err_and c.from_residual-in_err-write_piece.result c.from_residual-in_err-write_piece.ensures.1 in
-    let takes : TakesPiece c.in-Some.piece.is_last c.in-Some.piece.text.items c.each.lines c.next_piece.new.self = rw c.in-Some.is at c.in_ok-piece.ensures.piece in
-    HasWritten-broken c.args.number c.each.is_begun c.in-Some.piece.is_last c.in-Some.piece.text.items c.args.lines c.each.lines c.next_piece.new.self _ _ _ c.each.invariant takes
+    let takes : TakesPiece c.in-Some.piece.is_last c.in-Some.piece.text.items c.each.lines.left c.next_piece.new.self.left = rw c.in-Some.is at c.in_ok-piece.ensures.piece in
+    HasWritten-broken c.args.number c.each.is_begun c.in-Some.piece.is_last c.in-Some.piece.text.items c.args.lines.left c.each.lines.left c.next_piece.new.self.left _ _ _ c.each.invariant.written takes
     (c.in_err-write_piece.ensures.write (ap (λ z. Err z) (error-is _ _ _ _ p.1 p.2 failed)))
+
+pub returns-in_err-write_piece-clause-memory : goal.returns-in_err-write_piece-clause-memory
+returns-in_err-write_piece-clause-memory g c failed text =
+    let p = err_from_is_err_and c.from_residual-in_err-write_piece.result c.from_residual-in_err-write_piece.ensures.1 in
+    HasWrittenLines-whole c.args.number c.each.is_begun c.args.lines.left c.each.lines.left _ _ _ (c.each.invariant.whole text)
+    (c.in_err-write_piece.ensures.memory (ap (λ z. Err z) (error-is _ _ _ _ p.1 p.2 failed)))
+
+pub each-init : goal.each-init
+each-init g c = record {
+  written = HasWritten-start c.args.number c.args.lines.left _;
+  format = refl;
+  whole = λ text. HasWrittenLines-start c.args.number c.args.lines.left _;
+}
 
 pub each-preserved : goal.each-preserved
 each-preserved g c =
-    let takes : TakesPiece c.in-Some.piece.is_last c.in-Some.piece.text.items c.each.lines c.next_piece.new.self = rw c.in-Some.is at c.in_ok-piece.ensures.piece in
-    HasWritten-next c.args.number c.each.is_begun c.in-Some.piece.is_last c.in-Some.piece.text.items c.args.lines c.each.lines c.next_piece.new.self _ _ _ c.each.invariant takes c.in_ok-write_piece.ensures.ok
+    let takes : TakesPiece c.in-Some.piece.is_last c.in-Some.piece.text.items c.each.lines.left c.next_piece.new.self.left = rw c.in-Some.is at c.in_ok-piece.ensures.piece in
+    record {
+      written = HasWritten-next c.args.number c.each.is_begun c.in-Some.piece.is_last c.in-Some.piece.text.items c.args.lines.left c.each.lines.left c.next_piece.new.self.left _ _ _ c.each.invariant.written takes c.in_ok-write_piece.ensures.ok;
+      format = c.next_piece.ensures.format ∙ c.each.invariant.format;
+      whole = λ text.
+          HasWrittenLines-next c.args.number c.each.is_begun c.in-Some.piece.is_last c.in-Some.piece.text.items c.args.lines.left c.each.lines.left c.next_piece.new.self.left _ _ _ (c.each.invariant.whole text) takes
+          (rw c.in-Some.is at c.in_ok-piece.ensures.whole (c.each.invariant.format ∙ text)) c.in_ok-write_piece.ensures.ok;
+    }
 
 pub each-smaller : goal.each-smaller
 each-smaller g c =
-    let takes : TakesPiece c.in-Some.piece.is_last c.in-Some.piece.text.items c.each.lines c.next_piece.new.self = rw c.in-Some.is at c.in_ok-piece.ensures.piece in
-    fewer-left c.in-Some.piece.is_last c.in-Some.piece.text.items c.each.lines c.next_piece.new.self takes
+    let takes : TakesPiece c.in-Some.piece.is_last c.in-Some.piece.text.items c.each.lines.left c.next_piece.new.self.left = rw c.in-Some.is at c.in_ok-piece.ensures.piece in
+    fewer-left c.in-Some.piece.is_last c.in-Some.piece.text.items c.each.lines.left c.next_piece.new.self.left takes
 
 pub returns-in_err-piece-clause-err : goal.returns-in_err-piece-clause-err
 returns-in_err-piece-clause-err g c =
     let p = err_from_is_err_and c.from_residual.result c.from_residual.ensures.1 in
-    rw (p.1, p.2) ((λ same. cc), HasWritten-part c.args.number c.each.is_begun c.args.lines c.each.lines _ _ c.each.invariant)
+    rw (p.1, p.2) ((λ same. cc), HasWritten-part c.args.number c.each.is_begun c.args.lines.left c.each.lines.left _ _ c.each.invariant.written)
+
+pub returns-in_err-piece-clause-memory : goal.returns-in_err-piece-clause-memory
+returns-in_err-piece-clause-memory g c failed text = HasWrittenLines-whole c.args.number c.each.is_begun c.args.lines.left c.each.lines.left _ _ _ (c.each.invariant.whole text) refl

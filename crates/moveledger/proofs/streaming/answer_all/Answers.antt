@@ -1,15 +1,22 @@
 use Rattle.std.proofs.Common.{◌≡◌, ◌≢◌, ℕ, ◌+◌, List, Err, ap, sym, refl, arith, subst, flat_map, inl, inr, ◌∙◌}
 use Rattle.std.proofs.KnownBytes.{Appends-kept}
 use Rattle.std.proofs.lemmas.Result.{err_from_is_err_and}
+use Rattle.moveledger.specs.Outcome.{Begun, BegunByLines}
 use Rattle.moveledger.specs.Records.{Cut, IsText, Whole}
 use Rattle.mv_machine.specs.Lines.{Refused, reply_lines, numbered}
 use Rattle.moveledger.specs.declared.streaming.EngineError.{EngineError}
-use Rattle.moveledger.specs.declared.streaming.EngineError.TheVariants.{Read}
+use Rattle.moveledger.specs.declared.streaming.EngineError.TheVariants.{Read, Write, Memory}
 use Rattle.moveledger.proofs.AfterRecords.{done-at, done-cut, done-ends, done-failed, done-full, done-next, done-until}
 use Rattle.moveledger.proofs.Steps.{Progress-start, Progress-next, Progress-stops_reading, Progress-ends, Progress-full, Progress-cut, Progress-reads}
 use Rattle.moveledger.proofs.Steps.{Progress-reads_cut, Progress-reads_full, Stops-read, Stops-written, Stops-writing, Stops-answered, Stops-behind, Stops-broken, Stops-broken_off}
+use Rattle.moveledger.proofs.Steps.{Stops-by_lines, Stops-idle}
 use Rattle.moveledger.proofs.Steps.{StartsWith-whole, error-is}
+use Rattle.moveledger.proofs.Taken.{Appends-same}
 use Rattle.moveledger.proofs.streaming.answer_all.Goals as goal
+
+-- a failed write isn't want of memory
+other-error : Write ≢ Memory
+other-error same = cc
 
 pub loop-n-init : goal.loop-n-init
 loop-n-init g c = (Progress-start _ _ _, refl)
@@ -18,12 +25,17 @@ pub returns-in_err-next_record-clause-err : goal.returns-in_err-next_record-clau
 returns-in_err-next_record-clause-err g c =
     let p = err_from_is_err_and c.from_residual.result c.from_residual.ensures.1 in
     let e = c.in_err-next_record.ensures.err in
-    rw (p.1) (Stops-read _ _ _ _ _ _ (Progress-stops_reading _ _ _ _ _ _ _ _ e.1 c.loop-n.invariant.0 e.2 e.3))
+    rw (p.1) (Stops-read Begun _ _ _ _ _ _ (Progress-stops_reading _ _ _ _ _ _ _ _ e.1 c.loop-n.invariant.0 e.2 e.3))
 
 pub returns-in_err-next_record-clause-read : goal.returns-in_err-next_record-clause-read
 returns-in_err-next_record-clause-read g c h =
     let e = c.in_err-next_record.ensures.err in
     Progress-stops_reading _ _ _ _ _ _ _ _ e.1 c.loop-n.invariant.0 e.2 e.3
+
+pub returns-in_err-next_record-clause-memory : goal.returns-in_err-next_record-clause-memory
+returns-in_err-next_record-clause-memory g c h =
+    let e = c.in_err-next_record.ensures.err in
+    Stops-read BegunByLines _ _ _ _ _ _ (Progress-stops_reading _ _ _ _ _ _ _ _ e.1 c.loop-n.invariant.0 e.2 e.3)
 
 pub returns-in-End-clause-ok : goal.returns-in-End-clause-ok
 returns-in-End-clause-ok g c =
@@ -48,6 +60,13 @@ returns-in_err-write_reply-in-Cut-clause-write g c h =
     let cut = rw c.in-Cut.is at c.in_ok-next_record.ensures.ok in
     let broken = c.in_err-write_reply-in-Cut.ensures.write (ap (λ z. Err z) (error-is _ _ _ _ p.1 p.2 h)) in
     inl (Stops-broken _ _ _ _ _ _ _ _ _ c.loop-n.n Cut cut.0 (reply_lines (Refused 1)) c.loop-n.invariant.0 cut.1 cut.2 (refl, refl) broken)
+
+pub returns-in_err-write_reply-in-Cut-clause-memory : goal.returns-in_err-write_reply-in-Cut-clause-memory
+returns-in_err-write_reply-in-Cut-clause-memory g c h =
+    let p = err_from_is_err_and c.from_residual-in_err-write_reply-in-Cut.result c.from_residual-in_err-write_reply-in-Cut.ensures.1 in
+    let cut = rw c.in-Cut.is at c.in_ok-next_record.ensures.ok in
+    let same = c.in_err-write_reply-in-Cut.ensures.memory (ap (λ z. Err z) (error-is _ _ _ _ p.1 p.2 h)) in
+    Stops-idle BegunByLines _ _ _ _ _ _ _ _ c.loop-n.n Cut cut.0 c.loop-n.invariant.0 cut.1 cut.2 (Appends-same _ _ same)
 
 pub returns-in-Cut-clause-taken : goal.returns-in-Cut-clause-taken
 returns-in-Cut-clause-taken g c =
@@ -78,6 +97,15 @@ returns-in_err-answer-in-Record-clause-write g c h =
     let is : IsText e.0 c.in-Record.kind payload = subst P (sym c.deref.ensures.value) e.2 in
     inl (Stops-broken_off _ _ _ _ _ _ _ _ _ c.loop-n.n c.in-Record.kind payload e.0 c.loop-n.invariant.0 e.1 is (c.in_err-answer-in-Record.ensures.write (ap (λ z. Err z) (error-is _ _ _ _ p.1 p.2 h))))
 
+pub returns-in_err-answer-in-Record-clause-memory : goal.returns-in_err-answer-in-Record-clause-memory
+returns-in_err-answer-in-Record-clause-memory g c h =
+    let p = err_from_is_err_and c.from_residual-in_err-answer-in-Record.result c.from_residual-in_err-answer-in-Record.ensures.1 in
+    let e = rw c.in-Record.is at c.in_ok-next_record.ensures.ok in
+    let payload : List ℕ = c.deref.result.now in
+    let P : List ℕ → Type 0 = λ l. IsText e.0 c.in-Record.kind l in
+    let is : IsText e.0 c.in-Record.kind payload = subst P (sym c.deref.ensures.value) e.2 in
+    Stops-by_lines _ _ _ _ _ _ _ _ _ c.loop-n.n c.in-Record.kind payload e.0 c.loop-n.invariant.0 e.1 is (c.in_err-answer-in-Record.ensures.memory (ap (λ z. Err z) (error-is _ _ _ _ p.1 p.2 h)))
+
 pub returns-in_err-answered-in-Record-clause-err : goal.returns-in_err-answered-in-Record-clause-err
 returns-in_err-answered-in-Record-clause-err g c =
     let p = err_from_is_err_and c.from_residual-in_err-answered-in-Record.result c.from_residual-in_err-answered-in-Record.ensures.1 in
@@ -89,6 +117,11 @@ returns-in_err-answered-in-Record-clause-err g c =
     let text : List ℕ = flat_map (numbered (c.loop-n.n + 1)) a.0 in
     let written = Appends-kept _ _ _ text a.1.1 c.in_err-answered-in-Record.ensures.kept in
     rw (p.1) (Stops-written _ _ _ _ _ _ (Stops-writing _ _ _ _ _ _ _ _ _ c.loop-n.n (Whole c.in-Record.kind payload) e.0 text a.0 c.loop-n.invariant.0 e.1 is a.1.0 (StartsWith-whole text) written))
+
+pub returns-in_err-answered-in-Record-clause-memory : goal.returns-in_err-answered-in-Record-clause-memory
+returns-in_err-answered-in-Record-clause-memory g c h =
+    let p = err_from_is_err_and c.from_residual-in_err-answered-in-Record.result c.from_residual-in_err-answered-in-Record.ensures.1 in
+    absurd (other-error (sym c.in_err-answered-in-Record.ensures.err ∙ error-is _ _ _ _ p.1 p.2 h))
 
 pub returns-in_err-answered-in-Record-clause-write : goal.returns-in_err-answered-in-Record-clause-write
 returns-in_err-answered-in-Record-clause-write g c h =

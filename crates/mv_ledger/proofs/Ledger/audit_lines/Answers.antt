@@ -1,9 +1,13 @@
-use Rattle.mv_ledger.proofs.Common.{[], ◌*◌, ◌∙◌, ◌∷◌, ◌≤◌, Some, ap, arith, length, subst, AsJson, AsText, ToldRefused, ToldLines, Replies, LedgerView, all_of, view_of}
+use Rattle.mv_ledger.proofs.Common.{◌≡◌, [], ◌*◌, ◌∙◌, ◌∷◌, ◌≤◌, Some, ap, arith, length, subst, AsJson, AsText, ToldRefused, ToldLines, Replies, LedgerView, all_of, view_of, List, ℕ, sym, format_text}
 use Rattle.mv_ledger.proofs.Shows.Reports.{unasked_replies, audit_replies, audit-lines, audit-json, few_tallies}
+use Rattle.mv_ledger.specs.LinesView.{LinesView}
 use Rattle.mv_ledger.proofs.Ledger.audit_lines.Goals as goal
 
-pub returns-in_default : goal.returns-in_default
-returns-in_default c =
+abbrev lines_in : LinesView → List (List ℕ)
+lines_in l = l.left
+
+pub returns-in_default-clause-replies : goal.returns-in_default-clause-replies
+returns-in_default-clause-replies c =
     let held : LedgerView = view_of c.self.inside.store c.self.inside.storage.committed (all_of c.self.inside.tallies) c.self.inside.runs in
     subst (λ (v : LedgerView). Replies 4 c.args.payload.now (Some (ToldRefused 1)) v v) c.self.view_is
     (unasked_replies 4 c.args.payload.now held (omega arith) c.in_default.ensures c.self.invariant.sound)
@@ -14,15 +18,25 @@ of_tallies-requires-clause-few c =
     c.self.invariant.scarce in
     omega (arith, most, c.self.invariant.few)
 
-pub returns-in-Text : goal.returns-in-Text
-returns-in-Text c =
+pub returns-in-Text-clause-replies : goal.returns-in-Text-clause-replies
+returns-in-Text-clause-replies c =
     let held : LedgerView = view_of c.self.inside.store c.self.inside.storage.committed (all_of c.self.inside.tallies) c.self.inside.runs in
-    subst (λ (v : LedgerView). Replies 4 c.args.payload.now (Some (ToldLines c.of_tallies.result)) v v) c.self.view_is
-    (audit_replies c.args.payload.now held AsText c.of_tallies.result (rw c.in-Text.is at c.in-Some.ensures) c.self.invariant.sound (c.of_tallies.ensures ∙ audit-lines held c.self.invariant.sound))
+    subst (λ (v : LedgerView). Replies 4 c.args.payload.now (Some (ToldLines c.of_tallies.result.left)) v v) c.self.view_is
+    (audit_replies c.args.payload.now held AsText c.of_tallies.result.left (rw c.in-Text.is at c.in-Some.ensures) c.self.invariant.sound (ap lines_in c.of_tallies.ensures ∙ audit-lines held c.self.invariant.sound))
 
-pub returns-in-Json : goal.returns-in-Json
-returns-in-Json c =
+pub returns-in-Json-clause-replies : goal.returns-in-Json-clause-replies
+returns-in-Json-clause-replies c =
     let held : LedgerView = view_of c.self.inside.store c.self.inside.storage.committed (all_of c.self.inside.tallies) c.self.inside.runs in
-    subst (λ (v : LedgerView). Replies 4 c.args.payload.now (Some (ToldLines c.json_of_tallies.result)) v v) c.self.view_is
-    (audit_replies c.args.payload.now held AsJson c.json_of_tallies.result (rw c.in-Json.is at c.in-Some.ensures) c.self.invariant.sound
-    (c.json_of_tallies.ensures ∙ ap (λ text. text ∷ []) (audit-json held c.self.invariant.sound)))
+    subst (λ (v : LedgerView). Replies 4 c.args.payload.now (Some (ToldLines c.json_of_tallies.result.left)) v v) c.self.view_is
+    (audit_replies c.args.payload.now held AsJson c.json_of_tallies.result.left (rw c.in-Json.is at c.in-Some.ensures) c.self.invariant.sound
+    (ap lines_in c.json_of_tallies.ensures ∙ ap (λ text. text ∷ []) (audit-json held c.self.invariant.sound)))
+
+pub returns-in-Text-clause-format : goal.returns-in-Text-clause-format
+returns-in-Text-clause-format c =
+    let asked : c.args.payload.now ≡ format_text AsText = rw c.in-Text.is at c.in-Some.ensures in
+    asked ∙ ap (λ (l : LinesView). format_text l.format) (sym c.of_tallies.ensures)
+
+pub returns-in-Json-clause-format : goal.returns-in-Json-clause-format
+returns-in-Json-clause-format c =
+    let asked : c.args.payload.now ≡ format_text AsJson = rw c.in-Json.is at c.in-Some.ensures in
+    asked ∙ ap (λ (l : LinesView). format_text l.format) (sym c.json_of_tallies.ensures)

@@ -1,4 +1,4 @@
-use Rattle.mv_ledger.proofs.Common.{Tallied, all_of, map, subst, sym, tables_in, tallied}
+use Rattle.mv_ledger.proofs.Common.{all_of, map, subst, sym, tables_in, tallied}
 use Rattle.mv_ledger.specs.Plain.{ArePlain}
 use Rattle.mv_ledger.proofs.Shows.Names.{plain-tallied}
 use Rattle.mv_ledger.proofs.Shows.Pieces.{all-plain}

@@ -1,0 +1,31 @@
+use Rattle.mv_ledger.proofs.Common.{◌≤◌, List, ap, arith, length, subst, length-map, err_from_is_err_and, offer_of, offers_of, AreJoined, AreNotJoined, head_of, Offered}
+use Rattle.mv_ledger.proofs.Loads.Loaded.{fails-joined, head-few}
+use Rattle.mv_ledger.proofs.saved.loading.load_after.Goals as goal
+
+pub join_offers-requires-clause-few : goal.join_offers-requires-clause-few
+join_offers-requires-clause-few c =
+    let few : length (offers_of c.args.head.now.offers.items) ≤ 4096 = head-few c.requires.0 (head_of c.args.head.now) c.args.reader.now c.requires.1.are c.requires.1.begins in
+    omega (arith, few, ap length c.deref.ensures.value, length-map c.args.head.now.offers.items offer_of)
+
+pub returns-in_err-join_offers-clause-refused : goal.returns-in_err-join_offers-clause-refused
+returns-in_err-join_offers-clause-refused c = λ bytes begun.
+    let p = err_from_is_err_and c.from_residual.result c.from_residual.ensures.1 in
+    rw (p.1, p.2)
+    (fails-joined bytes (head_of c.args.head.now) c.args.reader.now begun.are begun.begins
+    c.in_err-join_offers.field-0.0 (subst (λ (os : List Offered). AreNotJoined (offers_of os) c.in_err-join_offers.field-0.0) c.deref.ensures.value c.in_err-join_offers.ensures.refused))
+
+pub read_stored-requires-clause-joined : goal.read_stored-requires-clause-joined
+read_stored-requires-clause-joined c =
+    let j = c.join_offers.new.self in
+    subst (λ (os : List Offered). AreJoined (offers_of os) j.store j.tallies) c.deref.ensures.value c.in_ok-join_offers.ensures.joined
+
+pub returns-in_err-storage-clause-refused : goal.returns-in_err-storage-clause-refused
+returns-in_err-storage-clause-refused c = λ bytes begun.
+    let p = err_from_is_err_and c.from_residual-in_err-storage.result c.from_residual-in_err-storage.ensures.1 in
+    rw (p.1, p.2) (c.in_err-storage.ensures.refused bytes begun)
+
+pub invariant_of-result : goal.invariant_of-result
+invariant_of-result c = c.in_ok-storage.ensures.whole
+
+pub returns-clause-loaded : goal.returns-clause-loaded
+returns-clause-loaded c = c.in_ok-storage.ensures.loaded

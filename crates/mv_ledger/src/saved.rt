@@ -1,0 +1,6 @@
+// A ledger as text. What saving and loading have in common: the structs whose values can be stored (layouts), and how many of
+// each are (counts).
+mod counts;
+mod layouts;
+pub(crate) mod loading;
+pub(crate) mod saving;
