@@ -162,14 +162,14 @@ pub use Rattle.mv_ledger.proofs.Counting.Held.{held, held_in_frame, held_in_fram
 pub use Rattle.mv_ledger.specs.Counting.Kept.{Allows, AreAbove, AreKept, IsAscending, IsKept, IsScarce, StorageIsKept}
 pub use Rattle.mv_ledger.specs.Exact.{IsAccepted, IsRefused, failing, no_bundle}
 pub use Rattle.mv_ledger.specs.Inside.{structs_in_fields, structs_in_part, structs_in_parts, structs_in_token, structs_under, structs_within}
-pub use Rattle.mv_ledger.specs.Judging.{IsAcceptedBy, IsRefusedBy}
+pub use Rattle.mv_ledger.specs.Judging.{IsAcceptedBy, IsKeptOut, IsRefusedBy, MayFollow}
 pub use Rattle.mv_ledger.specs.Layouts.{AreLeaves, coded, is_keyed, kinds_of_fields, kinds_of_token, kinds_under, kinds_within, leaf_kinds}
 pub use Rattle.mv_ledger.specs.Loading.{AreLinked, AreTallied, FailsLoad, HasHead, IsLoadRefusal, IsLoaded, no_body, no_head, no_links, no_module, no_tallies}
 pub use Rattle.mv_ledger.specs.Parts.BodyParts.{count_from, counts_of, entry_from, form_of, group_into, groups_into, is_after, leaves_from, rising_into, storage_into, struct_of, tally_from}
 pub use Rattle.mv_ledger.specs.Parts.BodyParts.{with_entry}
 pub use Rattle.mv_ledger.specs.Parts.CountRows.{Adds, AreAll, AreStored, HasRows, IsTallied, capped, count_at, no_counts, row_at, with_count}
 pub use Rattle.mv_ledger.specs.Parts.LayoutParts.{IsOfStore, PutsKinds, keyed_at, kinds_at, kinds_of_part, kinds_of_parts}
-pub use Rattle.mv_ledger.specs.Parts.LoadedParts.{AreCounted, AreJoined, AreNotJoined, BeginsWith, IsGathered, IsNoBody, IsOffered, IsPassed, MayFollow, SavedHead, body_from, form_by}
+pub use Rattle.mv_ledger.specs.Parts.LoadedParts.{AreCounted, AreNotJoined, BeginsWith, IsNoBody, IsOffered, IsPassed, SavedHead, body_from, form_by}
 pub use Rattle.mv_ledger.proofs.Loads.Bodies.{EachBodyIsRead, EachReadIsBody, IsBody, counted_by}
 pub use Rattle.mv_ledger.specs.Parts.LoadedParts.{form_from, head_from, head_of, marks_from, reason_of}
 pub use Rattle.mv_ledger.specs.Parts.Saving.{AddsValue, AreSections, HasOneMore, IsAdded, IsEmpty, IsSection, IsWritable, KnowsKinds, counts_text, definition_at, section_at}
@@ -186,10 +186,10 @@ pub use Rattle.mv_ledger.specs.SavedLaws.{NoLoadFails}
 pub use Rattle.mv_ledger.specs.SavedText.{First, Form, HeadFits, IsSavedText, Second, addressed_text, body_text, form_byte, greatest_count, head_text, is_under, keyed_from, keyed_indices}
 pub use Rattle.mv_ledger.specs.SavedText.{leaves_of_fields, leaves_text, saved_text, storage_text, stored_text, struct_text, tally_fits, tally_text}
 pub use Rattle.mv_ledger.specs.Showing.{PutsText, fields_text, key_name_text, key_value_text, show_from}
-pub use Rattle.mv_ledger.specs.Tallying.{AddsTallies, AreInOrder, ArePlacedFor, AreWithin, HasRoomFor, HasRoomLeft, IsRoomFor, fresh_tally, is_published, place_for, tallies_at, tally_after}
-pub use Rattle.mv_ledger.specs.Tallying.{with_placed}
+pub use Rattle.mv_ledger.specs.Tallying.{AddsTallies, AreInOrder, ArePlacedFor, HasRoomFor, HasRoomLeft, IsRoomFor, fresh_tally, is_published, place_for, tallies_at, tally_after}
+pub use Rattle.mv_ledger.proofs.TallyWords.{AreWithin, IsNamed, with_placed}
 pub use Rattle.mv_ledger.specs.ValueParts.{Extends, part_from, parts_from}
-pub use Rattle.mv_ledger.specs.View.{ArePlaced, AreScarce, AreSized, IsLedger, IsNamed, IsSmall, LedgerView, all_of, scarce_indices, state_of, tallied, view_of}
+pub use Rattle.mv_ledger.specs.View.{ArePlaced, AreScarce, AreSized, IsLedger, IsSmall, IsTalliedStore, LedgerView, PublishedView, all_of, none_published, scarce_indices, state_of, tallied, view_of}
 pub use Rattle.mv_ledger.specs.declared.executing.Barred.{Barred}
 pub use Rattle.mv_ledger.specs.declared.executing.Barred.TheVariants.{Rejected, Rejected as BarredRejected}
 pub use Rattle.mv_ledger.specs.declared.executing.Call.{Call}

@@ -1,8 +1,8 @@
 -- Each refusal is the first phase that an offer fails, and what a bundle is refused for.
-use Rattle.mv_ledger.proofs.Common.{◌≡◌, ◌≤◌, ◌⊎◌, ◌∙◌, IsTrue, List, [], ◌∷◌, Some, drop, inl, inr, length, refl, subst, sym, ℕ, and_parts, Module, PublishedModule, with_modules, IsRefusedIn, Refusal, Memory, Phase}
+use Rattle.mv_ledger.proofs.Common.{◌≡◌, ◌≤◌, ◌⊎◌, ◌∙◌, IsTrue, List, [], ◌∷◌, Some, drop, inl, inr, length, refl, subst, sym, ℕ, and_parts, Module, PublishedModule, with_modules, Refusal, Memory, Phase}
 use Rattle.mv_ledger.proofs.Common.{IsReadByText, AreBytes, InBounds, WellDefined, WellSigned, AbilitiesHold, FlowHolds, AcquiresHold, all_locals_hold, all_edges_hold}
 use Rattle.mv_ledger.proofs.Common.{FailsTypes, IsRefusedByTypes, IsSound, endless, ill_signed, ill_typed, unable, LedgerState, Offer, Publish, Certificate, IsCertificateText, MayJoin, tables_in}
-use Rattle.mv_ledger.proofs.Common.{IsRefused, failing, IsAcceptedBy, IsRefusedBy, AllPass, FailsAt, FirstFails, IsRefusedAmong, IsRefusedOffer, OfCertificate, OfModule, Passes, Spells, in_linking}
+use Rattle.mv_ledger.proofs.Common.{IsRefused, failing, IsAcceptedBy, IsKeptOut, IsRefusedBy, AllPass, FailsAt, FirstFails, IsRefusedAmong, IsRefusedOffer, OfCertificate, OfModule, Passes, Spells, in_linking}
 use Rattle.mv_ledger.proofs.Common.{in_offer, in_room, phases, IsShaped}
 use Rattle.std.specs.Prelude.{⊤}
 use Rattle.mv_type_states.specs.TypesHold.{TypesHold}
@@ -158,20 +158,13 @@ module _ (old : List PublishedModule) (payload : List ℕ) (sender : ℕ) (offer
     abbrev Links : List PublishedModule → Type 0
     Links published = MayJoin (Some sender) (tables_in published) (tables_in bundle) (tables_in (with_modules published bundle))
 
-    -- linking fails
-    pub refused_link : (e : Refusal) → IsRefusedIn 13 (Links old) e → IsRefusedBy old payload e
-    refused_link Memory h s is = tt
-    refused_link (Phase p) h s is =
-        subst (λ (k : ℕ). IsRefused s payload k) (sym h.0)
-        (failing sender offers 13 asked (in_linking bundle all (λ join. h.1 (subst (λ (l : List PublishedModule). Links l) is join))))
-
     module _ (join : Links old) where
       -- what is said of linking over the modules is said over the state
       joined : (s : LedgerState) → s.published ≡ old → Links s.published
       joined s is = subst (λ (l : List PublishedModule). Links l) (sym is) join
 
       -- there is no room
-      pub refused_room : (length (with_modules old bundle) ≤ 4096 → ⊥) → IsRefusedBy old payload (Phase 14)
+      refused_room : (length (with_modules old bundle) ≤ 4096 → ⊥) → IsRefusedBy old payload (Phase 14)
       refused_room full s is =
           failing sender offers 14 asked (in_room bundle all (joined s is) (λ room. full (subst (λ (l : List PublishedModule). length (with_modules l bundle) ≤ 4096) is room)))
 
@@ -180,3 +173,11 @@ module _ (old : List PublishedModule) (payload : List ℕ) (sender : ℕ) (offer
       accepted count new counted room added s is =
           let room' : length (with_modules s.published bundle) ≤ 4096 = subst (λ (l : List PublishedModule). length (with_modules l bundle) ≤ 4096) (sym is) room in
           (bundle, (record { sender = sender; offers = offers; asked = asked; published = (all, joined s is, room') }, counted, added))
+
+    -- they may not join, or there is no room for them
+    pub kept_out : (e : Refusal) → IsKeptOut (Some sender) old bundle e → IsRefusedBy old payload e
+    kept_out (Phase p) (inl out) = λ s is.
+        subst (λ (k : ℕ). IsRefused s payload k) (sym out.0)
+        (failing sender offers 13 asked (in_linking bundle all (λ join. out.1 (subst (λ (l : List PublishedModule). Links l) is join))))
+    kept_out (Phase p) (inr out) = subst (λ (k : ℕ). IsRefusedBy old payload (Phase k)) (sym out.0) (refused_room out.1 out.2)
+    kept_out Memory out = λ s is. tt

@@ -2,15 +2,13 @@
 -- First the tallies after a bundle, then those after a run (why they stand by module: decision 21).
 --   AddsTallies old new before after      after a bundle each scarce struct has the tally that it had, or an empty one
 --   tallies_at place m had                the tallies of a module, after those of the one that it replaces
---   with_placed tss placed                all tallies, with those of a bundle's modules
---   AreWithin count placed                each list of tallies is of a module that is there, or of the next one
 --   place_for old next m                  where a module is to stand
 --   ArePlacedFor old tss next ms placed   the modules of a bundle are placed in order, each with its tallies
 --   tally_after run t                     a tally after a run
 --   HasRoomLeft, HasRoomFor, IsRoomFor    a tally stays within 128 bits
 --   AreInOrder ts                         tallies of a module ascend by index
 -- The others are parts of these.
-use Rattle.std.specs.Prelude.{◌≡◌, ℕ, ◌+◌, ◌^◌, ◌<◌, ◌≤◌, nat_lt, All, Bool, true, cond, List, [], ◌∷◌, ◌++◌, map, drop, length, option_and_then, unwrap_or, slice_get, fold}
+use Rattle.std.specs.Prelude.{◌≡◌, ℕ, ◌+◌, ◌^◌, ◌<◌, Bool, true, cond, List, [], ◌∷◌, ◌++◌, map, drop, length, option_and_then, unwrap_or, slice_get}
 use Rattle.std.specs.List.{list_any}
 use Rattle.std.specs.List.Sorted.{IsStrictlyIncreasing}
 use Rattle.mv_move_types.specs.Module.{Module, own_name}
@@ -18,7 +16,6 @@ use Rattle.mv_move_types.specs.Named.{have_one_name, module_place}
 use Rattle.mv_move_types.specs.Published.{PublishedModule}
 use Rattle.mv_machine.specs.Ledger.{scarce_structs, tally_of}
 use Rattle.mv_linker.specs.Link.{tables_in}
-use Rattle.mv_linker.specs.Stored.{with_at}
 use Rattle.mv_frames.specs.Counters.{is_tally_at, packs_at, unpacks_at}
 use Rattle.mv_frames.specs.declared.counters.StructTally.{StructTally}
 use Rattle.mv_ledger.specs.declared.tallies.Tally.{Tally}
@@ -38,16 +35,6 @@ fresh_tally place index = record { place = place; index = index; packs = 0; unpa
 -- has that one's structs first.
 abbrev pub tallies_at : ℕ → Module → List Tally → List Tally
 tallies_at place m had = had ++ map (fresh_tally place) (drop (length had) (scarce_indices m))
-
--- the tallies of each module, with those of each module of a bundle at its place, be it the next one
-abbrev pub with_placed : List (List Tally) → List Placed → List (List Tally)
-with_placed tss placed = fold (λ tss p. with_at p.place p.tallies.items tss) tss placed
-
--- each list is that of a module that is there or of the next one, and its tallies are of that place
-abbrev pub AreWithin : ℕ → List Placed → Type 0
-AreWithin count [] = Unit {0}
-AreWithin count (p ∷ ps) =
-    (p.place ≤ count) × All (λ t. t.place ≡ p.place) p.tallies.items × AreWithin (cond (nat_lt p.place count) count (count + 1)) ps
 
 -- where a module is to stand: in the place of the published one of its name, or in this next place
 abbrev pub place_for : List Module → ℕ → Module → ℕ

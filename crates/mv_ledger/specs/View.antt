@@ -7,9 +7,11 @@
 --   AreScarce modules tallies                each module has the tallies of its scarce structs, in order
 --   EachTallyIsScarce                        therefore each tally is of a scarce struct
 --   AreSized published                       texts and certificates are within the limits of a bundle
+--   PublishedView, none_published            what `Published` holds: modules, and the tallies of each
+--   IsTalliedStore modules tallies           what holds of these between calls
 --   IsLedger published stored tallies runs   what holds of a ledger's parts between calls
 -- The others are parts of these.
-use Rattle.std.specs.Prelude.{◌≡◌, ℕ, ◌+◌, ◌*◌, ◌≤◌, List, [], ◌∷◌, map, length, All, IsSome, IsTrue, unwrap_or, true}
+use Rattle.std.specs.Prelude.{◌≡◌, ℕ, ◌+◌, ◌*◌, ◌≤◌, List, [], ◌∷◌, map, length, All, IsTrue, unwrap_or, true}
 use Rattle.std.specs.List.{flat_map, filter, list_all, enumerate_from}
 use Rattle.mv_move_types.specs.Limits.{most_modules, most_runs, most_steps}
 use Rattle.mv_move_types.specs.Module.{Module, name_at}
@@ -17,7 +19,7 @@ use Rattle.mv_move_types.specs.Published.{PublishedModule}
 use Rattle.mv_machine.specs.Flat.{FlatEntry, storage_of}
 use Rattle.mv_machine.specs.Lines.{Tallied}
 use Rattle.mv_machine.specs.Ledger.{LedgerState}
-use Rattle.mv_linker.specs.Link.{tables_in}
+use Rattle.mv_linker.specs.Link.{IsStore, tables_in}
 use Rattle.mv_move_types.specs.Scarce.{is_scarce_struct, is_scarce_in}
 use Rattle.mv_interpreter.specs.Runs.{IsFineWords}
 use Rattle.mv_interpreter.specs.Flat.Agreement.{nameless}
@@ -68,10 +70,6 @@ abbrev pub view_of : List PublishedModule → List FlatEntry → List Tally → 
 view_of published stored tallies runs =
     record { published = published; stored = stored; tallies = map (tallied (tables_in published)) tallies; runs = runs }
 
--- a struct of the modules has this tally
-abbrev pub IsNamed : List Module → Tally → Type 0
-IsNamed modules t = IsSome (name_at modules t.place t.index)
-
 -- in so many runs, each of at most 10,000,000 steps, no step made or took apart more than one value of the struct
 abbrev pub IsSmall : ℕ → Tally → Type 0
 IsSmall runs t = (t.packs ≤ runs * most_steps) × (t.unpacks ≤ runs * most_steps)
@@ -93,16 +91,27 @@ EachTallyIsScarce =
 abbrev pub AreSized : List PublishedModule → Type 0
 AreSized published = IsTrue (list_all offer_fits (map offered published))
 
--- A ledger's modules, their texts and its runs are within their limits, each stored value is one of its key's struct, and each
--- tally one of a struct in its range; each module has the tallies of its structs with neither copy nor drop; and the machine's
--- ledger that it stands for is sound.
-pub record IsLedger (published : List PublishedModule) (stored : List FlatEntry) (tallies : List (List Tally)) (runs : ℕ) : Type 0 where
-  pub few : length published ≤ most_modules
+-- the published modules, and the tallies of each
+pub record PublishedView : Type 0 where
+  pub modules : List PublishedModule
+  pub tallies : List (List Tally)
+
+-- nothing published
+abbrev pub none_published : PublishedView
+none_published = record { modules = []; tallies = [] }
+
+-- Modules are a store and no more than a ledger has, and each has the tallies of its structs with neither copy nor drop.
+pub record IsTalliedStore (modules : List PublishedModule) (tallies : List (List Tally)) : Type 0 where
+  pub few : length modules ≤ most_modules
+  pub store : IsStore modules
+  pub placed : ArePlaced 0 tallies
+  pub scarce : AreScarce (tables_in modules) tallies
+
+-- The texts of a ledger's modules and its runs are within their limits, each stored value is one of its key's struct, each tally
+-- is in its range, and the machine's ledger that it stands for is sound.
+pub record IsLedger (published : List PublishedModule) (stored : List FlatEntry) (tallies : List Tally) (runs : ℕ) : Type 0 where
   pub sized : AreSized published
   pub fine : All (IsFineWords (tables_in published)) stored
-  pub placed : length tallies ≡ length published
-  pub scarce : AreScarce (tables_in published) tallies
-  pub named : All (IsNamed (tables_in published)) (all_of tallies)
-  pub small : All (IsSmall runs) (all_of tallies)
+  pub small : All (IsSmall runs) tallies
   pub counted : runs ≤ most_runs
-  pub sound : IsSoundLedger (state_of (view_of published stored (all_of tallies) runs))
+  pub sound : IsSoundLedger (state_of (view_of published stored tallies runs))

@@ -3,7 +3,7 @@ ghost use Rattle.std.specs.Prelude.{◌≡◌, ◌<◌, ◌≤◌, ◌+◌, ℕ,
 ghost use Rattle.std.specs.List.{list_all};
 ghost use Rattle.mv_move_types.specs.Limits.{most_modules, most_runs, most_steps};
 ghost use Rattle.mv_machine.specs.Ledger.{is_argument, are_arguments, with_signer as with_sender};
-ghost use Rattle.mv_linker.specs.Link.{IsStore, tables_in};
+ghost use Rattle.mv_linker.specs.Link.{tables_in};
 ghost use Rattle.mv_interpreter.specs.declared.Arg.{Arg as Argument};
 ghost use Rattle.mv_interpreter.specs.Runs.{IsCall, IsFineWords, Agrees, HasEnded, AtMost, number_fits, arg_value};
 ghost use Rattle.mv_ledger.specs.Changes.{RunsTo};
@@ -12,11 +12,11 @@ ghost use Rattle.mv_ledger.specs.Asking.{request_of};
 ghost use Rattle.mv_ledger.specs.ParameterTypes.{asked_type};
 ghost use Rattle.mv_ledger.specs.Running.{IsAdmitted, IsSettled, left_by, run_of};
 ghost use Rattle.mv_ledger.specs.Tallying.{HasRoomLeft};
-ghost use Rattle.mv_ledger.specs.View.{all_of, IsNamed, IsSmall, AreScarce};
+ghost use Rattle.mv_ledger.specs.View.{all_of, IsSmall};
 
 use crate::Reply;
 use crate::payload::RunRecord;
-use crate::tallies::Tallies;
+use crate::published::Published;
 use mv_interpreter::{Arg, FuncId, RunError, Tally, run};
 use mv_linker::{LinkedType, Part, Store};
 use mv_machine::{Ending, Outcome};
@@ -111,14 +111,14 @@ fn are_passed(types: &[LinkedType], arguments: &[Arg]) -> bool
 /// it; 5, a function that is no entry; 6, arguments that are not of its parameters' types; 7, no further run may be had.
 /// `Memory`, where a growth was refused.
 pub fn admitted(store: &Store, runs: u64, asked: RunRecord<'_>) -> Result<Call, Barred>
-    requires few { length store.now ≤ most_modules }
     requires range { IsTrue (list_all (λ (a : Argument). number_fits a.kind a.number) asked.arguments.items) }
     ensures call { IfOk result (λ c. IsCall (tables_in store.now) c.function c.arguments.items) }
     ensures runs { OnOk result (runs < most_runs) }
     ensures budget { IfOk result (λ c. c.budget ≤ most_steps) }
     ensures admitted { IsAdmitted store.now runs (request_of asked.entry) result }
-    ensures store { OnOk result (IsStore store.now) }
 {
+    // For the prover: at most 65,536 modules, so a place fits.
+    let _modules = store.len();
     if asked.budget > MOST_STEPS {
         return Err(Barred::Rejected(2));
     }
@@ -187,27 +187,21 @@ fn run_over(store: &Store, storage: &mut Storage, call: &Call) -> Result<(Outcom
 }
 
 /// Runs a call. A run that returns keeps what it made of the storage, and its tally is added; any other leaves both.
-pub fn execute(store: &Store, storage: &mut Storage, tallies: &mut Tallies, call: &Call) -> Reply
-    requires store { IsStore store.now }
-    requires few { length store.now ≤ most_modules }
-    requires call { IsCall (tables_in store.now) call.now.function call.now.arguments.items }
-    requires stored { All (IsFineWords (tables_in store.now)) storage.old.committed }
-    requires named { All (IsNamed (tables_in store.now)) (all_of tallies.old) }
-    requires room { All HasRoomLeft (all_of tallies.old) }
+pub fn execute(published: &mut Published, storage: &mut Storage, call: &Call) -> Reply
+    requires call { IsCall (tables_in published.old.modules) call.now.function call.now.arguments.items }
+    requires stored { All (IsFineWords (tables_in published.old.modules)) storage.old.committed }
+    requires room { All HasRoomLeft (all_of published.old.tallies) }
     requires budget { call.now.budget ≤ most_steps }
-    requires scarce { AreScarce (tables_in store.now) tallies.old }
-    ensures scarce { AreScarce (tables_in store.now) tallies.new }
-    ensures stored { All (IsFineWords (tables_in store.now)) storage.new.committed }
-    ensures placed { length tallies.new ≡ length tallies.old }
-    ensures named { All (IsNamed (tables_in store.now)) (all_of tallies.new) }
-    ensures small { (runs : ℕ) → All (IsSmall runs) (all_of tallies.old) → All (IsSmall (runs + 1)) (all_of tallies.new) }
-    ensures settled { IsSettled store.now call.now (told result) storage.old.committed storage.new.committed (all_of tallies.old) (all_of tallies.new) }
-    ensures kept { RunsTo (told result) storage.old.committed storage.new.committed (all_of tallies.old) (all_of tallies.new) }
+    ensures modules { published.new.modules ≡ published.old.modules }
+    ensures stored { All (IsFineWords (tables_in published.old.modules)) storage.new.committed }
+    ensures small { (runs : ℕ) → All (IsSmall runs) (all_of published.old.tallies) → All (IsSmall (runs + 1)) (all_of published.new.tallies) }
+    ensures settled { IsSettled published.old.modules call.now (told result) storage.old.committed storage.new.committed (all_of published.old.tallies) (all_of published.new.tallies) }
+    ensures kept { RunsTo (told result) storage.old.committed storage.new.committed (all_of published.old.tallies) (all_of published.new.tallies) }
 {
-    match run_over(store, storage, call) {
+    match run_over(&published.store, storage, call) {
         Ok((outcome, tally)) => {
             if outcome.ending == Ending::Returned {
-                tallies.add_run(&tally);
+                published.add_run(&tally);
             }
             Reply::Ran(outcome)
         }

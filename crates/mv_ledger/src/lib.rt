@@ -26,6 +26,7 @@ mod laws;
 mod lines;
 mod payload;
 mod pieces;
+mod published;
 mod publishing;
 mod saved;
 mod tallies;
@@ -50,17 +51,16 @@ pub use laws::{
     no_load_fails, no_save_is_refused, no_text_is_escaped,
 };
 pub use lines::Lines;
-use mv_linker::Store;
 use mv_machine::Outcome;
 use mv_move_types::Refusal;
 use mv_storage::Storage;
 use payload::read_run;
 pub use pieces::Piece;
+use published::Published;
 pub use saved::loading::{LoadError, migrate};
 use saved::saving::text_of;
 use std::alloc::{AllocError, Global};
 use std::marker::Model;
-use tallies::Tallies;
 
 /// What the ledger answers to a record.
 #[derive(Clone, Copy)]
@@ -92,9 +92,8 @@ impl Reply {
 #[derive(Drop)]
 pub struct Ledger {
     alloc: Global,
-    store: Store,
+    published: Published,
     storage: Storage,
-    tallies: Tallies,
     runs: u64,
 }
 
@@ -103,9 +102,9 @@ impl Model for Ledger {
 
     ghost Value = { LedgerView };
 
-    ghost view = { λ l. view_of l.store l.storage.committed (all_of l.tallies) l.runs };
+    ghost view = { λ l. view_of l.published.modules l.storage.committed (all_of l.published.tallies) l.runs };
 
-    ghost invariant = { λ l. IsLedger l.store l.storage.committed l.tallies l.runs };
+    ghost invariant = { λ l. IsLedger l.published.modules l.storage.committed (all_of l.published.tallies) l.runs };
 }
 
 impl Ledger {
@@ -115,9 +114,8 @@ impl Ledger {
     {
         Ledger {
             alloc,
-            store: Store::new(alloc),
+            published: Published::new(alloc),
             storage: Storage::new(alloc),
-            tallies: Tallies::new(alloc),
             runs: 0,
         }
     }
@@ -138,7 +136,9 @@ impl Ledger {
     pub fn is_savable(&self)
         ensures { IsSavable (state_of self.now) }
     {
-        // For the prover: fewer than 2^63 values are stored, and what is read from a text it spells.
+        // For the prover: the modules are no more than a ledger has, fewer than 2^63 values are stored, and what is read from a text
+        // it spells.
+        self.published.is_tallied();
         let _entries = self.storage.iter();
         mv_binary_format::modules_are_read_by_text();
     }
@@ -147,7 +147,7 @@ impl Ledger {
     pub fn publish(&mut self, payload: &[u8]) -> Reply
         ensures { Replies 1 payload.now (told result) self.old self.new }
     {
-        match publishing::publish(self.alloc, &mut self.store, &mut self.tallies, payload) {
+        match self.published.publish(self.alloc, payload) {
             Ok(count) => Reply::Published(count),
             Err(Refusal::Phase(phase)) => Reply::Refused(phase),
             Err(Refusal::Memory) => Reply::Memory,
@@ -163,14 +163,10 @@ impl Ledger {
             Err(Refusal::Phase(_)) => return Reply::Rejected(1),
             Err(Refusal::Memory) => return Reply::Memory,
         };
-        match admitted(&self.store, self.runs, asked) {
+        let published = &mut self.published;
+        match admitted(&published.store, self.runs, asked) {
             Ok(call) => {
-                let reply = executing::execute(
-                    &self.store,
-                    &mut self.storage,
-                    &mut self.tallies,
-                    &call,
-                );
+                let reply = executing::execute(published, &mut self.storage, &call);
                 if reply.is_told() {
                     self.runs += 1;
                 }
@@ -212,12 +208,13 @@ impl Ledger {
         ensures format { IfOk result (λ lines. payload.now ≡ format_text lines.format) }
     {
         let alloc = self.alloc;
+        let published = &self.published;
         let Some(format) = read_format(payload) else {
             return Err(Refusal::Phase(1));
         };
         match format {
-            Format::Text => Ok(Lines::of_storage(alloc, &self.store, &self.storage)),
-            Format::Json => Ok(Lines::json_of_storage(alloc, &self.store, &self.storage)),
+            Format::Text => Ok(Lines::of_storage(alloc, &published.store, &self.storage)),
+            Format::Json => Ok(Lines::json_of_storage(alloc, &published.store, &self.storage)),
         }
     }
 
@@ -229,12 +226,13 @@ impl Ledger {
         ensures format { IfOk result (λ lines. payload.now ≡ format_text lines.format) }
     {
         let alloc = self.alloc;
+        let published = &self.published;
         let Some(format) = read_format(payload) else {
             return Err(Refusal::Phase(1));
         };
         match format {
-            Format::Text => Ok(Lines::of_tallies(alloc, &self.store, &self.tallies)),
-            Format::Json => Ok(Lines::json_of_tallies(alloc, &self.store, &self.tallies)),
+            Format::Text => Ok(Lines::of_tallies(alloc, &published.store, &published.tallies)),
+            Format::Json => Ok(Lines::json_of_tallies(alloc, &published.store, &published.tallies)),
         }
     }
 
@@ -248,11 +246,12 @@ impl Ledger {
         // For the prover: what it stands for is sound, and within the limits of a saved ledger.
         self.is_sound();
         self.is_savable();
+        let published = &self.published;
         text_of(
             self.alloc,
-            &self.store,
+            &published.store,
             &self.storage,
-            &self.tallies,
+            &published.tallies,
             self.runs,
         )
     }

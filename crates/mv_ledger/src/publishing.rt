@@ -1,34 +1,27 @@
-// Publishing a bundle: its phases in order, and what it changes.
-ghost use Rattle.std.specs.Prelude.{◌≡◌, ℕ, ◌+◌, ◌^◌, ◌<◌, ◌≤◌, List, nat_lt, nat_le, count_by, option_and_then, All, length, map, Some, IfOk, IfErr, OnOk, OnErr};
-ghost use Rattle.mv_move_types.specs.Limits.{most_modules};
-ghost use Rattle.mv_move_types.specs.Module.{own_name};
-ghost use Rattle.mv_move_types.specs.Named.{module_place};
-ghost use Rattle.mv_ledger.specs.declared.tallies.Placed.{Placed as Standing};
+// Publishing a bundle: its phases in order.
+ghost use Rattle.std.specs.Prelude.{◌≡◌, ℕ, List, Some, IfOk, IfErr, OnOk, OnErr};
+ghost use Rattle.mv_move_types.specs.Published.{PublishedModule};
 ghost use Rattle.mv_binary_format.specs.Parsing.{module_of};
 ghost use Rattle.mv_module_text.specs.Laws.{AreBytes};
 ghost use Rattle.mv_certificate.specs.Certificate.{Certificate};
 ghost use Rattle.mv_certificate.specs.Verified.{IsCertifiedBy};
 ghost use Rattle.mv_machine.specs.Ledger.{Publish};
-ghost use Rattle.mv_linker.specs.Link.{IsStore, tables_in};
+ghost use Rattle.mv_linker.specs.Link.{IsStore};
 ghost use Rattle.mv_linker.specs.News.{AreTexts, HasItsTexts, published_of};
 ghost use Rattle.mv_ledger.specs.Asking.{offer_of, offers_of};
 ghost use Rattle.mv_ledger.specs.RecordText.{IsShaped};
 ghost use Rattle.mv_ledger.specs.Publishing.{Spells, Passes, AllPass, IsRefusedOffer, IsRefusedAmong};
 ghost use Rattle.mv_ledger.specs.Judging.{IsAcceptedBy, IsRefusedBy};
-ghost use Rattle.mv_ledger.specs.Tallying.{AddsTallies, ArePlacedFor};
-ghost use Rattle.mv_ledger.specs.View.{all_of, ArePlaced, IsNamed, IsSmall, AreScarce};
+ghost use Rattle.mv_ledger.specs.Tallying.{AddsTallies};
+ghost use Rattle.mv_ledger.specs.View.{all_of};
 
 use crate::payload::{Bundle, Offered, read_bundle};
-use crate::tallies::{Placed, Tallies, scarce_structs};
-use mv_binary_format::Module;
+use crate::published::Published;
 use mv_certificate::Verified;
-use mv_linker::{New, Store, link, name_of};
+use mv_linker::New;
 use mv_move_types::Refusal;
 use mv_type_states::Typed;
 use std::alloc::{AllocError, Global};
-
-// How many modules a ledger has at most.
-const MOST_MODULES: usize = 4096;
 
 /// Bytes are bytes.
 pub fn are_bytes(bytes: &[u8])
@@ -105,131 +98,41 @@ pub fn all_verified<'a>(alloc: Global, offers: &[Offered<'a>]) -> Result<Vec<New
     Ok(all)
 }
 
-/// Where each of these modules is to stand, with its tallies: in the place of the published one of its name, whose tallies it
-/// keeps, or in the next place.
-pub fn placed(
-    alloc: Global,
-    store: &Store,
-    tallies: &Tallies,
-    news: &[New<'_>],
-) -> Result<Vec<Placed>, AllocError>
-    requires few { length store.now + length news.now < 65536 }
-    requires all { length tallies.now ≡ length store.now }
-    ensures placed { IfOk result (λ v. ArePlacedFor (tables_in store.now) tallies.now (length store.now) (tables_in (published_of news.now)) v.items) }
-    ensures theirs { ArePlaced 0 tallies.now }
-{
-    let mut next = tallies.len();
-    let mut all = Vec::with_capacity(alloc, news.len())?;
-    'each: for new in news {
-        let module = new.module.module();
-        let found = place_of(store, module);
-        let place = found.unwrap_or(next);
-        let structs = scarce_structs(alloc, module)?;
-        all.push(Placed {
-            place,
-            tallies: tallies.extended(alloc, place, &structs)?,
-        })?;
-        if found.is_none() {
-            next += 1;
-        }
-    }
-    Ok(all)
-}
-
-/// The place of the published module that has a module's name.
-fn place_of(store: &Store, m: &Module<'_>) -> Option<usize>
-    ensures { result ≡ option_and_then (module_place (tables_in store.now)) (own_name m.now) }
-{
-    let (address, name) = name_of(m)?;
-    store.find(address, name)
-}
-
-/// How many of these modules are to stand behind so many that are there.
-pub fn count_behind(placed: &[Placed], count: usize) -> usize
-    ensures count { result ≡ count_by (λ (p : Standing). nat_le count p.place) placed.now }
-    ensures few { result ≤ length placed.now }
-{
-    placed.iter().filter(|p| p.place >= count).count()
-}
-
-/// Whether a bundle makes more modules than a ledger may have of so many that are there.
-fn is_too_much(placed: &[Placed], count: usize) -> bool
-    requires { count + length placed.now < 2 ^ 63 }
-    ensures { result ≡ nat_lt most_modules (count + count_by (λ (p : Standing). nat_le count p.place) placed.now) }
-{
-    count + count_behind(placed, count) > MOST_MODULES
-}
-
-/// Publishes a bundle, and says how many modules it has. Nothing changes where it is refused.
-fn join_bundle(
-    alloc: Global,
-    store: &mut Store,
-    tallies: &mut Tallies,
-    bundle: &Bundle<'_>,
-) -> Result<u64, Refusal>
-    requires few { length store.old ≤ most_modules }
-    requires asked { (payload : List ℕ) × IsShaped 1 payload (Publish bundle.now.sender (offers_of bundle.now.offers.items)) }
-    requires placed { length tallies.old ≡ length store.old }
-    requires named { All (IsNamed (tables_in store.old)) (all_of tallies.old) }
-    requires scarce { AreScarce (tables_in store.old) tallies.old }
-    ensures store { OnOk result (IsStore store.old) }
-    ensures whole { OnOk result (IsStore store.new) }
-    ensures room { OnOk result (length store.new ≤ most_modules) }
-    ensures err { OnErr result (store.new ≡ store.old) }
-    ensures kept { OnErr result (tallies.new ≡ tallies.old) }
-    ensures accepted { (payload : List ℕ) → IsShaped 1 payload (Publish bundle.now.sender (offers_of bundle.now.offers.items)) → IfOk result (λ n. IsAcceptedBy n store.old payload store.new) }
-    ensures refused { (payload : List ℕ) → IsShaped 1 payload (Publish bundle.now.sender (offers_of bundle.now.offers.items)) → IfErr result (IsRefusedBy store.old payload) }
-    ensures placed { length tallies.new ≡ length store.new }
-    ensures named { OnOk result (All (IsNamed (tables_in store.new)) (all_of tallies.new)) }
-    ensures scarce { AreScarce (tables_in store.new) tallies.new }
-    ensures small { (runs : ℕ) → All (IsSmall runs) (all_of tallies.old) → All (IsSmall runs) (all_of tallies.new) }
-    ensures tallied { OnOk result (AddsTallies store.old store.new (all_of tallies.old) (all_of tallies.new)) }
-{
-    let news = all_verified(alloc, &bundle.offers)?;
-    let published = store.len();
-    let placed = placed(alloc, store, tallies, &news)?;
-    let count = news.len();
-    let linked = link(store, Some(bundle.sender), news)?;
-    if is_too_much(&placed, published) {
-        return Err(Refusal::Phase(14));
-    }
-    tallies.join(store, linked, placed)?;
-    Ok(count as u64)
-}
-
-/// Publishes the bundle that a payload has, and says how many modules it has: they join the store, and each of their structs
-/// with neither copy nor drop has the tally that it had, or an empty one.
+/// The bundle that the payload of a publish record has.
 ///
 /// # Errors
 ///
-/// `Phase(1)`, where the payload is none of a publish record; else the first phase that fails; `Memory`, where a growth
-/// was refused. Nothing changes then.
-pub fn publish(
-    alloc: Global,
-    store: &mut Store,
-    tallies: &mut Tallies,
-    payload: &[u8],
-) -> Result<u64, Refusal>
-    requires few { length store.old ≤ most_modules }
-    requires placed { length tallies.old ≡ length store.old }
-    requires named { All (IsNamed (tables_in store.old)) (all_of tallies.old) }
-    requires scarce { AreScarce (tables_in store.old) tallies.old }
-    ensures store { OnOk result (IsStore store.old) }
-    ensures whole { OnOk result (IsStore store.new) }
-    ensures room { OnOk result (length store.new ≤ most_modules) }
-    ensures err { OnErr result (store.new ≡ store.old) }
-    ensures kept { OnErr result (tallies.new ≡ tallies.old) }
-    ensures accepted { IfOk result (λ n. IsAcceptedBy n store.old payload.now store.new) }
-    ensures refused { IfErr result (IsRefusedBy store.old payload.now) }
-    ensures placed { length tallies.new ≡ length store.new }
-    ensures named { OnOk result (All (IsNamed (tables_in store.new)) (all_of tallies.new)) }
-    ensures scarce { AreScarce (tables_in store.new) tallies.new }
-    ensures small { (runs : ℕ) → All (IsSmall runs) (all_of tallies.old) → All (IsSmall runs) (all_of tallies.new) }
-    ensures tallied { OnOk result (AddsTallies store.old store.new (all_of tallies.old) (all_of tallies.new)) }
+/// `Phase(1)`, where the payload is none of a publish record; `Memory`, where a growth was refused.
+fn asked_bundle<'a>(alloc: Global, payload: &'a [u8]) -> Result<Bundle<'a>, Refusal>
+    ensures asked { IfOk result (λ b. IsShaped 1 payload.entry.now (Publish b.sender (offers_of b.offers.items))) }
+    ensures refused { (modules : List PublishedModule) → IfErr result (IsRefusedBy modules payload.entry.now) }
 {
     match read_bundle(alloc, payload) {
-        Ok(bundle) => join_bundle(alloc, store, tallies, &bundle),
+        Ok(bundle) => Ok(bundle),
         Err(Refusal::Memory) => Err(Refusal::Memory),
         Err(Refusal::Phase(_)) => Err(Refusal::Phase(1)),
+    }
+}
+
+impl Published {
+    /// Publishes the bundle that a payload has, and says how many modules it has: they join those that are there, and each of their
+    /// structs with neither copy nor drop has the tally that it had, or an empty one.
+    ///
+    /// # Errors
+    ///
+    /// `Phase(1)`, where the payload is none of a publish record; else the first phase that fails; `Memory`, where a growth
+    /// was refused. Nothing changes then.
+    pub fn publish(&mut self, alloc: Global, payload: &[u8]) -> Result<u64, Refusal>
+        ensures accepted { IfOk result (λ n. IsAcceptedBy n self.old.modules payload.now self.new.modules) }
+        ensures tallied { OnOk result (AddsTallies self.old.modules self.new.modules (all_of self.old.tallies) (all_of self.new.tallies)) }
+        ensures whole { OnOk result (IsStore self.new.modules) }
+        ensures kept { OnErr result (self.new ≡ self.old) }
+        ensures refused { IfErr result (IsRefusedBy self.old.modules payload.now) }
+    {
+        let bundle = asked_bundle(alloc, payload)?;
+        let news = all_verified(alloc, &bundle.offers)?;
+        let count = news.len();
+        self.join(alloc, Some(bundle.sender), news)?;
+        Ok(count as u64)
     }
 }

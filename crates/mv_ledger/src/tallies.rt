@@ -1,20 +1,19 @@
 // Tallies of the structs with neither copy nor drop.
 ghost use Rattle.std.specs.Prelude.{◌≡◌, ◌+◌, ◌-◌, ◌^◌, ◌<◌, ◌≤◌, [], ◌∷◌, ◌++◌, All, true, length, map, drop, slice_get, unwrap_or, None, Some, IfOk, IfErr, OnOk, OnErr};
 ghost use Rattle.std.specs.Vec.{vec_len, vec_capacity};
-ghost use Rattle.mv_move_types.specs.Published.{with_modules};
-ghost use Rattle.mv_linker.specs.Stored.{IsLinkedTo, with_at};
+ghost use Rattle.mv_linker.specs.Stored.{with_at};
 ghost use Rattle.mv_frames.specs.Counters.{is_tally_at};
 ghost use Rattle.mv_interpreter.specs.Runs.{AtMost};
 ghost use Rattle.mv_module_text.specs.Parsing.{entries_from};
 ghost use Rattle.mv_ledger.specs.Parts.BodyParts.{form_of, counts_of, struct_of, tally_from};
-ghost use Rattle.mv_ledger.specs.Tallying.{fresh_tally, tally_after, with_placed, AreWithin, AreInOrder, HasRoomFor, HasRoomLeft, IsRoomFor};
+ghost use Rattle.mv_ledger.specs.Tallying.{fresh_tally, tally_after, AreInOrder, HasRoomFor, HasRoomLeft, IsRoomFor};
 ghost use Rattle.mv_ledger.specs.View.{all_of, ArePlaced, scarce_indices};
 
 use crate::saved::loading::head::SavedForm;
 use crate::saved::loading::tallies::read_tallies;
 use mv_binary_format::Module;
 use mv_frames::StructTally;
-use mv_linker::{Linked, Store, add, is_scarce};
+use mv_linker::is_scarce;
 use mv_module_text::Reader;
 use mv_move_types::Refusal;
 use std::alloc::{AllocError, Global};
@@ -85,7 +84,7 @@ fn add_entry(tallies: &mut [Tally], entry: &StructTally)
 }
 
 /// Puts the tallies of the module at a place, or of the next one.
-fn put(modules: &mut Vec<Vec<Tally>>, one: Placed)
+pub fn put(modules: &mut Vec<Vec<Tally>>, one: Placed)
     requires { vec_len modules.old < vec_capacity modules.old }
     ensures lists { map (λ v. v.items) modules.new.items ≡ with_at one.place one.tallies.items (map (λ v. v.items) modules.old.items) }
     ensures len { vec_len modules.new ≤ vec_len modules.old + 1 }
@@ -102,7 +101,7 @@ fn put(modules: &mut Vec<Vec<Tally>>, one: Placed)
 /// or took apart, however many there are.
 #[derive(Drop)]
 pub struct Tallies {
-    modules: Vec<Vec<Tally>>,
+    pub modules: Vec<Vec<Tally>>,
 }
 
 impl Model for Tallies {
@@ -162,28 +161,6 @@ impl Tallies {
             tallies.push(untouched(place as u16, *index))?;
         }
         Ok(tallies)
-    }
-
-    /// Adds a bundle to a store, and each of its modules' tallies at its place; or nothing.
-    pub fn join(
-        &mut self,
-        store: &mut Store,
-        linked: Linked,
-        placed: Vec<Placed>,
-    ) -> Result<(), AllocError>
-        requires linked { IsLinkedTo store.old linked }
-        requires placed { AreWithin (length self.old) placed.items }
-        ensures ok { OnOk result (store.new ≡ with_modules store.old linked.published) }
-        ensures tallied { OnOk result (self.new ≡ with_placed self.old placed.items) }
-        ensures err { OnErr result (store.new ≡ store.old) }
-        ensures kept { OnErr result (self.new ≡ self.old) }
-    {
-        self.modules.reserve(placed.len())?;
-        add(store, linked)?;
-        for one in placed {
-            put(&mut self.modules, one);
-        }
-        Ok(())
     }
 
     /// Reads the counts of all tallies, module by module, in place of those that they have.

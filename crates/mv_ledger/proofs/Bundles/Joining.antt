@@ -1,10 +1,13 @@
 -- A bundle that may join, and was placed: the store and the tallies after it.
-use Rattle.mv_ledger.proofs.Common.{[], ◌+◌, ◌<◌, ◌∙◌, ◌∷◌, ◌≡◌, ◌≤◌, List, Option, ap, ap₂, arith, cond, false, leb-true, length, refl, subst, suc, sym, true, ℕ, ltb-false, ltb-true, length-map}
-use Rattle.mv_ledger.proofs.Common.{All, count_by, nat_le, nat_lt, Module, PublishedModule, with_modules, Offer, Publish, IsStore, MayJoin, tables_in, IsShaped, AddsTallies, ArePlacedFor}
-use Rattle.mv_ledger.proofs.Common.{AreWithin, is_published, with_placed, ArePlaced, AreScarce, IsNamed, IsSmall, all_of, Placed, Tally}
-use Rattle.mv_ledger.proofs.Bundles.Places.{AreSpotted, EachIs, had, had-at, all-spotted, count-joined, each-first, each-joined, each-length, spotted-within, had-found}
+use Rattle.mv_ledger.proofs.Common.{[], ◌*◌, ◌+◌, ◌<◌, ◌∙◌, ◌∷◌, ◌≡◌, ◌≤◌, Bool, List, Option, Some, ap, ap₂, arith, cond, cond_both, false, get_or, leb-true, length, subst, suc, sym, true, ℕ, ltb-false, ltb-true}
+use Rattle.mv_ledger.proofs.Common.{map, All, All-head, All-map, All-tail, count_by, find, nat_le, nat_lt, unwrap_or, Module, StructName, same_struct, PublishedModule, with_modules, Offer, Publish, Tallied, IsStore, tables_in}
+use Rattle.mv_ledger.proofs.Common.{refl, scarce_structs, tally_of, untouched_tally, IsShaped, AddsTallies, ArePlacedFor, AreWithin, MayFollow, is_published, with_placed, ArePlaced, AreScarce}
+use Rattle.mv_ledger.proofs.Common.{IsKeptOut, IsRefusedIn, IsSmall, IsTalliedStore, Refusal, Memory, Phase, all_of, inl, tallied, Placed, Tally}
+use Rattle.mv_ledger.proofs.Bundles.Places.{AreSpotted, EachIs, had, had-at, all-spotted, count-joined, each-first, each-joined, spotted-within, had-found}
 use Rattle.mv_ledger.proofs.Bundles.Heirs.{inherited}
-use Rattle.mv_ledger.proofs.Bundles.TalliesJoined.{tallies-added, scarce-added, named-added, small-added}
+use Rattle.mv_ledger.proofs.Bundles.TalliesJoined.{tallies-added, scarce-added}
+use Rattle.mv_ledger.proofs.Runs.ScarceTallies.{All-back}
+use Rattle.mv_ledger.proofs.TalliedStores.{tallied-long, tallied-named}
 
 -- a publish record has few offers
 pub few-offers : (payload : List ℕ) (sender : ℕ) (offers : List Offer) → IsShaped 1 payload (Publish sender offers) → length offers ≤ 16
@@ -18,21 +21,24 @@ placed-length old tss next [] [] h = refl
 placed-length old tss next (m ∷ ms) (p ∷ ps) h = ap suc (placed-length old tss (cond (is_published old m) next (next + 1)) ms ps h.2)
 placed-length _ _ _ _ _ h = absurd h
 
--- a bundle that may join a whole store, and where each of its modules is to stand
+-- a bundle that may join a store with its tallies, and where each of its modules is to stand
 pub record IsPlacedBundle (old bundle : List PublishedModule) (tss : List (List Tally)) (placed : List Placed) (sender : Option ℕ) : Type 0 where
-  pub store : IsStore old
+  pub held : IsTalliedStore old tss
   pub whole : IsStore (with_modules old bundle)
-  pub join : MayJoin sender (tables_in old) (tables_in bundle) (tables_in (with_modules old bundle))
+  pub join : MayFollow sender old bundle
   pub at : ArePlacedFor (tables_in old) tss (length old) (tables_in bundle) placed
-  pub theirs : ArePlaced 0 tss
-  pub scarce : AreScarce (tables_in old) tss
+
+-- modules that may not be linked may not join
+pub unlinked : (sender : Option ℕ) (old bundle : List PublishedModule) (e : Refusal) → IsRefusedIn 13 (MayFollow sender old bundle) e → IsKeptOut sender old bundle e
+unlinked sender old bundle (Phase p) refused = inl refused
+unlinked sender old bundle Memory refused = tt
 
 module _ (old bundle : List PublishedModule) (tss : List (List Tally)) (placed : List Placed) (sender : Option ℕ) (b : IsPlacedBundle old bundle tss placed sender) where
   spots : AreSpotted (had tss) old bundle placed
   spots = all-spotted old bundle tss placed b.join.once b.at
 
-  pub joined-within : length tss ≡ length old → AreWithin (length tss) placed
-  joined-within long = subst (λ (n : ℕ). AreWithin n placed) (sym long) (spotted-within (had tss) (had-at tss b.theirs) old bundle placed spots)
+  pub joined-within : AreWithin (length tss) placed
+  joined-within = subst (λ (n : ℕ). AreWithin n placed) (sym (tallied-long old tss b.held)) (spotted-within (had tss) (had-at tss b.held.placed) old bundle placed spots)
 
   -- the test of room is one of the modules that there are then
   tested-room : (count : ℕ) (ps : List Placed) → count ≡ length old → ps ≡ placed
@@ -52,32 +58,43 @@ module _ (old bundle : List PublishedModule) (tss : List (List Tally)) (placed :
       absurd (omega (arith, more, room))
 
   each : EachIs (had tss) 0 (tables_in (with_modules old bundle)) (with_placed tss placed)
-  each = each-joined (had tss) old bundle tss placed spots (each-first (had tss) 0 (tables_in old) tss (had-found tss) b.scarce)
+  each = each-joined (had tss) old bundle tss placed spots (each-first (had tss) 0 (tables_in old) tss (had-found tss) b.held.scarce)
 
   module _ (new : List PublishedModule) (after : List (List Tally)) (new_is : new ≡ with_modules old bundle) (after_is : after ≡ with_placed tss placed) where
-    pub after-length : length after ≡ length new
-    after-length =
-        ap length after_is ∙ each-length (had tss) 0 (tables_in (with_modules old bundle)) (with_placed tss placed) each ∙ length-map (with_modules old bundle) (λ (p : PublishedModule). p.tables)
-        ∙ sym (ap length new_is)
+    -- they are a store with its tallies again
+    pub after-held : length (with_modules old bundle) ≤ 4096 → ArePlaced 0 after → IsTalliedStore new after
+    after-held room own =
+        subst (λ (ps : List PublishedModule). IsTalliedStore ps after) (sym new_is) (record {
+          few = room;
+          store = b.whole;
+          placed = own;
+          scarce = subst (λ (us : List (List Tally)). AreScarce (tables_in (with_modules old bundle)) us) (sym after_is)
+              (scarce-added old (with_modules old bundle) tss (with_placed tss placed) b.held.store b.whole (inherited old bundle b.join.compatible) b.held.placed b.held.scarce
+              (tallied-named old tss b.held) each);
+        })
 
-    pub after-scarce : All (IsNamed (tables_in old)) (all_of tss) → AreScarce (tables_in new) after
-    after-scarce named =
-        subst (λ (ps : List PublishedModule). AreScarce (tables_in ps) after) (sym new_is) (subst (λ (us : List (List Tally)). AreScarce (tables_in (with_modules old bundle)) us) (sym after_is)
-        (scarce-added old (with_modules old bundle) tss (with_placed tss placed) b.store b.whole (inherited old bundle b.join.compatible) b.theirs b.scarce named each))
-
-    pub after-named : All (IsNamed (tables_in old)) (all_of tss) → All (IsNamed (tables_in new)) (all_of after)
-    after-named named =
-        subst (λ (ps : List PublishedModule). All (IsNamed (tables_in ps)) (all_of after)) (sym new_is)
-        (subst (λ (us : List (List Tally)). All (IsNamed (tables_in (with_modules old bundle))) (all_of us)) (sym after_is)
-        (named-added old (with_modules old bundle) tss (with_placed tss placed) b.store b.whole (inherited old bundle b.join.compatible) b.theirs b.scarce named each))
-
-    pub after-small : All (IsNamed (tables_in old)) (all_of tss) → (runs : ℕ) → All (IsSmall runs) (all_of tss) → All (IsSmall runs) (all_of after)
-    after-small named runs small =
-        subst (λ (us : List (List Tally)). All (IsSmall runs) (all_of us)) (sym after_is)
-        (small-added old (with_modules old bundle) tss (with_placed tss placed) b.store b.whole (inherited old bundle b.join.compatible) b.theirs b.scarce named each runs small)
-
-    pub after-tallied : All (IsNamed (tables_in old)) (all_of tss) → AddsTallies old new (all_of tss) (all_of after)
-    after-tallied named =
+    pub after-tallied : AddsTallies old new (all_of tss) (all_of after)
+    after-tallied =
         subst (λ (ps : List PublishedModule). AddsTallies old ps (all_of tss) (all_of after)) (sym new_is)
         (subst (λ (us : List (List Tally)). AddsTallies old (with_modules old bundle) (all_of tss) (all_of us)) (sym after_is)
-        (tallies-added old (with_modules old bundle) tss (with_placed tss placed) b.store b.whole (inherited old bundle b.join.compatible) b.theirs b.scarce named each))
+        (tallies-added old (with_modules old bundle) tss (with_placed tss placed) b.held.store b.whole (inherited old bundle b.join.compatible) b.held.placed b.held.scarce
+        (tallied-named old tss b.held) each))
+
+-- ---- tallies that are added are no larger than those that were there
+
+-- a count is no more than so many runs can have made
+abbrev IsSmallCount : ℕ → Tallied → Type 0
+IsSmallCount runs t = (t.packs ≤ runs * 10000000) × (t.unpacks ≤ runs * 10000000)
+
+small-found : (runs : ℕ) (p : Tallied → Bool) (s : StructName) (ts : List Tallied) → All (IsSmallCount runs) ts → IsSmallCount runs (unwrap_or (find p ts) (untouched_tally s))
+small-found runs p s [] small = (omega arith, omega arith)
+small-found runs p s (t ∷ ts) small =
+    cond_both (p t) (Some t) (find p ts) (λ o. IsSmallCount runs (unwrap_or o (untouched_tally s))) (λ e. All-head (IsSmallCount runs) t ts small)
+    (λ e. small-found runs p s ts (All-tail (IsSmallCount runs) t ts small))
+
+pub added-small : (old new : List PublishedModule) (before after : List Tally) (runs : ℕ) → AddsTallies old new before after → All (IsSmall runs) before → All (IsSmall runs) after
+added-small old new before after runs adds small =
+    let olds = map (tallied (tables_in old)) before in
+    All-back (IsSmallCount runs) (tallied (tables_in new)) after (subst (All (IsSmallCount runs)) (sym adds)
+    (All-map (IsSmallCount runs) (tally_of olds) (scarce_structs (tables_in new))
+    (λ k d lt. let s = get_or (scarce_structs (tables_in new)) k d in small-found runs (λ (t : Tallied). same_struct t.struct s) s olds (All-map (IsSmallCount runs) (tallied (tables_in old)) before small))))

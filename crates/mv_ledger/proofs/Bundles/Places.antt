@@ -252,9 +252,3 @@ spotted-within own at cur (n ∷ ns) (p ∷ ps) s =
       subst (λ (k : ℕ). AreWithin k ps) (sym there.1) (spotted-within own at (with_module cur n) ns ps s.2),
     )
 spotted-within _ _ _ _ _ s = absurd s
-
--- each module has as many lists of tallies
-pub each-length : (own : ℕ → List Tally) (place : ℕ) (ms : List Module) (tss : List (List Tally)) → EachIs own place ms tss → length tss ≡ length ms
-each-length own place [] [] e = refl
-each-length own place (m ∷ ms) (ts ∷ tss) e = ap suc (each-length own (place + 1) ms tss e.1)
-each-length _ _ _ _ e = absurd e

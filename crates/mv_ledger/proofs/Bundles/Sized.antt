@@ -1,6 +1,6 @@
 -- Texts and certificates are within their limits: those of a bundle, and so those of the store that it joined.
-use Rattle.mv_ledger.proofs.Common.{[], ◌∙◌, ◌∷◌, ◌≡◌, Bool, Err, IsTrue, List, Ok, Result, ap₂, arith, length, map, refl, subst, sym, true, ℕ, and_from, and_parts, first_so, second_so, list_all}
-use Rattle.mv_ledger.proofs.Common.{◌&&◌, IfOk, OnOk, nat_le, PublishedModule, with_module, with_modules, Refusal, address_fits, LedgerState, Offer, Publish, IsAccepted, IsAcceptedBy, AllPass}
+use Rattle.mv_ledger.proofs.Common.{[], ◌∙◌, ◌∷◌, ◌≡◌, Bool, IsTrue, List, ap₂, arith, length, map, refl, subst, sym, true, ℕ, and_from, and_parts, first_so, second_so, list_all}
+use Rattle.mv_ledger.proofs.Common.{◌&&◌, nat_le, PublishedModule, with_module, with_modules, address_fits, LedgerState, Offer, Publish, IsAccepted, IsAcceptedBy, AllPass}
 use Rattle.mv_ledger.proofs.Common.{offered, IsShaped, offer_fits, AreSized}
 
 -- whether all modules' texts are within their limits
@@ -37,9 +37,8 @@ abbrev holding : List PublishedModule → LedgerState
 holding published = record { published = published; storage = []; tallies = []; runs = 0 }
 
 -- so a bundle that was accepted leaves a store's texts within their limits
-pub sized_published : (r : Result ℕ Refusal) (old new : List PublishedModule) (payload : List ℕ) → IfOk r (λ n. IsAcceptedBy n old payload new) → AreSized old → OnOk r (AreSized new)
-sized_published (Err e) old new payload accepted sized = tt
-sized_published (Ok count) old new payload accepted sized =
+pub sized_published : (count : ℕ) (old new : List PublishedModule) (payload : List ℕ) → IsAcceptedBy count old payload new → AreSized old → AreSized new
+sized_published count old new payload accepted sized =
     let b = accepted (holding old) refl in
     let a : IsAccepted (holding old) payload b.0 = b.1.0 in
     subst AreSized (sym b.1.2) (sized_with old b.0 sized (sized_passed a.offers b.0 a.published.0 (offers_sized payload a.sender a.offers a.asked)))

@@ -1,8 +1,8 @@
 -- What is stored stays as it was where a bundle is published: its words are fine, and stand for the same values.
-use Rattle.mv_ledger.proofs.Common.{[], ◌+◌, ◌∙◌, ◌∷◌, ◌≡◌, ◌⊎◌, Bool, Err, List, None, Ok, Option, Result, Some, ap, ap₂, arith, false, inl, inr, option_map, refl, subst, suc, sym, true, zero, ℕ}
-use Rattle.mv_ledger.proofs.Common.{and_from, All-head, All-tail, All-weaker, same_Some, first_so, second_so, option_map_or, ◌&&◌, All, IfOk, OnOk, option_and_then, slice_get, unwrap_or, bytes_eq}
+use Rattle.mv_ledger.proofs.Common.{[], ◌+◌, ◌∙◌, ◌∷◌, ◌≡◌, ◌⊎◌, Bool, List, None, Option, Some, ap, ap₂, arith, false, inl, inr, option_map, refl, subst, suc, sym, true, zero, ℕ}
+use Rattle.mv_ledger.proofs.Common.{and_from, All-head, All-tail, All-weaker, same_Some, first_so, second_so, option_map_or, ◌&&◌, All, option_and_then, slice_get, unwrap_or, bytes_eq}
 use Rattle.mv_ledger.proofs.Common.{same_abilities, Module, StructDefinition, name_at, name_of_struct, struct_abilities, struct_name, declared, declared_in, definition_of, is_struct, module_named}
-use Rattle.mv_ledger.proofs.Common.{module_place, StructName, same_struct, ◌>>=◌, find_index, PublishedModule, LeafTag, ReferenceTag, StructTag, Tag, same_tag, same_kind, Refusal, Field, Key}
+use Rattle.mv_ledger.proofs.Common.{module_place, StructName, same_struct, ◌>>=◌, find_index, PublishedModule, LeafTag, ReferenceTag, StructTag, Tag, same_tag, same_kind, Field, Key}
 use Rattle.mv_ledger.proofs.Common.{StructHandle, Abilities, Boolean, Token, MutableReference, Plain, Reference, ValueType, OfLeaf, OfStruct, on_bind, address_fits, FlatEntry, fields_from}
 use Rattle.mv_ledger.proofs.Common.{storage_of, struct_from, value_from, value_under, Storage, abilities_at, are_of_types, is_fine_entry, is_fine_storage, is_of_struct, is_of_type, leaf_fits, Leaf}
 use Rattle.mv_ledger.proofs.Common.{More, NoMore, Ref, Struct, Value, Values, all_at, then_found, same_struct-is, same_tag-is, IsStore, tables_in, struct_is_there, structs_are_there, same_field}
@@ -326,7 +326,6 @@ pub stored-stays : (count : ℕ) (old new : List PublishedModule) (payload : Lis
     → All (IsFineWords (tables_in old)) stored → storage_of (tables_in new) stored ≡ storage_of (tables_in old) stored
 stored-stays count old new payload stored old_store new_store accepted fine = values-stay old new old_store new_store (accepted-inherits count old new payload accepted) stored fine
 
-pub stays-fine : (r : Result ℕ Refusal) (old new : List PublishedModule) (payload : List ℕ) (stored : List FlatEntry) → OnOk r (IsStore old) → OnOk r (IsStore new)
-    → IfOk r (λ n. IsAcceptedBy n old payload new) → OnOk r (All (IsFineWords (tables_in old)) stored → All (IsFineWords (tables_in new)) stored)
-stays-fine (Ok count) old new payload stored old_store new_store accepted = fine-stays old new old_store new_store (accepted-inherits count old new payload accepted) stored
-stays-fine (Err e) old new payload stored old_store new_store accepted = tt
+pub stays-fine : (count : ℕ) (old new : List PublishedModule) (payload : List ℕ) (stored : List FlatEntry) → IsStore old → IsStore new → IsAcceptedBy count old payload new
+    → All (IsFineWords (tables_in old)) stored → All (IsFineWords (tables_in new)) stored
+stays-fine count old new payload stored old_store new_store accepted = fine-stays old new old_store new_store (accepted-inherits count old new payload accepted) stored

@@ -1,17 +1,16 @@
 -- The tallies after a bundle: each struct with neither copy nor drop has the one that it had, or an empty one.
-use Rattle.mv_ledger.proofs.Common.{[], ◌++◌, ◌+◌, ◌<◌, ◌∙◌, ◌∷◌, ◌≡◌, Bool, List, None, Option, Some, ap, ap₂, arith, cond, drop, eq-eqb, false, length, map, option_map, refl, subst, suc, sym}
-use Rattle.mv_ledger.proofs.Common.{true, zero, zero-add, ℕ, drop-append_seam, and_from, eqb-true, same_from_decides, length-map, map-append, All-append, All-head, All-map, All-nil}
+use Rattle.mv_ledger.proofs.Common.{[], ◌++◌, ◌+◌, ◌<◌, ◌∙◌, ◌∷◌, ◌≡◌, Bool, List, None, Option, Some, ap, ap₂, arith, cond, drop, eq-eqb, false, map, option_map, refl, subst, suc, sym}
+use Rattle.mv_ledger.proofs.Common.{true, zero, zero-add, ℕ, drop-append_seam, and_from, eqb-true, same_from_decides, length-map, map-append, All-head}
 use Rattle.mv_ledger.proofs.Common.{All-tail, All-weaker, same_Some, first_so, second_so, ◌&&◌, ◌==◌, All, IsSome, filter_map, find, slice_get, unwrap_or, Module, name_at, StructName, same_struct}
-use Rattle.mv_ledger.proofs.Common.{PublishedModule, InBounds, scarce_name, scarce_structs, tally_of, untouched_tally, Tallied, some-of, then_found, same_struct-is, same_struct-same, IsPublishable}
-use Rattle.mv_ledger.proofs.Common.{IsStore, tables_in, index_of, All-at, nameless, AddsTallies, fresh_tally, tallies_at, ArePlaced, AreScarce, IsNamed, IsSmall, all_of, scarce_indices, mapped-at}
+use Rattle.mv_ledger.proofs.Common.{PublishedModule, scarce_name, scarce_structs, tally_of, untouched_tally, Tallied, some-of, same_struct-is, same_struct-same}
+use Rattle.mv_ledger.proofs.Common.{IsStore, tables_in, index_of, nameless, AddsTallies, fresh_tally, tallies_at, ArePlaced, AreScarce, IsNamed, all_of, scarce_indices}
 use Rattle.mv_ledger.proofs.Common.{tallied, Tally}
 use Rattle.mv_ledger.proofs.Bundles.Places.{had, EachIs}
 use Rattle.mv_ledger.proofs.Bundles.Heirs.{Inherits, had-first, name-stays}
-use Rattle.mv_ledger.proofs.Runs.ScarceTallies.{All-back, Ascends, ascend-from}
+use Rattle.mv_ledger.proofs.Runs.ScarceTallies.{Ascends, ascend-from}
 use Rattle.mv_ledger.proofs.Runs.TalliesAfter.{map-where, map-then}
-use Rattle.mv_ledger.proofs.Bundles.TalliesFresh.{struct_there, fresh-tallied, fresh-named, AreThere}
+use Rattle.mv_ledger.proofs.TalliedStores.{StandFrom, all-named, all-stand, head-at, map-same, name_of, names-are, tail-at}
 use Rattle.mv_binary_format.proofs.Taken.{find-map}
-use Rattle.mv_bounds.proofs.Entries.{All-first, All-second}
 
 -- ---- what is found first
 
@@ -83,27 +82,11 @@ module _ {B : Type 0} (g : Tally → B) (place : ℕ) where
       other y far = sym (ap (λ (b : Bool). unwrap_or (option_map g (cond b (Some t) (find (λ (u : Tally). u.index == y) ts))) (g (fresh_tally place y)))
           (apart t.index y (λ same. omega (arith, far, same))))
 
--- ---- lists
-
--- what holds of all tallies holds of those at a place
-all-had : (P : Tally → Type 0) (tss : List (List Tally)) (i : ℕ) → All P (all_of tss) → All P (had tss i)
-all-had P [] i all = All-nil P
-all-had P (ts ∷ tss) zero all = All-first P ts (all_of tss) all
-all-had P (ts ∷ tss) (suc i) all = all-had P tss i (All-second P ts (all_of tss) all)
-
-map-same : {A B : Type 0} (f : A → B) (g : B → A) → ((x : A) → g (f x) ≡ x) → (xs : List A) → map g (map f xs) ≡ xs
-map-same f g back [] = refl
-map-same f g back (x ∷ xs) = ap₂ (λ y ys. y ∷ ys) (back x) (map-same f g back xs)
-
 -- ---- a store with its tallies
 
 module _ (new : List PublishedModule) (store : IsStore new) (tss : List (List Tally)) (placed : ArePlaced 0 tss) (named : All (IsNamed (tables_in new)) (all_of tss)) where
   abbrev olds : List Tallied
   olds = map (tallied (tables_in new)) (all_of tss)
-
-  -- the name of the struct at a place and an index
-  abbrev name_of : ℕ → ℕ → StructName
-  name_of place x = unwrap_or (name_at (tables_in new) place x) nameless
 
   -- a tally is of the struct of a name if it is of its place and index
   by_place : (place index : ℕ) (name : StructName) → name_at (tables_in new) place index ≡ Some name → (t : Tally) → IsNamed (tables_in new) t
@@ -128,45 +111,19 @@ module _ (new : List PublishedModule) (store : IsStore new) (tss : List (List Ta
       here_so e = and_from (t.place == place) (t.index == index) (eq-eqb t.place place e.0) (eq-eqb t.index index e.1)
 
   -- the tally of a struct of the store
-  old-tally : (place index : ℕ) → IsSome (name_at (tables_in new) place index) → tally_of olds (name_of place index) ≡ resolved (tallied (tables_in new)) place (had tss place) index
+  old-tally : (place index : ℕ) → IsSome (name_at (tables_in new) place index) → tally_of olds (name_of new store place index) ≡ resolved (tallied (tables_in new)) place (had tss place) index
   old-tally place index h =
       let own = some-of (name_at (tables_in new) place index) h in
-      let name : name_of place index ≡ own.0 = ap (λ (o : Option StructName). unwrap_or o nameless) own.1 in
-      let found : find (λ (t : Tallied). same_struct t.struct (name_of place index)) olds ≡ option_map (tallied (tables_in new)) (find (λ (t : Tally). t.index == index) (had tss place)) =
+      let name : name_of new store place index ≡ own.0 = ap (λ (o : Option StructName). unwrap_or o nameless) own.1 in
+      let found : find (λ (t : Tallied). same_struct t.struct (name_of new store place index)) olds ≡ option_map (tallied (tables_in new)) (find (λ (t : Tally). t.index == index) (had tss place)) =
       ap (λ (s : StructName). find (λ (t : Tallied). same_struct t.struct s) olds) name
       ∙ find-map (tallied (tables_in new)) (λ (t : Tallied). same_struct t.struct own.0) (all_of tss)
       ∙ ap (option_map (tallied (tables_in new)))
       (find-where (IsNamed (tables_in new)) (λ (t : Tally). same_struct (tallied (tables_in new) t).struct own.0) (stands_at place index) (by_place place index own.0 own.1) (all_of tss) named
       ∙ ap (λ (n : ℕ). find (stands_at n index) (all_of tss)) (sym (zero-add place)) ∙ found-at 0 index tss place placed) in
-      ap (λ (o : Option Tallied). unwrap_or o (untouched_tally (name_of place index))) found
+      ap (λ (o : Option Tallied). unwrap_or o (untouched_tally (name_of new store place index))) found
 
   module _ (place : ℕ) (m : Module) (at : slice_get (tables_in new) place ≡ Some m) (rest : List ℕ) (first : scarce_indices m ≡ map (λ (t : Tally). t.index) (had tss place) ++ rest) where
-    bounds : InBounds m
-    bounds =
-        let p = mapped-at (λ (p : PublishedModule). p.tables) new place m at in
-        let passed : IsPublishable p.0 = All-at IsPublishable new place p.0 store.passed p.1 in
-        subst InBounds p.2 passed.sound.bounds
-
-    there : AreThere m (tables_in new) place 0 m.structs
-    there k d e =
-        let name = struct_there m bounds k d e in (
-          name.0,
-          name.1,
-          subst (λ (j : ℕ). name_at (tables_in new) place j ≡ Some name.0) (sym (zero-add k))
-              (then_found (slice_get (tables_in new) place) _ m (Some name.0) at (then_found (slice_get m.structs k) _ d (Some name.0) e name.1)),
-        )
-
-    -- its structs' names by their indices
-    names-are : filter_map (scarce_name m) m.structs ≡ map (name_of place) (scarce_indices m)
-    names-are =
-        sym (map-same untouched_tally (λ (t : Tallied). t.struct) (λ s. refl) (filter_map (scarce_name m) m.structs))
-        ∙ ap (map (λ (t : Tallied). t.struct)) (sym (fresh-tallied m (tables_in new) place 0 m.structs there))
-        ∙ map-then (tallied (tables_in new)) (λ (t : Tallied). t.struct) (map (fresh_tally place) (scarce_indices m))
-        ∙ map-then (fresh_tally place) (λ (t : Tally). (tallied (tables_in new) t).struct) (scarce_indices m)
-
-    all-named : All (λ (x : ℕ). IsSome (name_at (tables_in new) place x)) (scarce_indices m)
-    all-named = All-back (IsNamed (tables_in new)) (fresh_tally place) (scarce_indices m) (fresh-named m (tables_in new) place 0 m.structs there)
-
     -- the empty tallies are those of the structs that come after
     tallies-are : tallies_at place m (had tss place) ≡ had tss place ++ map (fresh_tally place) rest
     tallies-are =
@@ -179,10 +136,10 @@ module _ (new : List PublishedModule) (store : IsStore new) (tss : List (List Ta
         ap (map (tallied (tables_in new))) tallies-are
         ∙ resolve (tallied (tables_in new)) place (had tss place) rest (subst Ascends first (ascend-from m 0 m.structs))
         ∙ ap (map (resolved (tallied (tables_in new)) place (had tss place))) (sym first)
-        ∙ sym (map-where (λ (x : ℕ). IsSome (name_at (tables_in new) place x)) (λ x. tally_of olds (name_of place x)) (resolved (tallied (tables_in new)) place (had tss place)) (old-tally place)
-        (scarce_indices m) all-named)
-        ∙ sym (map-then (name_of place) (tally_of olds) (scarce_indices m))
-        ∙ ap (map (tally_of olds)) (sym names-are)
+        ∙ sym (map-where (λ (x : ℕ). IsSome (name_at (tables_in new) place x)) (λ x. tally_of olds (name_of new store place x)) (resolved (tallied (tables_in new)) place (had tss place)) (old-tally place)
+        (scarce_indices m) (all-named new store place m at))
+        ∙ sym (map-then (name_of new store place) (tally_of olds) (scarce_indices m))
+        ∙ ap (map (tally_of olds)) (sym (names-are new store place m at))
 
     -- the indices are those of its structs
     pub module-scarce : map (λ (t : Tally). t.index) (tallies_at place m (had tss place)) ≡ scarce_indices m
@@ -192,66 +149,26 @@ module _ (new : List PublishedModule) (store : IsStore new) (tss : List (List Ta
         ∙ ap (λ (xs : List ℕ). map (λ (t : Tally). t.index) (had tss place) ++ xs) (map-same (fresh_tally place) (λ (t : Tally). t.index) (λ x. refl) rest)
         ∙ sym first
 
-    -- and each has a name
-    pub module-named : All (IsNamed (tables_in new)) (tallies_at place m (had tss place))
-    module-named =
-        subst (λ (ts : List Tally). All (IsNamed (tables_in new)) ts) (sym tallies-are)
-        (All-append (IsNamed (tables_in new)) (had tss place) (map (fresh_tally place) rest) (all-had (IsNamed (tables_in new)) tss place named)
-        (All-map (IsNamed (tables_in new)) (fresh_tally place) rest
-        (All-second (λ (x : ℕ). IsSome (name_at (tables_in new) place x)) (map (λ (t : Tally). t.index) (had tss place)) rest
-        (subst (λ (xs : List ℕ). All (λ (x : ℕ). IsSome (name_at (tables_in new) place x)) xs) first all-named))))
-
   module _ (firsts : (i : ℕ) (m : Module) → slice_get (tables_in new) i ≡ Some m → (rest : List ℕ) × (scarce_indices m ≡ map (λ (t : Tally). t.index) (had tss i) ++ rest)) where
-    -- these modules stand from this place on
-    abbrev StandFrom : ℕ → List Module → Type 0
-    StandFrom place ms = (i : ℕ) (m : Module) → slice_get ms i ≡ Some m → slice_get (tables_in new) (place + i) ≡ Some m
-
-    head-at : (place : ℕ) (m : Module) (ms : List Module) → StandFrom place (m ∷ ms) → slice_get (tables_in new) place ≡ Some m
-    head-at place m ms at = let same : place + 0 ≡ place = omega arith in subst (λ (k : ℕ). slice_get (tables_in new) k ≡ Some m) same (at 0 m refl)
-
-    tail-at : (place : ℕ) (m : Module) (ms : List Module) → StandFrom place (m ∷ ms) → StandFrom (place + 1) ms
-    tail-at place m ms at i k e = let same : place + suc i ≡ place + 1 + i = omega arith in subst (λ (j : ℕ). slice_get (tables_in new) j ≡ Some k) same (at (suc i) k e)
-
-    each-tallied : (place : ℕ) (ms : List Module) (after : List (List Tally)) → StandFrom place ms → EachIs (had tss) place ms after → map (tallied (tables_in new))
+    each-tallied : (place : ℕ) (ms : List Module) (after : List (List Tally)) → StandFrom new store place ms → EachIs (had tss) place ms after → map (tallied (tables_in new))
         (all_of after) ≡ map (tally_of olds) (scarce_structs ms)
     each-tallied place [] [] at e = refl
     each-tallied place (m ∷ ms) (ts ∷ after) at e =
-        let here = head-at place m ms at in
+        let here = head-at new store place m ms at in
         let first = firsts place m here in
         map-append (tallied (tables_in new)) ts (all_of after)
         ∙ ap₂ (λ (xs ys : List Tallied). xs ++ ys) (ap (map (tallied (tables_in new))) e.0 ∙ module-tallied place m here first.0 first.1)
-        (each-tallied (place + 1) ms after (tail-at place m ms at) e.1)
+        (each-tallied (place + 1) ms after (tail-at new store place m ms at) e.1)
         ∙ sym (map-append (tally_of olds) (filter_map (scarce_name m) m.structs) (scarce_structs ms))
     each-tallied _ _ _ _ e = absurd e
 
-    each-scarce : (place : ℕ) (ms : List Module) (after : List (List Tally)) → StandFrom place ms → EachIs (had tss) place ms after → AreScarce ms after
+    each-scarce : (place : ℕ) (ms : List Module) (after : List (List Tally)) → StandFrom new store place ms → EachIs (had tss) place ms after → AreScarce ms after
     each-scarce place [] [] at e = tt
     each-scarce place (m ∷ ms) (ts ∷ after) at e =
-        let here = head-at place m ms at in
+        let here = head-at new store place m ms at in
         let first = firsts place m here in
-        (ap (map (λ (t : Tally). t.index)) e.0 ∙ module-scarce place m here first.0 first.1, each-scarce (place + 1) ms after (tail-at place m ms at) e.1)
+        (ap (map (λ (t : Tally). t.index)) e.0 ∙ module-scarce place m here first.0 first.1, each-scarce (place + 1) ms after (tail-at new store place m ms at) e.1)
     each-scarce _ _ _ _ e = e
-
-    each-named : (place : ℕ) (ms : List Module) (after : List (List Tally)) → StandFrom place ms → EachIs (had tss) place ms after → All (IsNamed (tables_in new)) (all_of after)
-    each-named place [] [] at e = All-nil (IsNamed (tables_in new))
-    each-named place (m ∷ ms) (ts ∷ after) at e =
-        let here = head-at place m ms at in
-        let first = firsts place m here in
-        All-append (IsNamed (tables_in new)) ts (all_of after) (subst (λ (us : List Tally). All (IsNamed (tables_in new)) us) (sym e.0) (module-named place m here first.0 first.1))
-        (each-named (place + 1) ms after (tail-at place m ms at) e.1)
-    each-named _ _ _ _ e = absurd e
-
--- none is large
-each-small : (runs : ℕ) (tss : List (List Tally)) (place : ℕ) (ms : List Module) (after : List (List Tally)) → EachIs (had tss) place ms after → All (IsSmall runs) (all_of tss) → All (IsSmall runs)
-    (all_of after)
-each-small runs tss place [] [] e small = All-nil (IsSmall runs)
-each-small runs tss place (m ∷ ms) (ts ∷ after) e small =
-    All-append (IsSmall runs) ts (all_of after)
-    (subst (λ (us : List Tally). All (IsSmall runs) us) (sym e.0)
-    (All-append (IsSmall runs) (had tss place) (map (fresh_tally place) (drop (length (had tss place)) (scarce_indices m))) (all-had (IsSmall runs) tss place small)
-    (All-map (IsSmall runs) (fresh_tally place) (drop (length (had tss place)) (scarce_indices m)) (λ k d lt. (omega arith, omega arith)))))
-    (each-small runs tss (place + 1) ms after e.1 small)
-each-small _ _ _ _ _ e _ = absurd e
 
 -- ---- a bundle
 
@@ -269,9 +186,6 @@ module _ (old new : List PublishedModule) (tss after : List (List Tally)) (old_s
   firsts-so : (i : ℕ) (m : Module) → slice_get (tables_in new) i ≡ Some m → (rest : List ℕ) × (scarce_indices m ≡ map (λ (t : Tally). t.index) (had tss i) ++ rest)
   firsts-so = had-first (tables_in old) (tables_in new) tss scarce inherits
 
-  stand : (i : ℕ) (m : Module) → slice_get (tables_in new) i ≡ Some m → slice_get (tables_in new) (0 + i) ≡ Some m
-  stand i m e = subst (λ (k : ℕ). slice_get (tables_in new) k ≡ Some m) (sym (zero-add i)) e
-
   -- tallies keep their structs
   tallied-so : map (tallied (tables_in new)) (all_of tss) ≡ map (tallied (tables_in old)) (all_of tss)
   tallied-so = map-where (IsNamed (tables_in old)) (tallied (tables_in new)) (tallied (tables_in old)) one (all_of tss) named
@@ -286,14 +200,8 @@ module _ (old new : List PublishedModule) (tss after : List (List Tally)) (old_s
 
   pub tallies-added : AddsTallies old new (all_of tss) (all_of after)
   tallies-added =
-      each-tallied new new_store tss placed named-so firsts-so 0 (tables_in new) after stand each
+      each-tallied new new_store tss placed named-so firsts-so 0 (tables_in new) after (all-stand new new_store) each
       ∙ ap (λ (ts : List Tallied). map (tally_of ts) (scarce_structs (tables_in new))) tallied-so
 
   pub scarce-added : AreScarce (tables_in new) after
-  scarce-added = each-scarce new new_store tss placed named-so firsts-so 0 (tables_in new) after stand each
-
-  pub named-added : All (IsNamed (tables_in new)) (all_of after)
-  named-added = each-named new new_store tss placed named-so firsts-so 0 (tables_in new) after stand each
-
-  pub small-added : (runs : ℕ) → All (IsSmall runs) (all_of tss) → All (IsSmall runs) (all_of after)
-  small-added runs small = each-small runs tss 0 (tables_in new) after each small
+  scarce-added = each-scarce new new_store tss placed named-so firsts-so 0 (tables_in new) after (all-stand new new_store) each

@@ -3,8 +3,8 @@ use Rattle.mv_ledger.proofs.Common.{[], ◌*◌, ◌++◌, ◌+◌, ◌<◌, ◌
 use Rattle.mv_ledger.proofs.Common.{All-cons, All-nil, same_Some, first_so, second_so, list_all, All, Module, PublishedModule, Refusal, NoMemory, Phase, AreBytes, FlatStorage, count, flat}
 use Rattle.mv_ledger.proofs.Common.{flat_storage, storage_of, LedgerState, Offer, scarce_structs, Tallied, Storage, is_fine_entry, is_fine_storage, IsStore, tables_in, fine_storage, IsFineWords}
 use Rattle.mv_ledger.proofs.Common.{StoreAccepted, StorageTyped, IsSoundLedger, IsAscending, FailsLoad, HasHead, IsLoadRefusal, IsLoaded, no_body, no_links, no_module, no_tallies, counts_of}
-use Rattle.mv_ledger.proofs.Common.{struct_of, AreCounted, AreJoined, AreNotJoined, EachBodyIsRead, EachReadIsBody, IsBody, IsNoBody, SavedHead, body_from, counted_by, head_from, reason_of}
-use Rattle.mv_ledger.proofs.Common.{AllPass, offered, offer_fits, HeadFits, IsSavedText, body_text, head_text, storage_text, tally_text, IsLedger, IsSmall, all_of, state_of, tallied, view_of, Link}
+use Rattle.mv_ledger.proofs.Common.{struct_of, AreCounted, AreNotJoined, EachBodyIsRead, EachReadIsBody, IsBody, IsNoBody, SavedHead, body_from, counted_by, head_from, reason_of}
+use Rattle.mv_ledger.proofs.Common.{AllPass, offered, offer_fits, HeadFits, IsSavedText, body_text, head_text, storage_text, tally_text, AreLinked, IsLedger, IsSmall, IsTalliedStore, all_of, state_of, tallied, view_of, Link}
 use Rattle.mv_ledger.proofs.Common.{BadModule, Tally}
 use Rattle.mv_interpreter.proofs.Flat.Decoding.{storage_decoded}
 use Rattle.mv_interpreter.proofs.Flat.Sizes.{sizes}
@@ -12,9 +12,9 @@ use Rattle.mv_ledger.specs.declared.saved.loading.LoadError.{LoadError}
 use Rattle.mv_ledger.specs.declared.saved.loading.LoadError.TheVariants.{Memory}
 use Rattle.mv_ledger.proofs.Accepted.Stores.{accepted_store}
 use Rattle.mv_ledger.proofs.Loads.LoadedHead.{head-parts, head-whole, head-had}
-use Rattle.mv_ledger.proofs.Loads.LoadedTallies.{counts-are, still-long, still-many, still-scarce, still-named, still-tallied}
+use Rattle.mv_ledger.proofs.Loads.LoadedTallies.{counts-are, still-many}
 use Rattle.mv_ledger.proofs.Spelling.{passed-spelled}
-use Rattle.mv_ledger.proofs.Bundles.Verifying.{as-many}
+use Rattle.mv_ledger.proofs.TalliedStores.{read-held, tallied-structs}
 use Rattle.mv_ledger.proofs.Lists.{all-weaker}
 use Rattle.mv_ledger.proofs.Phases.{phase-no-memory}
 
@@ -70,11 +70,10 @@ module _ (bytes : List ℕ) (head : SavedHead) (rest : List ℕ) (are : AreBytes
   pub head-few : length head.offers ≤ 4096
   head-few = (head-parts bytes rest head are begins).1.few
 
-  -- which are as many as the offers
-  pub few-joined : (ps : List PublishedModule) → AllPass head.offers ps → length ps ≤ 4096
-  few-joined ps passed = omega (arith, as-many head.offers ps passed, head-few)
+  module _ (ps : List PublishedModule) (tss : List (List Tally)) (every : AllPass head.offers ps) (held : IsTalliedStore ps tss) where
+    linked : AreLinked ps
+    linked = record { once = held.store.once; links = held.store.links }
 
-  module _ (ps : List PublishedModule) (tss : List (List Tally)) (joined : AreJoined head.offers ps tss) where
     -- a text of these modules ends in a body
     text-body : (s : LedgerState) → s.published ≡ ps → IsSavedText head.form bytes s → IsBody head.form (tables_in s.published) rest s.tallies s.storage
     text-body s is text =
@@ -86,14 +85,14 @@ module _ (bytes : List ℕ) (head : SavedHead) (rest : List ℕ) (are : AreBytes
     -- as many tallies as the modules have
     text-many : (s : LedgerState) → s.published ≡ ps → IsSavedText head.form bytes s → length s.tallies ≡ length (all_of tss)
     text-many s is text =
-        sym (length-map s.tallies (λ (t : Tallied). t.struct)) ∙ ap length (text.tallied ∙ ap (λ (qs : List PublishedModule). scarce_structs (tables_in qs)) is ∙ sym joined.tallied)
+        sym (length-map s.tallies (λ (t : Tallied). t.struct)) ∙ ap length (text.tallied ∙ ap (λ (qs : List PublishedModule). scarce_structs (tables_in qs)) is ∙ sym (tallied-structs ps tss held))
         ∙ length-map (map (tallied (tables_in ps)) (all_of tss)) (λ (t : Tallied). t.struct) ∙ length-map (all_of tss) (tallied (tables_in ps))
 
     -- so where no body is read the bytes are no text
     pub fails-body : EachBodyIsRead → IsNoBody head.form (tables_in ps) (length (all_of tss)) rest → FailsLoad bytes 4
-    fails-body reads none = no_body head.form head.runs head.offers ps has joined.passed joined.linked (λ s is text.
+    fails-body reads none = no_body head.form head.runs head.offers ps has every linked (λ s is text.
         let few : length s.published ≤ 65536 = omega (arith, length-map s.published offered, text.head.few) in
-        let read = reads head.form s.published rest s.tallies s.storage (subst IsStore (sym is) joined.store) few (text-body s is text) in
+        let read = reads head.form s.published rest s.tallies s.storage (subst IsStore (sym is) held.store) few (text-body s is text) in
         none (map counted_by s.tallies, flat_storage s.storage)
         (sym (ap₂ (λ (qs : List PublishedModule) (n : ℕ). body_from head.form (tables_in qs) n rest) is (text-many s is text)) ∙ read))
 
@@ -114,7 +113,7 @@ module _ (bytes : List ℕ) (head : SavedHead) (rest : List ℕ) (are : AreBytes
       head-is = (head-parts bytes rest head are begins).1
 
       found : (storage : Storage) × ((stored ≡ flat_storage storage) × IsBody head.form (tables_in ps) rest tallies storage)
-      found = parts head.form ps rest tallies stored joined.store (head-parts bytes rest head are begins).0.left few read-so
+      found = parts head.form ps rest tallies stored held.store (head-parts bytes rest head are begins).0.left few read-so
 
       abbrev storage : Storage
       storage = found.0
@@ -123,7 +122,7 @@ module _ (bytes : List ℕ) (head : SavedHead) (rest : List ℕ) (are : AreBytes
       body = found.1.1
 
       accepted : StoreAccepted (tables_in ps)
-      accepted = accepted_store ps joined.store
+      accepted = accepted_store ps held.store
 
       typed : StorageTyped (tables_in ps) storage
       typed = fine_storage (tables_in ps) accepted storage body.typed
@@ -135,16 +134,16 @@ module _ (bytes : List ℕ) (head : SavedHead) (rest : List ℕ) (are : AreBytes
       stored-fine = subst (All (IsFineWords (tables_in ps))) (sym found.1.0) (fine-words (tables_in ps) storage body.typed)
 
       offers-are : map offered ps ≡ head.offers
-      offers-are = offers-were head.offers ps joined.passed
+      offers-are = offers-were head.offers ps every
 
       structs-are : map (λ (t : Tallied). t.struct) tallies ≡ scarce_structs (tables_in ps)
-      structs-are = still-tallied (tables_in ps) tss uss kept ∙ joined.tallied
+      structs-are = tallied-structs ps uss (read-held ps tss held uss kept)
 
       ascending : IsAscending (storage_of (tables_in ps) stored)
       ascending = subst IsAscending (sym storage-is) body.ascending
 
       passed : AllPass (map offered ps) ps
-      passed = subst (λ (os : List Offer). AllPass os ps) (sym offers-are) joined.passed
+      passed = subst (λ (os : List Offer). AllPass os ps) (sym offers-are) every
 
       text : IsSavedText head.form bytes (state_of (view_of ps stored (all_of uss) head.runs))
       text = record {
@@ -163,16 +162,16 @@ module _ (bytes : List ℕ) (head : SavedHead) (rest : List ℕ) (are : AreBytes
 
       -- its tallies are not those of what is stored
       pub fails-tallied : (AreCounted head.runs (storage_of (tables_in ps) stored) (map (tallied (tables_in ps)) (all_of uss)) → ⊥) → FailsLoad bytes 5
-      fails-tallied wrong = no_tallies head.form (state_of (view_of ps stored (all_of uss) head.runs)) text passed joined.linked wrong
+      fails-tallied wrong = no_tallies head.form (state_of (view_of ps stored (all_of uss) head.runs)) text passed linked wrong
 
       module _ (counted : AreCounted head.runs (storage_of (tables_in ps) stored) (map (tallied (tables_in ps)) (all_of uss))) where
         -- the bytes are loaded
         pub is-loaded : IsLoaded bytes (state_of (view_of ps stored (all_of uss) head.runs))
-        is-loaded = record { form = head.form; text = text; passed = passed; linked = joined.linked; tallied = counted }
+        is-loaded = record { form = head.form; text = text; passed = passed; linked = linked; tallied = counted }
 
         sound : IsSoundLedger (state_of (view_of ps stored (all_of uss) head.runs))
         sound = record {
-          store = joined.store;
+          store = held.store;
           typed = subst (StorageTyped (tables_in ps)) (sym storage-is) typed;
           ascending = ascending;
           tallied = structs-are;
@@ -181,14 +180,10 @@ module _ (bytes : List ℕ) (head : SavedHead) (rest : List ℕ) (are : AreBytes
         }
 
         -- as a ledger
-        pub is-ledger : IsLedger ps stored uss head.runs
+        pub is-ledger : IsLedger ps stored (all_of uss) head.runs
         is-ledger = record {
-          few = few-joined ps joined.passed;
           sized = subst (λ (os : List Offer). IsTrue (list_all offer_fits os)) (sym offers-are) head-is.sized;
           fine = stored-fine;
-          placed = still-long (tables_in ps) tss uss kept ∙ joined.placed;
-          scarce = still-scarce (tables_in ps) tss uss kept joined.scarce;
-          named = still-named (tables_in ps) tss uss kept joined.named;
           small = small-counts (tables_in ps) head.runs (storage_of (tables_in ps) stored) (all_of uss) counted;
           counted = head-is.had;
           sound = sound;

@@ -59,11 +59,7 @@ small-after runs run ts few small =
     All-map (IsSmall (runs + 1)) (tally_after run) ts
     (All-weaker (IsSmall runs) (λ t. IsSmall (runs + 1) (tally_after run t)) (λ t h. let few = few t.place t.index in (omega (arith, h, few), omega (arith, h, few))) ts small)
 
--- a run leaves the tallies' structs
-pub named-after : (modules : List Module) (run : List StructTally) (ts : List Tally) → All (IsNamed modules) ts → All (IsNamed modules) (map (tally_after run) ts)
-named-after modules run ts named = All-map (IsNamed modules) (tally_after run) ts named
-
--- and their indices
+-- a run leaves the tallies' indices
 pub scarce-after : (run : List StructTally) (modules : List Module) (tss : List (List Tally)) → AreScarce modules tss → AreScarce modules (map (map (tally_after run)) tss)
 scarce-after run [] [] h = tt
 scarce-after run (m ∷ ms) (ts ∷ tss) h = (map-then (tally_after run) (λ (t : Tally). t.index) ts ∙ h.0, scarce-after run ms tss h.1)

@@ -2,7 +2,7 @@
 use Rattle.mv_ledger.proofs.Common.{[], ◌*◌, ◌+◌, ◌<◌, ◌^◌, ◌∷◌, ◌≡◌, ◌≤◌, IsTrue, List, arith, le-leb, length, map, refl, true, ℕ, and_from, and_parts, length-map, All-cons, All-head, All-nil}
 use Rattle.mv_ledger.proofs.Common.{All-tail, AllByRecursion, list_all, All, nat_le, Module, PublishedModule, IsReadByText, count, FlatEntry, storage_of, LedgerState, modules_of, Tallied}
 use Rattle.mv_ledger.proofs.Common.{IsPublishable, IsStore, tables_in, fine_storage, IsSoundLedger, AreTallied, AllPass, offered, offer_fits, EachLoadIsSaved, EachLoadIsSound, EachSaveIsLoaded}
-use Rattle.mv_ledger.proofs.Common.{IsSavable, First, Form, IsSavedText, Second, greatest_count, saved_text, tally_fits, IsLedger, IsSmall, all_of, state_of, tallied, view_of, Tally}
+use Rattle.mv_ledger.proofs.Common.{IsSavable, First, Form, IsSavedText, Second, greatest_count, saved_text, tally_fits, IsLedger, IsSmall, state_of, tallied, view_of, Tally}
 use Rattle.mv_ledger.proofs.Accepted.Stores.{accepted_store}
 use Rattle.mv_ledger.proofs.Accepted.Sound.{sound_stored}
 use Rattle.mv_ledger.proofs.Spelling.{text_bytes, read-spelled, spelled-read, passed-spelled}
@@ -140,15 +140,14 @@ few_made modules runs (t ∷ ts) all =
     (omega (arith, small), few_made modules runs ts (All-tail (IsSmall runs) t ts all))
 
 -- a ledger with few stored values is
-pub ledger-savable : IsReadByText → (published : List PublishedModule) (stored : List FlatEntry) (tallies : List (List Tally)) (runs : ℕ) → length stored < 2 ^ 63
-    → IsLedger published stored tallies runs → IsSavable (state_of (view_of published stored (all_of tallies) runs))
-ledger-savable reads published stored tallies runs few is =
+pub ledger-savable : IsReadByText → (published : List PublishedModule) (stored : List FlatEntry) (tallies : List Tally) (runs : ℕ) → length published ≤ 4096 → length stored < 2 ^ 63
+    → IsLedger published stored tallies runs → IsSavable (state_of (view_of published stored tallies runs))
+ledger-savable reads published stored tallies runs room few is =
     let as_many : length (map offered published) ≡ length published = length-map published offered in
-    let room : length published ≤ 4096 = is.few in
     let values : length (storage_of (tables_in published) stored) ≡ length stored = length-map stored _ in
     record {
       head = record { had = is.counted; few = omega (arith, as_many, room); sized = is.sized };
       passed = store_passed reads published is.sized is.sound.store.passed;
-      packs = few_made (tables_in published) runs (all_of tallies) is.small;
+      packs = few_made (tables_in published) runs tallies is.small;
       few = omega (arith, values, few);
     }

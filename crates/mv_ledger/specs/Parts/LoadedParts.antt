@@ -1,14 +1,12 @@
 -- The parts of which the loading of a ledger is made, and how they stand to its text.
 --   head_from       how a text begins. read_head reads it
 --   BeginsWith      the bytes begin with this head
---   AreJoined       what a ledger has of its modules before its tallies are read. Joined::join_offers gives it
---   AreNotJoined    why it has none
---   IsGathered      the same of modules on the way there, with stubs among them. Joined::publish keeps it
+--   AreNotJoined    why offered modules are none of a ledger. Published::of_offers says it
 --   IsOffered       a published module is the one that was offered. is_offered is the test
 --   body_from       what follows the modules: the tallies, which Tallies::read reads, and the values, which read_storage does
 --   IsNoBody        the bytes are no such thing with nothing after it
 --   AreCounted      the tallies are those of what is stored. are_tallied is the test
-use Rattle.std.specs.Prelude.{◌≡◌, ◌==◌, ℕ, ◌+◌, ◌*◌, ◌≤◌, cond, All, List, [], map, length, Option, Some, None, ⊤}
+use Rattle.std.specs.Prelude.{◌≡◌, ◌==◌, ℕ, ◌+◌, ◌*◌, ◌≤◌, cond, List, [], Option, Some, None, ⊤}
 use Rattle.std.specs.List.{AllByRecursion}
 use Rattle.mv_uleb.specs.Parsing.{number_from}
 use Rattle.mv_move_types.specs.Limits.{most_modules, most_runs, most_steps}
@@ -16,27 +14,24 @@ use Rattle.mv_move_types.specs.declared.refusal.Refusal.{Refusal}
 use Rattle.mv_move_types.specs.declared.refusal.Refusal.TheVariants.{Phase, Memory as NoMemory}
 use Rattle.mv_move_types.specs.Options.{◌>>=◌}
 use Rattle.mv_move_types.specs.Module.{Module}
-use Rattle.mv_move_types.specs.Published.{PublishedModule, with_modules}
+use Rattle.mv_move_types.specs.Published.{PublishedModule}
 use Rattle.mv_module_text.specs.Laws.{AreBytes}
 use Rattle.mv_module_text.specs.Parsing.{Read, byte_from, mark_from, entries_from, counted_from}
 use Rattle.mv_machine.specs.Count.{count}
-use Rattle.mv_machine.specs.Ledger.{Offer, scarce_structs}
+use Rattle.mv_machine.specs.Ledger.{Offer}
 use Rattle.mv_machine.specs.Lines.{Tallied}
 use Rattle.mv_machine.specs.State.{Storage}
 use Rattle.mv_storage.specs.FlatStorage.{FlatStorage}
 use Rattle.mv_certificate.specs.Certificate.{Certificate}
-use Rattle.mv_linker.specs.Link.{IsStore, MayJoin, tables_in}
 use Rattle.mv_ledger.specs.declared.saved.loading.LoadError.{LoadError}
 use Rattle.mv_ledger.specs.declared.saved.loading.LoadError.TheVariants.{Head as NoHead, Module as NoModule, Link as NoLink, Body as NoBody, Tally as NoTally, Memory}
 use Rattle.mv_ledger.specs.declared.saved.loading.head.Head.{Head}
-use Rattle.mv_ledger.specs.declared.tallies.Tally.{Tally}
 use Rattle.mv_ledger.specs.Asking.{offers_of}
 use Rattle.mv_ledger.specs.Parts.BodyParts.{form_of, tally_from, storage_into}
 use Rattle.mv_ledger.specs.Loading.{AreLinked}
 use Rattle.mv_ledger.specs.Payloads.{offer_from}
 use Rattle.mv_ledger.specs.Publishing.{AllPass, FailsAmong, Passes}
 use Rattle.mv_ledger.specs.SavedText.{Form, First, Second}
-use Rattle.mv_ledger.specs.View.{all_of, tallied, AreScarce, IsNamed}
 
 -- why bytes are not loaded where a part of them is refused
 abbrev pub reason_of : LoadError → Refusal → LoadError
@@ -85,29 +80,6 @@ pub record BeginsWith (bytes : List ℕ) (head : SavedHead) (rest : List ℕ) : 
   pub begins : head_from bytes ≡ Some (head, rest)
 
 -- ---- the modules
-
--- The offers pass and are linked, as these modules, and there is a tally of each of their structs with neither copy nor drop.
-pub record AreJoined (offers : List Offer) (published : List PublishedModule) (tallies : List (List Tally)) : Type 0 where
-  pub passed : AllPass offers published
-  pub linked : AreLinked published
-  pub store : IsStore published
-  pub placed : length tallies ≡ length published
-  pub scarce : AreScarce (tables_in published) tallies
-  pub named : All (IsNamed (tables_in published)) (all_of tallies)
-  pub tallied : map (λ t. t.struct) (map (tallied (tables_in published)) (all_of tallies)) ≡ scarce_structs (tables_in published)
-
--- What published modules have, whichever they are: they are linked, and there is a tally of each of their structs with neither copy
--- nor drop.
-pub record IsGathered (published : List PublishedModule) (tallies : List (List Tally)) : Type 0 where
-  pub store : IsStore published
-  pub placed : length tallies ≡ length published
-  pub scarce : AreScarce (tables_in published) tallies
-  pub named : All (IsNamed (tables_in published)) (all_of tallies)
-  pub tallied : map (λ t. t.struct) (map (tallied (tables_in published)) (all_of tallies)) ≡ scarce_structs (tables_in published)
-
--- more modules may join those that are there, whoever sends them
-abbrev pub MayFollow : List PublishedModule → List PublishedModule → Type 0
-MayFollow old new = MayJoin None (tables_in old) (tables_in new) (tables_in (with_modules old new))
 
 -- a published module is the one that was offered, which passes
 abbrev pub IsOffered : Offer → PublishedModule → Type 0

@@ -3,7 +3,8 @@ ghost use Rattle.std.specs.Prelude.{◌≡◌, ℕ, List, IfOk, IfErr};
 ghost use Rattle.mv_machine.specs.Ledger.{LedgerState};
 ghost use Rattle.mv_ledger.specs.Asking.{offers_of};
 ghost use Rattle.mv_ledger.specs.Loading.{IsLoaded, load_number, IsLoadRefusal};
-ghost use Rattle.mv_ledger.specs.Parts.LoadedParts.{head_of, reason_of, AreJoined, BeginsWith};
+ghost use Rattle.mv_ledger.specs.Parts.LoadedParts.{head_of, reason_of, BeginsWith};
+ghost use Rattle.mv_ledger.specs.Publishing.{AllPass};
 ghost use Rattle.mv_ledger.specs.SavedText.{IsSavedText, Second};
 ghost use Rattle.mv_ledger.specs.View.{all_of, state_of, view_of, IsLedger};
 
@@ -18,10 +19,10 @@ pub(crate) mod tallies;
 mod values;
 
 use crate::Ledger;
+use crate::published::Published;
 use balance::are_tallied;
 use body::read_body;
 use head::{Head, read_head};
-use modules::Joined;
 use mv_module_text::Reader;
 use mv_move_types::Refusal;
 use mv_storage::Storage;
@@ -93,13 +94,13 @@ fn read_stored(
     alloc: Global,
     reader: &mut Reader<'_>,
     head: &Head<'_>,
-    joined: &mut Joined,
+    joined: &mut Published,
 ) -> Result<Storage, LoadError>
     requires begun { (bytes : List ℕ) × BeginsWith bytes (head_of head.now) reader.old }
-    requires joined { AreJoined (offers_of head.now.offers.items) joined.old.store joined.old.tallies }
-    ensures whole { IfOk result (λ s. IsLedger joined.new.store s.committed joined.new.tallies head.now.runs) }
+    requires passed { AllPass (offers_of head.now.offers.items) joined.old.modules }
+    ensures whole { IfOk result (λ s. IsLedger joined.new.modules s.committed (all_of joined.new.tallies) head.now.runs) }
     ensures loaded { (bytes : List ℕ) → BeginsWith bytes (head_of head.now) reader.old
-        → IfOk result (λ s. IsLoaded bytes (state_of (view_of joined.new.store s.committed (all_of joined.new.tallies) head.now.runs))) }
+        → IfOk result (λ s. IsLoaded bytes (state_of (view_of joined.new.modules s.committed (all_of joined.new.tallies) head.now.runs))) }
     ensures refused { (bytes : List ℕ) → BeginsWith bytes (head_of head.now) reader.old → IfErr result (IsLoadRefusal bytes) }
 {
     let storage = match read_body(alloc, reader, head.form, &joined.store, &mut joined.tallies) {
@@ -118,14 +119,12 @@ fn load_after(alloc: Global, reader: &mut Reader<'_>, head: &Head<'_>) -> Result
     ensures loaded { (bytes : List ℕ) → BeginsWith bytes (head_of head.now) reader.old → IfOk result (λ l. IsLoaded bytes (state_of l)) }
     ensures refused { (bytes : List ℕ) → BeginsWith bytes (head_of head.now) reader.old → IfErr result (IsLoadRefusal bytes) }
 {
-    let mut joined = Joined::new(alloc);
-    joined.join_offers(alloc, &head.offers)?;
-    let storage = read_stored(alloc, reader, head, &mut joined)?;
+    let mut published = Published::of_offers(alloc, &head.offers)?;
+    let storage = read_stored(alloc, reader, head, &mut published)?;
     Ok(Ledger {
         alloc,
-        store: joined.store,
+        published,
         storage,
-        tallies: joined.tallies,
         runs: head.runs,
     })
 }

@@ -1,4 +1,6 @@
 use Rattle.mv_ledger.proofs.Common.{◌≡◌, [], ◌*◌, ◌∙◌, ◌∷◌, ◌≤◌, Some, ap, arith, length, subst, AsJson, AsText, ToldRefused, ToldLines, Replies, LedgerView, all_of, view_of, List, ℕ, sym, format_text}
+use Rattle.mv_ledger.proofs.Ledgers.{held-is, held-sound}
+use Rattle.mv_ledger.proofs.TalliedStores.{tallied-long}
 use Rattle.mv_ledger.proofs.Shows.Reports.{unasked_replies, audit_replies, audit-lines, audit-json, few_tallies}
 use Rattle.mv_ledger.specs.LinesView.{LinesView}
 use Rattle.mv_ledger.proofs.Ledger.audit_lines.Goals as goal
@@ -8,28 +10,36 @@ lines_in l = l.left
 
 pub returns-in_default-clause-replies : goal.returns-in_default-clause-replies
 returns-in_default-clause-replies c =
-    let held : LedgerView = view_of c.self.inside.store c.self.inside.storage.committed (all_of c.self.inside.tallies) c.self.inside.runs in
+    let held : LedgerView = view_of c.self.inside.published.modules c.self.inside.storage.committed (all_of c.self.inside.published.tallies) c.self.inside.runs in
     subst (λ (v : LedgerView). Replies 4 c.args.payload.now (Some (ToldRefused 1)) v v) c.self.view_is
     (unasked_replies 4 c.args.payload.now held (omega arith) c.in_default.ensures c.self.invariant.sound)
 
+pub of_tallies-requires-clause-aligned : goal.of_tallies-requires-clause-aligned
+of_tallies-requires-clause-aligned c = tallied-long _ _ c.published.invariant
+
 pub of_tallies-requires-clause-few : goal.of_tallies-requires-clause-few
 of_tallies-requires-clause-few c =
-    let most : length (all_of c.self.inside.tallies) ≤ 65536 * length c.self.inside.store = few_tallies c.self.inside.store c.self.inside.tallies c.self.invariant.sound.store.passed
-    c.self.invariant.scarce in
-    omega (arith, most, c.self.invariant.few)
+    let most : length (all_of c.published.inside.tallies) ≤ 65536 * length c.published.inside.store = few_tallies c.published.inside.store c.published.inside.tallies c.published.invariant.store.passed
+    c.published.invariant.scarce in
+    omega (arith, most, c.published.invariant.few)
+
+pub json_of_tallies-requires : goal.json_of_tallies-requires
+json_of_tallies-requires c = tallied-long _ _ c.published.invariant
 
 pub returns-in-Text-clause-replies : goal.returns-in-Text-clause-replies
 returns-in-Text-clause-replies c =
-    let held : LedgerView = view_of c.self.inside.store c.self.inside.storage.committed (all_of c.self.inside.tallies) c.self.inside.runs in
-    subst (λ (v : LedgerView). Replies 4 c.args.payload.now (Some (ToldLines c.of_tallies.result.left)) v v) c.self.view_is
-    (audit_replies c.args.payload.now held AsText c.of_tallies.result.left (rw c.in-Text.is at c.in-Some.ensures) c.self.invariant.sound (ap lines_in c.of_tallies.ensures ∙ audit-lines held c.self.invariant.sound))
+    let held : LedgerView = view_of c.published.inside.store c.self.inside.storage.committed (all_of c.published.inside.tallies) c.self.inside.runs in
+    let sound = held-sound _ c.self.inside.published c.self.inside.storage.committed c.self.inside.runs c.published.view_is c.self.invariant.sound in
+    subst (λ (v : LedgerView). Replies 4 c.args.payload.now (Some (ToldLines c.of_tallies.result.left)) v v) (held-is _ c.self.inside.published c.self.inside.storage.committed c.self.inside.runs c.published.view_is c.args.self.now c.self.view_is)
+    (audit_replies c.args.payload.now held AsText c.of_tallies.result.left (rw c.in-Text.is at c.in-Some.ensures) sound (ap lines_in c.of_tallies.ensures ∙ audit-lines held sound))
 
 pub returns-in-Json-clause-replies : goal.returns-in-Json-clause-replies
 returns-in-Json-clause-replies c =
-    let held : LedgerView = view_of c.self.inside.store c.self.inside.storage.committed (all_of c.self.inside.tallies) c.self.inside.runs in
-    subst (λ (v : LedgerView). Replies 4 c.args.payload.now (Some (ToldLines c.json_of_tallies.result.left)) v v) c.self.view_is
-    (audit_replies c.args.payload.now held AsJson c.json_of_tallies.result.left (rw c.in-Json.is at c.in-Some.ensures) c.self.invariant.sound
-    (ap lines_in c.json_of_tallies.ensures ∙ ap (λ text. text ∷ []) (audit-json held c.self.invariant.sound)))
+    let held : LedgerView = view_of c.published.inside.store c.self.inside.storage.committed (all_of c.published.inside.tallies) c.self.inside.runs in
+    let sound = held-sound _ c.self.inside.published c.self.inside.storage.committed c.self.inside.runs c.published.view_is c.self.invariant.sound in
+    subst (λ (v : LedgerView). Replies 4 c.args.payload.now (Some (ToldLines c.json_of_tallies.result.left)) v v) (held-is _ c.self.inside.published c.self.inside.storage.committed c.self.inside.runs c.published.view_is c.args.self.now c.self.view_is)
+    (audit_replies c.args.payload.now held AsJson c.json_of_tallies.result.left (rw c.in-Json.is at c.in-Some.ensures) sound
+    (ap lines_in c.json_of_tallies.ensures ∙ ap (λ text. text ∷ []) (audit-json held sound)))
 
 pub returns-in-Text-clause-format : goal.returns-in-Text-clause-format
 returns-in-Text-clause-format c =

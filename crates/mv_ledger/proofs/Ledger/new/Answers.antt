@@ -2,4 +2,4 @@ use Rattle.mv_ledger.proofs.Ledgers.{ledger-new}
 use Rattle.mv_ledger.proofs.Ledger.new.Goals as goal
 
 pub invariant_of-result : goal.invariant_of-result
-invariant_of-result c = ledger-new c.new.result c.new-2.result.committed c.new-3.result c.new.ensures c.new-2.ensures.committed c.new-3.ensures
+invariant_of-result c = ledger-new c.new.result c.new-2.result.committed c.new.ensures c.new-2.ensures.committed

@@ -1,14 +1,27 @@
-use Rattle.mv_ledger.proofs.Common.{◌+◌, ◌-◌, ◌^◌, ◌∙◌, ◌≡◌, List, ap, map, refl, rules, subst, sym, All, StructTally, Layers, FlatEntry, tables_in, AtMost, IsFineWords, tally_after}
-use Rattle.mv_ledger.proofs.Common.{AreScarce, IsNamed, IsSmall, all_of, Tally}
+use Rattle.mv_ledger.proofs.Common.{◌+◌, ◌-◌, ◌^◌, ◌∙◌, ◌≡◌, List, ap, map, refl, rules, subst, sym, All, StructTally, Layers, FlatEntry, tables_in, Agrees, AtMost, IsFineWords, run_of, tally_after}
+use Rattle.mv_ledger.proofs.Common.{IsSmall, IsTalliedStore, PublishedView, all_of, Tally}
 use Rattle.mv_machine.specs.declared.Ending.TheVariants.{Returned}
 use Rattle.mv_ledger.proofs.Runs.StoredRuns.{tallied-after, settled-returned, settled-kept, small-kept, runs-to}
-use Rattle.mv_ledger.proofs.Runs.ScarceTallies.{scarce-ordered}
-use Rattle.mv_ledger.proofs.Runs.TalliesAfter.{named-after, most-after, small-after, scarce-after}
+use Rattle.mv_ledger.proofs.Runs.TalliesAfter.{most-after, small-after}
+use Rattle.mv_ledger.proofs.TalliedStores.{tallied-named}
 use Rattle.mv_ledger.proofs.executing.execute.Goals as goal
-use Rattle.mv_ledger.proofs.executing.execute.Goals.{then-eq, else-eq}
+use Rattle.mv_ledger.proofs.executing.execute.Goals.{In-Ok, then-eq, else-eq}
 
-pub add_run-requires-clause-ordered : goal.add_run-requires-clause-ordered
-add_run-requires-clause-ordered c = scarce-ordered (tables_in c.args.store.now) c.args.tallies.now c.requires.scarce
+-- what the run left
+abbrev layers-of : In-Ok → Layers
+layers-of c = record { committed = c.args.storage.now.committed; current = c.run_over.new.storage.committed }
+
+-- it is the machine's run over the modules, and the tallies are theirs
+machine-of : (c : In-Ok) → Agrees (tables_in c.args.published.now.modules) (run_of c.args.published.now.modules c.args.storage.now.committed c.args.call.now) c.in-Ok.outcome c.in-Ok.tally.items (layers-of c)
+machine-of c =
+    subst (λ (p : PublishedView). Agrees (tables_in p.modules) (run_of p.modules c.args.storage.now.committed c.args.call.now) c.in-Ok.outcome c.in-Ok.tally.items (layers-of c))
+    c.published.view_is c.in-Ok.ensures.machine
+
+held-of : (c : In-Ok) → IsTalliedStore c.args.published.now.modules c.args.published.now.tallies
+held-of c = subst (λ (p : PublishedView). IsTalliedStore p.modules p.tallies) c.published.view_is c.published.invariant
+
+pub run_over-requires-clause-stored : goal.run_over-requires-clause-stored
+run_over-requires-clause-stored c = subst (λ (p : PublishedView). All (IsFineWords (tables_in p.modules)) c.args.storage.now.committed) (sym c.published.view_is) c.requires.stored
 
 pub add_run-requires-clause-few : goal.add_run-requires-clause-few
 add_run-requires-clause-few c =
@@ -16,63 +29,53 @@ add_run-requires-clause-few c =
     (most-after c.args.call.now.budget c.in-Ok.tally.items c.in-Ok.ensures.few c.requires.budget).1
 
 pub returns-after-eq-clause-stored : goal.returns-after-eq-clause-stored
-returns-after-eq-clause-stored c = c.in-Ok.ensures.fine
+returns-after-eq-clause-stored c = subst (λ (p : PublishedView). All (IsFineWords (tables_in p.modules)) c.run_over.new.storage.committed) c.published.view_is c.in-Ok.ensures.fine
 
 pub returns-in-Err-Memory-clause-stored : goal.returns-in-Err-Memory-clause-stored
 returns-in-Err-Memory-clause-stored c =
     let e : c.run_over.new.storage.committed ≡ c.args.storage.now.committed = rw c.in-Err-Memory.is at c.run_over.ensures.err in
-    subst (λ (z : List FlatEntry). All (IsFineWords (tables_in c.args.store.now)) z) (sym e) c.requires.stored
+    subst (λ (z : List FlatEntry). All (IsFineWords (tables_in c.args.published.now.modules)) z) (sym e) c.requires.stored
 
 pub returns-in-Err-Memory-clause-kept : goal.returns-in-Err-Memory-clause-kept
 returns-in-Err-Memory-clause-kept c =
     let e : c.run_over.new.storage.committed ≡ c.args.storage.now.committed = rw c.in-Err-Memory.is at c.run_over.ensures.err in
     (e, refl)
 
-pub returns-after-eq-clause-named : goal.returns-after-eq-clause-named
-returns-after-eq-clause-named c =
+pub returns-after-eq-clause-modules : goal.returns-after-eq-clause-modules
+returns-after-eq-clause-modules c =
     elim c.if-eq.branch [
-      | then-eq w ↦
-          let after : all_of c.if-eq.tallies ≡ map (tally_after c.in-Ok.tally.items) (all_of c.args.tallies.now) =
-          ap all_of w.tallies-is ∙ tallied-after c.in-Ok.tally.items w.deref.result.now c.args.tallies.now w.add_run.new.self w.add_run.ensures w.deref.ensures.value in
-          subst (λ (ts : List Tally). All (IsNamed (tables_in c.args.store.now)) ts) (sym after)
-          (named-after (tables_in c.args.store.now) c.in-Ok.tally.items (all_of c.args.tallies.now) c.requires.named)
-      | else-eq w ↦ rw w.tallies-is c.requires.named
+      | then-eq w ↦ ap (λ (p : PublishedView). p.modules) w.published-is ∙ w.add_run.ensures.modules
+      | else-eq w ↦ ap (λ (p : PublishedView). p.modules) w.published-is
     ]
 
 pub returns-after-eq-clause-small : goal.returns-after-eq-clause-small
 returns-after-eq-clause-small c = λ runs small.
     elim c.if-eq.branch [
       | then-eq w ↦
-          let after : all_of c.if-eq.tallies ≡ map (tally_after c.in-Ok.tally.items) (all_of c.args.tallies.now) =
-          ap all_of w.tallies-is ∙ tallied-after c.in-Ok.tally.items w.deref.result.now c.args.tallies.now w.add_run.new.self w.add_run.ensures w.deref.ensures.value in
+          let after : all_of c.if-eq.published.tallies ≡ map (tally_after c.in-Ok.tally.items) (all_of c.args.published.now.tallies) =
+          ap (λ (p : PublishedView). all_of p.tallies) w.published-is
+          ∙ tallied-after c.in-Ok.tally.items w.deref.result.now c.args.published.now.tallies w.add_run.new.self.tallies w.add_run.ensures.tallies w.deref.ensures.value in
           subst (λ (ts : List Tally). All (IsSmall (runs + 1)) ts) (sym after)
-          (small-after runs c.in-Ok.tally.items (all_of c.args.tallies.now) (most-after c.args.call.now.budget c.in-Ok.tally.items c.in-Ok.ensures.few c.requires.budget).0 small)
-      | else-eq w ↦ rw w.tallies-is (small-kept runs (all_of c.args.tallies.now) small)
-    ]
-
-pub returns-after-eq-clause-scarce : goal.returns-after-eq-clause-scarce
-returns-after-eq-clause-scarce c =
-    elim c.if-eq.branch [
-      | then-eq w ↦
-          subst (λ (tss : List (List Tally)). AreScarce (tables_in c.args.store.now) tss) (sym (w.tallies-is ∙ w.add_run.ensures))
-          (scarce-after w.deref.result.now (tables_in c.args.store.now) c.args.tallies.now c.requires.scarce)
-      | else-eq w ↦ rw w.tallies-is c.requires.scarce
+          (small-after runs c.in-Ok.tally.items (all_of c.args.published.now.tallies) (most-after c.args.call.now.budget c.in-Ok.tally.items c.in-Ok.ensures.few c.requires.budget).0 small)
+      | else-eq w ↦ rw w.published-is (small-kept runs (all_of c.args.published.now.tallies) small)
     ]
 
 pub returns-after-eq-clause-settled : goal.returns-after-eq-clause-settled
 returns-after-eq-clause-settled c =
-    let layers : Layers = record { committed = c.args.storage.now.committed; current = c.run_over.new.storage.committed } in
+    let here = (goal.at.returns-after-eq-clause-settled c).In-Ok in
+    let old = c.args.published.now in
     elim c.if-eq.branch [
       | then-eq w ↦
-          let after : all_of c.if-eq.tallies ≡ map (tally_after c.in-Ok.tally.items) (all_of c.args.tallies.now) =
-          ap all_of w.tallies-is ∙ tallied-after c.in-Ok.tally.items w.deref.result.now c.args.tallies.now w.add_run.new.self w.add_run.ensures w.deref.ensures.value in
+          let after : all_of c.if-eq.published.tallies ≡ map (tally_after c.in-Ok.tally.items) (all_of c.args.published.now.tallies) =
+          ap (λ (p : PublishedView). all_of p.tallies) w.published-is
+          ∙ tallied-after c.in-Ok.tally.items w.deref.result.now c.args.published.now.tallies w.add_run.new.self.tallies w.add_run.ensures.tallies w.deref.ensures.value in
           let ended : c.in-Ok.outcome.ending ≡ Returned = search rules in
-          settled-returned c.args.store.now c.args.call.now c.args.storage.now.committed c.run_over.new.storage.committed (all_of c.args.tallies.now) (all_of c.if-eq.tallies) c.in-Ok.outcome c.in-Ok.tally.items layers
-          c.requires.named c.in-Ok.ensures.machine ended refl after
+          settled-returned old.modules c.args.call.now c.args.storage.now.committed c.run_over.new.storage.committed (all_of old.tallies) (all_of c.if-eq.published.tallies) c.in-Ok.outcome
+          c.in-Ok.tally.items (layers-of here) (tallied-named _ _ (held-of here)) (machine-of here) ended refl after
       | else-eq w ↦
           let other : c.in-Ok.outcome.ending ≡ Returned → ⊥ = search rules in
-          settled-kept c.args.store.now c.args.call.now c.args.storage.now.committed c.run_over.new.storage.committed (all_of c.args.tallies.now) (all_of c.if-eq.tallies) c.in-Ok.outcome c.in-Ok.tally.items layers
-          c.in-Ok.ensures.machine other (c.in-Ok.ensures.other other) (ap all_of w.tallies-is)
+          settled-kept old.modules c.args.call.now c.args.storage.now.committed c.run_over.new.storage.committed (all_of old.tallies) (all_of c.if-eq.published.tallies) c.in-Ok.outcome
+          c.in-Ok.tally.items (layers-of here) (machine-of here) other (c.in-Ok.ensures.other other) (ap (λ (p : PublishedView). all_of p.tallies) w.published-is)
     ]
 
 pub returns-after-eq-clause-kept : goal.returns-after-eq-clause-kept
@@ -81,5 +84,5 @@ returns-after-eq-clause-kept c =
       | then-eq w ↦ let ended : c.in-Ok.outcome.ending ≡ Returned = search rules in runs-to c.in-Ok.outcome _ _ _ _ (λ other. absurd (other ended))
       | else-eq w ↦
           let other : c.in-Ok.outcome.ending ≡ Returned → ⊥ = search rules in
-          runs-to c.in-Ok.outcome _ _ _ _ (λ _. (c.in-Ok.ensures.other other, ap all_of w.tallies-is))
+          runs-to c.in-Ok.outcome _ _ _ _ (λ _. (c.in-Ok.ensures.other other, ap (λ (p : PublishedView). all_of p.tallies) w.published-is))
     ]

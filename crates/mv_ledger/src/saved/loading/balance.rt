@@ -1,14 +1,14 @@
 // The tallies of a saved ledger against what it stores.
-ghost use Rattle.std.specs.Prelude.{◌≡◌, ◌*◌, ◌+◌, ◌↔◌, ◌≤◌, All, IsTrue, IfOk, length, map};
+ghost use Rattle.std.specs.Prelude.{◌≡◌, ◌*◌, ◌+◌, ◌↔◌, ◌≤◌, All, IsTrue, IfOk, map};
 ghost use Rattle.std.specs.List.{AllByRecursion};
-ghost use Rattle.mv_move_types.specs.Limits.{most_modules, most_steps};
+ghost use Rattle.mv_move_types.specs.Limits.{most_steps};
 ghost use Rattle.mv_interpreter.specs.Runs.{IsFineWords};
 ghost use Rattle.mv_linker.specs.Link.{tables_in};
 ghost use Rattle.mv_machine.specs.Flat.{storage_of};
 ghost use Rattle.mv_ledger.specs.Parts.CountRows.{Adds, AreAll, IsTallied};
 ghost use Rattle.mv_ledger.specs.Inside.{structs_in_part, structs_in_parts, structs_under};
 ghost use Rattle.mv_ledger.specs.Parts.LoadedParts.{AreCounted};
-ghost use Rattle.mv_ledger.specs.View.{all_of, tallied, AreScarce, IsNamed};
+ghost use Rattle.mv_ledger.specs.View.{all_of, tallied, IsTalliedStore};
 
 use crate::saved::counts::{Counts, stored_counts};
 use crate::saved::layouts::{Layouts, MOST_NESTING};
@@ -122,10 +122,8 @@ pub fn are_tallied(
     tallies: &Tallies,
     runs: u64,
 ) -> Result<bool, AllocError>
-    requires few { length store.now ≤ most_modules }
+    requires held { IsTalliedStore store.now tallies.now }
     requires stored { All (IsFineWords (tables_in store.now)) storage.now.committed }
-    requires named { All (IsNamed (tables_in store.now)) (all_of tallies.now) }
-    requires scarce { AreScarce (tables_in store.now) tallies.now }
     ensures { IfOk result (λ b. IsTrue b ↔ AreCounted runs (storage_of (tables_in store.now) storage.now.committed) (map (tallied (tables_in store.now)) (all_of tallies.now))) }
 {
     let layouts = Layouts::new(alloc, store)?;

@@ -1,26 +1,23 @@
 // The modules of a saved ledger join one by one, in their order, with a stub in place of each that names one which isn't there yet;
 // then each such module takes the place of its stub, and short ones do so together. So few are held decoded at once: no more than
 // 64, and all but the last of them have fewer than 65,536 bytes together.
-ghost use Rattle.std.specs.Prelude.{◌≡◌, ◌<◌, ◌≤◌, [], true, length, slice_get, IfOk, IfErr, IfSome, OnOk};
+ghost use Rattle.std.specs.Prelude.{◌≡◌, ◌<◌, ◌≤◌, true, length, slice_get, IfOk, IfErr, IfSome, OnOk};
 ghost use Rattle.std.specs.Str.{bytes_eq};
 ghost use Rattle.mv_move_types.specs.Limits.{most_modules};
 ghost use Rattle.mv_linker.specs.News.{AreTexts, HasItsTexts};
 ghost use Rattle.mv_ledger.specs.Asking.{offer_of, offers_of};
-ghost use Rattle.mv_ledger.specs.Parts.LoadedParts.{AreJoined, AreNotJoined, IsGathered, IsOffered, IsPassed};
+ghost use Rattle.mv_ledger.specs.Parts.LoadedParts.{AreNotJoined, IsOffered, IsPassed};
 ghost use Rattle.mv_ledger.specs.Publishing.{AllPass, IsRefusedAmong, IsRefusedOffer};
 
 use crate::payload::Offered;
+use crate::published::Published;
 use crate::publishing::{are_bytes, verified};
-use crate::saved::loading::modules::Joined;
 use crate::saved::loading::order::order;
 use crate::saved::loading::stubs::{Stub, Stubs};
 use crate::saved::loading::{LoadError, because};
 use mv_linker::{New, Store};
 use mv_move_types::Refusal;
 use std::alloc::{AllocError, Global};
-
-// How many modules a ledger has at most.
-const MOST_MODULES: usize = 4096;
 
 // How many modules take the places of stubs together at most.
 const MOST_TOGETHER: usize = 64;
@@ -91,21 +88,16 @@ fn next_news<'a>(
     Ok(news)
 }
 
-impl Joined {
+impl Published {
     /// Publishes modules, and says whether they could be. They can't be, where together they may not join those that are there, or
     /// where there are too many.
     fn publish_some(&mut self, alloc: Global, news: Vec<New<'_>>) -> Result<bool, AllocError>
-        requires texts { AreTexts news.items }
-        requires gathered { IsGathered self.old.store self.old.tallies }
-        ensures { IfOk result (λ done. done ≡ true → IsGathered self.new.store self.new.tallies) }
+        requires { AreTexts news.items }
     {
-        if self.store.len() > MOST_MODULES {
-            return Ok(false);
-        }
         if news.len() > MOST_TOGETHER {
             return Ok(false);
         }
-        match self.publish(alloc, news) {
+        match self.join(alloc, None, news) {
             Ok(()) => Ok(true),
             Err(Refusal::Phase(_)) => Ok(false),
             Err(Refusal::Memory) => Err(AllocError),
@@ -114,24 +106,10 @@ impl Joined {
 
     /// Publishes a module, and says whether it could be.
     fn publish_one(&mut self, alloc: Global, new: New<'_>) -> Result<bool, AllocError>
-        requires texts { HasItsTexts new }
-        requires gathered { IsGathered self.old.store self.old.tallies }
-        ensures { IfOk result (λ done. done ≡ true → IsGathered self.new.store self.new.tallies) }
+        requires { HasItsTexts new }
     {
         let news = vec![in alloc; new]?;
         self.publish_some(alloc, news)
-    }
-
-    /// Publishes an offered module, and says whether it could be.
-    fn publish_offer(&mut self, alloc: Global, offer: &Offered<'_>) -> Result<bool, AllocError>
-        requires { IsGathered self.old.store self.old.tallies }
-        ensures { IfOk result (λ done. done ≡ true → IsGathered self.new.store self.new.tallies) }
-    {
-        match verified(alloc, offer) {
-            Ok(new) => self.publish_one(alloc, new),
-            Err(Refusal::Phase(_)) => Ok(false),
-            Err(Refusal::Memory) => Err(AllocError),
-        }
     }
 
     /// Publishes a stub of this name, and says whether it could be.
@@ -140,32 +118,13 @@ impl Joined {
         alloc: Global,
         address: u128,
         name: &[u8],
-    ) -> Result<bool, AllocError>
-        requires { IsGathered self.old.store self.old.tallies }
-        ensures { IfOk result (λ done. done ≡ true → IsGathered self.new.store self.new.tallies) }
-    {
+    ) -> Result<bool, AllocError> {
         let stub = Stub::new(alloc, address, name)?;
         let offer = stub.offer();
-        self.publish_offer(alloc, &offer)
-    }
-
-    /// Publishes a module, or the stub of this name in its place; and says whether it could be.
-    fn publish_as(
-        &mut self,
-        alloc: Global,
-        new: New<'_>,
-        stub: Option<(u128, &[u8])>,
-    ) -> Result<bool, AllocError>
-        requires texts { HasItsTexts new }
-        requires gathered { IsGathered self.old.store self.old.tallies }
-        ensures { IfOk result (λ done. done ≡ true → IsGathered self.new.store self.new.tallies) }
-    {
-        match stub {
-            None => self.publish_one(alloc, new),
-            Some((address, name)) => {
-                drop(new);
-                self.publish_stub(alloc, address, name)
-            }
+        match verified(alloc, &offer) {
+            Ok(new) => self.publish_one(alloc, new),
+            Err(Refusal::Phase(_)) => Ok(false),
+            Err(Refusal::Memory) => Err(AllocError),
         }
     }
 
@@ -181,15 +140,19 @@ impl Joined {
         offer: &Offered<'_>,
         stubs: &mut Stubs,
     ) -> Result<bool, Refusal>
-        requires { IsGathered self.old.store self.old.tallies }
-        ensures gathered { IfOk result (λ done. done ≡ true → IsGathered self.new.store self.new.tallies) }
         ensures passed { OnOk result (IsPassed (offer_of offer.now)) }
         ensures refused { IfErr result (IsRefusedOffer (offer_of offer.now)) }
     {
         let new = verified(alloc, offer)?;
         let stub = stubs.needed_for(&self.store, new.module.module());
         stubs.put(stub.is_some())?;
-        let done = self.publish_as(alloc, new, stub)?;
+        let done = match stub {
+            None => self.publish_one(alloc, new)?,
+            Some((address, name)) => {
+                drop(new);
+                self.publish_stub(alloc, address, name)?
+            }
+        };
         Ok(done)
     }
 
@@ -204,9 +167,7 @@ impl Joined {
         offers: &[Offered<'_>],
         stubs: &mut Stubs,
     ) -> Result<bool, Refusal>
-        requires { IsGathered self.old.store self.old.tallies }
-        ensures gathered { IfOk result (λ done. done ≡ true → IsGathered self.new.store self.new.tallies) }
-        ensures refused { IfErr result (IsRefusedAmong (offers_of offers.now)) }
+        ensures { IfErr result (IsRefusedAmong (offers_of offers.now)) }
     {
         'each: for offer in offers {
             if !self.publish_next(alloc, offer, stubs)? {
@@ -223,9 +184,7 @@ impl Joined {
         offers: &[Offered<'_>],
         stubs: &Stubs,
     ) -> Result<bool, AllocError>
-        requires few { length offers.now ≤ most_modules }
-        requires gathered { IsGathered self.old.store self.old.tallies }
-        ensures { IfOk result (λ done. done ≡ true → IsGathered self.new.store self.new.tallies) }
+        requires { length offers.now ≤ most_modules }
     {
         let order = match order(alloc, &self.store, stubs, offers) {
             Ok(order) => order,
@@ -250,28 +209,32 @@ impl Joined {
         Ok(true)
     }
 
-    /// Joins these offered modules one by one, where none is there, and says whether they could be joined so.
+    /// These offered modules, which join one by one; none, where they can't.
     ///
     /// # Errors
     ///
     /// `Module`, where one of them fails one of phases 2 to 12; `Memory`, where a growth was refused.
-    pub fn join_singly(&mut self, alloc: Global, offers: &[Offered<'_>]) -> Result<bool, LoadError>
-        requires few { length offers.now ≤ most_modules }
-        requires empty { AreJoined [] self.old.store self.old.tallies }
-        ensures joined { IfOk result (λ done. done ≡ true → AreJoined (offers_of offers.now) self.new.store self.new.tallies) }
+    pub fn of_offers_singly(
+        alloc: Global,
+        offers: &[Offered<'_>],
+    ) -> Result<Option<Self>, LoadError>
+        requires { length offers.now ≤ most_modules }
+        ensures passed { IfOk result (λ found. IfSome found (λ p. AllPass (offers_of offers.now) p.modules)) }
         ensures refused { IfErr result (AreNotJoined (offers_of offers.now)) }
     {
+        let mut published = Published::new(alloc);
         let mut stubs = Stubs::new(alloc);
-        let published = match self.publish_each(alloc, offers, &mut stubs) {
-            Ok(published) => published,
+        let all = match published.publish_each(alloc, offers, &mut stubs) {
+            Ok(all) => all,
             Err(refusal) => return Err(because(refusal, LoadError::Module)),
         };
-        if !published {
-            return Ok(false);
+        if !all || !published.replace_stubs(alloc, offers, &stubs)? {
+            return Ok(None);
         }
-        if !self.replace_stubs(alloc, offers, &stubs)? {
-            return Ok(false);
+        if are_offered(&published.store, offers) {
+            Ok(Some(published))
+        } else {
+            Ok(None)
         }
-        Ok(are_offered(&self.store, offers))
     }
 }

@@ -1,7 +1,7 @@
 use Rattle.mv_ledger.proofs.Common.{◌+◌, ◌∙◌, ◌≡◌, Bool, ap, cond, sym, is_none, New}
 use Rattle.mv_ledger.proofs.Bundles.Placing.{placing-more, placing-low, none-so}
-use Rattle.mv_ledger.proofs.publishing.placed.Goals as goal
-use Rattle.mv_ledger.proofs.publishing.placed.Goals.{then-is_none, else-is_none}
+use Rattle.mv_ledger.proofs.published.placed.Goals as goal
+use Rattle.mv_ledger.proofs.published.placed.Goals.{then-is_none, else-is_none}
 
 pub extended-requires : goal.extended-requires
 extended-requires c =

@@ -1,5 +1,5 @@
 use Rattle.mv_ledger.proofs.Common.{◌+◌, ap, arith, nat_lt}
-use Rattle.mv_ledger.proofs.publishing.is_too_much.Goals as goal
+use Rattle.mv_ledger.proofs.published.is_too_much.Goals as goal
 
 pub overflow_add-result : goal.overflow_add-result
 overflow_add-result c = omega (arith, c.count_behind.ensures.few, c.requires)
