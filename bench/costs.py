@@ -599,6 +599,20 @@ def globals_gathered(count: int) -> Offered:
     return m.borrowing("", "&u64", code, state([0], ()) + ahead, ", ".join(f"R{n}" for n in range(count)))
 
 
+def globals_acquired(acquired: int, others: int, calls: int) -> Offered:
+    """A function that acquires so many globals is called so often, where so many other globals are stated to lead into a reference."""
+    m = Borrowing()
+    for n in range(acquired + others):
+        m.struct(f"R{n}", ASSET, "v: u64")
+    names = ", ".join(f"R{n}" for n in range(acquired))
+    m.function("ask", "", "", "", "".join(f"LdConst @0x1; ImmBorrowGlobal R{n}; Pop;" for n in range(acquired)) + "Ret", names, entry=False)
+    m.certificate += state((), ())
+    code = f"LdConst @0x1; ImmBorrowGlobal R{acquired}; ImmBorrowField R{acquired}.v; StLoc 0; Branch then; then: "
+    code += "LdConst @0x1; ImmBorrowGlobal R0; Pop;" + "Call ask;" * calls + "CopyLoc 0; Pop; Ret"
+    ahead = leading([1], [(GLOB, acquired + n, 0, (0,), 1) for n in range(others)])
+    return m.borrowing("", "&u64", code, state([0], ()) + ahead, f"{names}, R{acquired}")
+
+
 def from_first(count: int, to: int, path: Sequence[int] = (), is_open: int = 0) -> List[Leading]:
     """Edges to a reference from the first so many locals: from the value of the very first, and from the others, which are mutable
     references."""
@@ -697,6 +711,8 @@ def sought_blocks() -> Sequence[Tuple[str, Offered]]:
         ("500 borrows of fields of the last of 500 mutable copies, gathered, and 31 references stated ahead", fields_of_copies(500, 500, 30)),
         ("690 borrows of two locals, and 2,000 calls with 8 mutable references", borrows_and_calls(690, 2_000)),
         ("701 globals, gathered, and as many stated ahead", globals_gathered(701)),
+        ("3,000 calls that acquire 1,000 globals, where 900 others lead into a reference", globals_acquired(1_000, 900, 3_000)),
+        ("4,000 calls that acquire 8 globals, where 1,024 others lead into a reference", globals_acquired(8, 1_024, 4_000)),
         ("1,300 frozen copies of the last of 61 mutable references in one chain", frozen(61, 1_300)),
         ("1,400 copies that go, of the last of 18 mutable references in one chain, and 41 references stated ahead", copies_that_go(1_400, 41)),
         ("1,000 borrows of fields of the last of 17 mutable references in one chain, gathered, and 41 references stated ahead", fields_of_chained(1_000, 41)),

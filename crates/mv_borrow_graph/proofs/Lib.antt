@@ -1,6 +1,7 @@
 pub mod Tables
 pub mod Stacks
 pub mod Between
+pub mod Free
 pub mod Heirs
 pub mod Rows
 pub mod Unions

@@ -1,11 +1,10 @@
 -- What the rows of the rules make of edges.
 use Rattle.std.proofs.Common.{◌≡◌, ℕ, Bool, true, false, not, List, [], ◌∷◌, ◌++◌, length, drop, get_or, slice_get, ◌+◌, ◌-◌, ◌<◌, ◌≤◌, Option}
-use Rattle.std.proofs.Common.{Some, None, Result, refl, sym, ap, ◌∙◌, subst, arith, append_assoc, append-nil, true≢false}
+use Rattle.std.proofs.Common.{Some, None, Result, refl, sym, ap, ◌∙◌, subst, arith, append_assoc, append-nil}
 use Rattle.std.specs.Bool.{then_some}
-use Rattle.std.specs.List.{list_all, list_any}
+use Rattle.std.specs.List.{list_all}
 use Rattle.std.proofs.Common.{◌&&◌}
 use Rattle.std.specs.Prelude.{if◌then◌else◌}
-use Rattle.std.proofs.lemmas.Bool.{or_parts}
 use Rattle.std.proofs.lemmas.List.{drop_more, drop_all}
 use Rattle.mv_move_types.specs.declared.token.Token.{Token}
 use Rattle.mv_move_types.specs.declared.token.Token.TheVariants.{Plain, Reference, MutableReference}
@@ -17,7 +16,7 @@ use Rattle.mv_move_types.specs.Options.{◌>>=◌}
 use Rattle.mv_move_types.specs.Module.{own_acquires}
 use Rattle.mv_type_states.specs.TypesHold.{Point}
 use Rattle.mv_lattice.specs.declared.StepError.{StepError}
-use Rattle.mv_edges.specs.Edges.{Edge, is_global_node, same_node, here, inherited, an_edge, without_each}
+use Rattle.mv_edges.specs.Edges.{Edge, here, inherited, an_edge, without_each}
 use Rattle.mv_edges.specs.Ascending.{are_ascending}
 use Rattle.mv_edges.specs.Sorted.{sorted}
 use Rattle.mv_edges.proofs.Sorting.{ascending-sorted}
@@ -110,23 +109,3 @@ pub picked_all : (test : Token → Bool) (place i : ℕ) (types : List Token) (d
     → done ++ reference_nodes test (place + i) (drop i types) ≡ whole → done ≡ whole
 picked_all test place i types done whole h rest =
     sym (append-nil done) ∙ ap (λ ts. done ++ reference_nodes test (place + i) ts) (sym (drop_all i types h)) ∙ rest
-
--- ---- nodes from the last one on
-
--- ---- globals
-
-not_the_global : (n : Node) (t : ℕ) → is_global_node n ≡ false → same_node n (Glob t) ≡ false
-not_the_global (Slot l) t h = refl
-not_the_global (Glob u) t h = absurd (true≢false h)
-not_the_global n t h = refl
-
-global_free : (s : List Edge) (t : ℕ) → list_any (λ e. is_global_node e.from) s ≡ false → no_edge_out (Glob t) s ≡ true
-global_free [] t h = refl
-global_free (e ∷ s) t h =
-    let parts = or_parts (is_global_node e.from) (list_any (λ e. is_global_node e.from) s) h in
-    rw (not_the_global e.from t parts.0) (global_free s t parts.1)
-
--- where no edge leads out of any global, none leads out of these
-pub globals_free : (s : List Edge) (ts : List ℕ) → list_any (λ e. is_global_node e.from) s ≡ false → list_all (λ t. no_edge_out (Glob t) s) ts ≡ true
-globals_free s [] h = refl
-globals_free s (t ∷ ts) h = rw (global_free s t h) (globals_free s ts h)

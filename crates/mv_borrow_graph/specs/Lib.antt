@@ -1,4 +1,5 @@
 pub mod BorrowRules
+pub mod Calls
 pub mod Domain
 pub mod Laws
 pub mod Nodes

@@ -56,36 +56,6 @@ pub fn is_free(node: Node, s: &Graph) -> bool
     !s.has_out_of(node)
 }
 
-/// Whether no edge leads out of a node, if it is asked for.
-fn is_free_if(asked: bool, node: Node, s: &Graph) -> bool
-    ensures { result ≡ (not asked || no_edge_out node s.now) }
-{
-    !asked || is_free(node, s)
-}
-
-/// Whether no edge leads out of the mutable references among these types, which stand on the stack from a place on.
-pub fn are_free(place: usize, tokens: &[Token], s: &Graph) -> bool
-    requires { place + length tokens.now ≤ 2 ^ 16 }
-    ensures { result ≡ list_all (λ n. no_edge_out n s.now) (reference_nodes is_mutable_token place tokens.now) }
-{
-    for (i, token) in tokens.iter().enumerate() {
-        let node = Node::Temp((place + i) as u16);
-        if !is_free_if(is_mutable_reference(*token), node, s) {
-            return false;
-        }
-    }
-    true
-}
-
-/// Whether no edge leads out of any of these globals.
-pub fn are_free_globals(definitions: &[u16], s: &Graph) -> bool
-    ensures { result ≡ list_all (λ t. no_edge_out (Glob t) s.now) definitions.now }
-{
-    definitions
-        .iter()
-        .all(|definition| is_free(Node::Glob(*definition), s))
-}
-
 /// Whether a type is a reference, or a mutable one where only those are asked for.
 fn is_picked(only_mutable: bool, token: Token) -> bool
     ensures { result ≡ is_picked only_mutable token }

@@ -25,7 +25,7 @@ pub use Rattle.mv_move_types.specs.declared.borrow.Node.TheVariants.{Glob, Own, 
 pub use Rattle.mv_edges.specs.Ascending.{are_ascending, edge_before, edge_order, label_before, list_before, node_code, nodes_code}
 pub use Rattle.mv_edges.specs.Between.{agrees_if, any_between, but_at, composed, is_here}
 pub use Rattle.mv_edges.specs.Counts.{IsCounted, IsWithin, counted}
-pub use Rattle.mv_edges.specs.Edges.{Edge, Label, agrees, an_edge, but_out_of, changed, edge_leq, edges_leq, extended, here, inherited, into, is_global_node, label_leq, longest, opened, without_each}
+pub use Rattle.mv_edges.specs.Edges.{Edge, Label, agrees, an_edge, but_out_of, changed, edge_leq, edges_leq, extended, here, inherited, into, label_leq, longest, opened, without_each}
 pub use Rattle.mv_edges.specs.Edges.{opened_at, out_of, renamed, renamed_node, same_edge, same_node, without}
 pub use Rattle.mv_edges.specs.Equality.{same_edge_decides, same_node_decides}
 pub use Rattle.mv_edges.specs.Graph.{Heir, taken_over}

@@ -1,5 +1,5 @@
 -- The order of edges is strict and total.
-use Rattle.mv_edges.proofs.Common.{[], ℕ, ◌&&◌, ◌++◌, ◌||◌, ◌∙◌, ◌≡◌, Bool, List, ap, drop, false, not, refl, sym, true, true≢false, bytes_decides, bytes_eq, Node, Glob, Own, Slot, Temp}
+use Rattle.mv_edges.proofs.Common.{[], ℕ, ◌&&◌, ◌++◌, ◌||◌, ◌∙◌, ◌≡◌, Bool, List, ap, false, not, refl, sym, true, true≢false, bytes_decides, bytes_eq, Node, Glob, Own, Slot, Temp}
 use Rattle.mv_edges.proofs.Common.{edge_before, list_before, node_code, nodes_code, Edge, false_from_ne_true, or_left}
 use Rattle.mv_edges.proofs.Insertion.{IsStrictOrder}
 use Rattle.mv_edges.proofs.Lexicographic.{IsStrictUpTo, list_before_strict, key_then, then_strict}

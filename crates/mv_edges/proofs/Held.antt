@@ -1,6 +1,6 @@
 -- What is known of a graph is a list in its order: what changes of the edges that its ways stand for make of it.
 use Rattle.mv_edges.proofs.Common.{[], ℕ, ◌&&◌, ◌++◌, ◌==◌, ◌∙◌, ◌∷◌, ◌≡◌, Bool, List, None, Option, Some, ap, false, flat_map, length, not, refl, sym, true, list_any, Node}
-use Rattle.mv_edges.proofs.Common.{agrees_if, any_between, Edge, agrees, an_edge, but_out_of, edges_leq, extended, here, inherited, is_global_node}
+use Rattle.mv_edges.proofs.Common.{agrees_if, any_between, Edge, agrees, an_edge, but_out_of, edges_leq, extended, here, inherited}
 use Rattle.mv_edges.proofs.Common.{opened, out_of, renamed, same_node, without, Heir, taken_over, without_each, sorted}
 use Rattle.mv_edges.proofs.Between.{any_at_all, list_any-alike, list_any-filter}
 use Rattle.mv_edges.proofs.Settled.{sorted-append, sorted-sorted, sorted-without, sorted-but_out_of, sorted-renamed, sorted-inherited, sorted-inherited_all, sorted-flat_map_alike}
@@ -84,12 +84,3 @@ module _ (es : List Edge) where
       plain false y = refl
       plain true false = refl
       plain true true = refl
-
-  pub held_globals : any_between is_global_node None (λ m. true) es ≡ list_any (λ e. is_global_node e.from) (sorted es)
-  held_globals =
-      held_between is_global_node (λ m. true) None
-      ∙ list_any-alike (λ e. is_global_node e.from && (true && true)) (λ e. is_global_node e.from) (λ e. plain (is_global_node e.from)) (sorted es)
-    where
-      plain : (x : Bool) → (x && (true && true)) ≡ x
-      plain false = refl
-      plain true = refl

@@ -41,13 +41,6 @@ same_node (Glob i) (Glob j) = i == j
 same_node (Temp i) (Temp j) = i == j
 same_node _ _ = false
 
--- whether a node is a global
-abbrev pub is_global_node : Node → Bool
-is_global_node (Slot l) = false
-is_global_node (Own l) = false
-is_global_node (Glob t) = true
-is_global_node (Temp k) = false
-
 -- whether two labels are one
 abbrev pub same_label : Label → Label → Bool
 same_label a b = bytes_eq a.path b.path && beq a.is_open b.is_open

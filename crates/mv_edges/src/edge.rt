@@ -2,7 +2,7 @@
 ghost use Rattle.std.specs.Prelude.{◌≡◌, ◌≤◌, length, true, IfOk};
 ghost use Rattle.std.specs.Ordering.{ordering_then, nat_cmp, bool_cmp};
 ghost use Rattle.std.specs.Cmp.Lexicographic.{slice_cmp};
-ghost use Rattle.mv_edges.specs.Edges.{here, an_edge, is_global_node, same_node, renamed_node, changed, edge_leq, opened_at};
+ghost use Rattle.mv_edges.specs.Edges.{here, an_edge, same_node, renamed_node, changed, edge_leq, opened_at};
 ghost use Rattle.mv_edges.specs.Ascending.{node_code, nodes_code, edge_before, edge_order};
 
 use super::label::{Change, Label};
@@ -107,16 +107,6 @@ impl Edge {
         ensures { result ≡ same_node self.now.from n }
     {
         is_same(self.from, n)
-    }
-
-    /// Whether the edge leads out of a global.
-    pub(crate) fn starts_at_global(&self) -> bool
-        ensures { result ≡ is_global_node self.now.from }
-    {
-        match self.from {
-            Node::Glob(_) => true,
-            Node::Slot(_) | Node::Own(_) | Node::Temp(_) => false,
-        }
     }
 
     /// Whether the edge leads to the node.

@@ -1,13 +1,13 @@
 // A borrow graph on its way through a block.
 ghost use Rattle.std.specs.Prelude.{◌≡◌, ◌==◌, ◌++◌, ◌∷◌, [], length, not, IfOk, OnOk};
 ghost use Rattle.std.specs.List.{list_any};
-ghost use Rattle.mv_edges.specs.Edges.{agrees, an_edge, but_out_of, edges_leq, extended, here, inherited, is_global_node, out_of, renamed, without, without_each};
+ghost use Rattle.mv_edges.specs.Edges.{agrees, an_edge, but_out_of, edges_leq, extended, here, inherited, out_of, renamed, without, without_each};
 ghost use Rattle.mv_edges.specs.Sorted.{sorted};
 ghost use Rattle.mv_edges.specs.Between.{any_between};
 ghost use Rattle.mv_edges.specs.Graph.{taken_over};
 
 use super::Edges;
-use super::nodes::{All, Globals, NodeSet, One};
+use super::nodes::{All, NodeSet, One};
 use super::ways::WayGraph;
 use mv_move_types::Node;
 use std::alloc::{AllocError, Global};
@@ -162,14 +162,6 @@ impl Graph {
         ensures { result ≡ list_any (λ e. agrees position e.label) (out_of n self.now) }
     {
         self.ways.any_between(&One(n), Some(position), &All)
-    }
-
-    /// Whether an edge leads out of a global.
-    #[tactic(auto, using(crate::proofs::Held::held_globals))]
-    pub fn has_out_of_globals(&self) -> bool
-        ensures { result ≡ list_any (λ e. is_global_node e.from) self.now }
-    {
-        self.ways.any_between(&Globals, None, &All)
     }
 
     /// Whether an edge leads from some nodes to others, and agrees with a position, if one is asked for.

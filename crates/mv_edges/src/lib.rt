@@ -40,5 +40,5 @@ pub use edge::Edge;
 pub use edges::Edges;
 pub use graph::{Graph, Heir};
 pub use label::{Change, Label};
-pub use nodes::{All, Globals, NodeSet, One};
+pub use nodes::{All, NodeSet, One};
 pub use search::leq_counted;

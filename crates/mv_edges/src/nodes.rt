@@ -58,17 +58,3 @@ impl NodeSet for All {
         true
     }
 }
-
-/// The set of all globals.
-#[derive(Drop, Clone, Copy)]
-pub struct Globals;
-
-impl NodeSet for Globals {
-    ghost use Rattle.mv_edges.specs.Edges.{is_global_node};
-
-    ghost test = { λ s n. is_global_node n };
-
-    fn has(&self, node: Node) -> bool {
-        matches!(node, Node::Glob(_))
-    }
-}

@@ -14,7 +14,8 @@ ghost use Rattle.mv_borrow_graph.specs.BorrowRules.{opened_edges, reference_node
 ghost use Rattle.mv_borrow_graph.specs.Domain.{Follows, ordered};
 
 use crate::changes::keep;
-use crate::nodes::{are_free, are_free_globals, is_operand, is_root, nodes_of};
+use crate::needed::are_free;
+use crate::nodes::{is_operand, is_root, nodes_of};
 use crate::site::Site;
 use mv_edges::{Graph, Heir, NodeSet};
 use mv_lattice::StepError;
@@ -162,24 +163,14 @@ impl<'d, 'm> Site<'d, 'm> {
         self.stack.len().saturating_sub(count)
     }
 
-    /// Whether no edge leads out of the globals that a function acquires. Where none leads out of any global, it isn't asked
-    /// which those are.
-    fn are_acquired_free(&self, callee: u16, s: &Graph) -> bool
-        ensures { result ≡ list_all (λ t. no_edge_out (Glob t) s.now) (own_acquires self.now.home callee) }
-    {
-        if !s.has_out_of_globals() {
-            return true;
-        }
-        are_free_globals(self.module.own_acquires(callee), s)
-    }
-
     /// Whether no edge leads out of a call's mutable arguments, or of the globals that the function acquires.
     fn may_call(&self, place: usize, parameters: &[Token], callee: u16, s: &Graph) -> bool
         requires { place + length parameters.now ≤ 2 ^ 16 }
         ensures { result ≡ (list_all (λ n. no_edge_out n s.now) (reference_nodes is_mutable_token place parameters.now)
             && list_all (λ t. no_edge_out (Glob t) s.now) (own_acquires self.now.home callee)) }
     {
-        are_free(place, parameters, s) && self.are_acquired_free(callee, s)
+        let acquired = self.module.own_acquires(callee);
+        are_free(place, parameters, acquired, s)
     }
 
     /// Calls a function: its mutable arguments and the globals that it acquires have to be free.

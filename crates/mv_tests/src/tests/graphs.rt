@@ -1,7 +1,7 @@
 // Borrow graphs on their way through a block, beside what the same steps make of lists of edges.
 
-use super::lists::{but_out_of, inherited, leads_out_of, leads_out_of_globals, renamed, without};
-use mv_edges::{All, Change, Edge, Edges, Globals, Graph, Heir, Label, One};
+use super::lists::{but_out_of, inherited, leads_out_of, renamed, without};
+use mv_edges::{All, Change, Edge, Edges, Graph, Heir, Label, One};
 use mv_move_types::Node;
 use std::alloc::{AllocError, Global};
 use std::test::Fail;
@@ -286,9 +286,6 @@ fn answers_alike(alloc: Global, count: u8) -> Result<bool, AllocError> {
     for end in 0..CHAIN.len() + 1 {
         let graph = after(alloc, &CHAIN[..end], some_edges(alloc, count)?)?;
         let edges = edges_after(alloc, &CHAIN[..end], some_edges(alloc, count)?)?;
-        if graph.has_out_of_globals() != leads_out_of_globals(&edges) {
-            return Ok(false);
-        }
         for n in NODES {
             if !answers_out_of(&graph, &edges, n) {
                 return Ok(false);
@@ -331,8 +328,8 @@ fn the_first_position_decides(rt: HostRuntime) -> Result<(), Fail> {
     );
     assert!(rt; graph.any_between(&One(Node::Own(9)), Some(6), &All));
     assert!(rt; !graph.any_between(&One(Node::Own(9)), Some(4), &All));
-    assert!(rt; graph.any_between(&Globals, None, &One(Node::Slot(4))));
-    assert!(rt; !graph.any_between(&Globals, None, &One(Node::Slot(9))));
+    assert!(rt; graph.any_between(&One(Node::Glob(2)), None, &One(Node::Slot(4))));
+    assert!(rt; !graph.any_between(&One(Node::Glob(2)), None, &One(Node::Slot(9))));
     Ok(())
 }
 

@@ -67,13 +67,3 @@ pub fn leads_out_of(edges: &Edges, n: Node, position: Option<u8>) -> bool {
     }
     false
 }
-
-/// Whether an edge leads out of a global.
-pub fn leads_out_of_globals(edges: &Edges) -> bool {
-    for e in edges.as_slice() {
-        if matches!(e.from(), Node::Glob(_)) {
-            return true;
-        }
-    }
-    false
-}
