@@ -87,14 +87,11 @@ with_more (s ∷ ss) (x ∷ es) (suc i) k e h g =
     ap (λ n. with_edges (take n (s ∷ ss)) (take n (x ∷ es))) next ∙ ap (λ r. known_with s x ∷ r) (with_more ss es i k e (omega arith) (omega arith))
 
 -- the same of what was read of both lists
-pub with_next : (blocks new view ss : Stated) (es : List (Option (List Edge))) (i : ℕ) (k x : Option Known) (e : Option (List Edge)) → new ≡ blocks ++ x ∷ [] → x ≡ known_with k e → view ≡ ss
-    → i < length view → k ≡ get_or view i k → i < length es → e ≡ get_or es i e
-    → blocks ≡ with_edges (take i ss) (take i es) → new ≡ with_edges (take (i + 1) ss) (take (i + 1) es)
-with_next blocks new view ss es i k x e pushed made same low read_k high read_e before =
-    let ss_low : i < length ss = subst (λ (z : Stated). i < length z) same low in
-    let k_is : k ≡ get_or ss i k = read_k ∙ ap (λ (z : Stated). get_or z i k) same in
-    let x_is : x ≡ known_with (get_or ss i k) (get_or es i e) = made ∙ ap (λ z. known_with z e) k_is ∙ ap (λ z. known_with (get_or ss i k) z) read_e in
-    pushed ∙ ap (λ z. z ++ x ∷ []) before ∙ ap (λ z. with_edges (take i ss) (take i es) ++ z ∷ []) x_is ∙ sym (with_more ss es i k e ss_low high)
+pub with_next : (blocks new ss : Stated) (es : List (Option (List Edge))) (i : ℕ) (x : Option Known) (e : Option (List Edge)) → new ≡ blocks ++ x ∷ [] → x ≡ known_with (get_or ss i None) e
+    → i < length ss → i < length es → e ≡ get_or es i e → blocks ≡ with_edges (take i ss) (take i es) → new ≡ with_edges (take (i + 1) ss) (take (i + 1) es)
+with_next blocks new ss es i x e pushed made low high read before =
+    let x_is : x ≡ known_with (get_or ss i None) (get_or es i e) = made ∙ ap (known_with (get_or ss i None)) read in
+    pushed ∙ ap (λ z. z ++ x ∷ []) before ∙ ap (λ z. with_edges (take i ss) (take i es) ++ z ∷ []) x_is ∙ sym (with_more ss es i None e low high)
 
 -- ---- the shape
 

@@ -1,5 +1,5 @@
 // The least edges of each function that hold.
-ghost use Rattle.std.specs.Prelude.{◌≡◌, ◌<◌, not, length, Some, slice_get, nat_le, IfOk, IfErr, OnOk, IsTrue};
+ghost use Rattle.std.specs.Prelude.{◌≡◌, ◌<◌, not, length, Option, Some, slice_get, nat_le, IfOk, IfErr, OnOk, IsTrue};
 ghost use Rattle.std.specs.List.{list_all};
 ghost use Rattle.mv_borrow_graph.specs.BorrowRules.{is_reference_token};
 ghost use Rattle.mv_certificate.specs.Certificate.{all_locals_hold, certificate_holds};
@@ -9,26 +9,29 @@ ghost use Rattle.mv_certificate.specs.Shape.{AllStatedFit};
 ghost use Rattle.mv_analyser.specs.Least.{HasLeastLocals, HasLeastEdges, AreLeastLocals, IsLeastCertificate};
 ghost use Rattle.mv_analyser.specs.Principal.{AllBefore, FindsEdges, FindsLocals, IsUnproved};
 ghost use Rattle.mv_analyser.specs.States.{known_with, with_edges, EndsEdges, IsErrorAt, IsComplexAt};
+ghost use Rattle.mv_certificate.specs.Certificate.{Known as KnownRecord};
 
 use crate::{ProveError, error_in};
 use mv_borrow_graph::BorrowDomain;
 use mv_certificate::{Cert, Known, Stated, function_at, function_count, graph_of, has_start};
 use mv_edges::Edges;
-use mv_lattice::{search_is_least, solve};
+use mv_lattice::{search_is_least, solve_by_passage};
 use mv_type_states::Typed;
 use std::alloc::{AllocError, Global};
 
-/// What is known of a block, with these edges.
+/// What is stated of a block, with these edges.
 fn known_and(
     alloc: Global,
-    known: &Option<Known>,
+    stated: &Stated,
+    block: usize,
     edges: &Option<Edges>,
 ) -> Result<Option<Known>, AllocError>
-    ensures { IfOk result (λ k. k ≡ known_with known.now edges.now) }
+    requires { block < length stated.now }
+    ensures { (known : Option KnownRecord) → slice_get stated.now block ≡ Some known → IfOk result (λ k. k ≡ known_with known edges.now) }
 {
-    match (known, edges) {
-        (Some(known), Some(edges)) => Ok(Some(Known {
-            locals: known.locals.copy(alloc)?,
+    match (stated.at(block), edges) {
+        (Some((locals, _)), Some(edges)) => Ok(Some(Known {
+            locals: locals.copy(alloc)?,
             edges: edges.copy(alloc)?,
         })),
         (_, _) => Ok(None),
@@ -40,11 +43,11 @@ fn stated_and(alloc: Global, stated: &Stated, edges: &[Option<Edges>]) -> Result
     requires { length edges.now ≡ length stated.now }
     ensures { IfOk result (λ s. s ≡ with_edges stated.now edges.now) }
 {
-    let mut blocks = Vec::new(alloc);
-    for (k, known) in stated.blocks.iter().enumerate() {
-        blocks.push(known_and(alloc, known, &edges[k])?)?;
+    let mut blocks = Stated::new(alloc);
+    for (k, its) in edges.iter().enumerate() {
+        blocks = blocks.with(known_and(alloc, stated, k, its)?)?;
     }
-    Ok(Stated { blocks })
+    Ok(blocks)
 }
 
 /// No struct has more than 32 fields, and no field is a reference.
@@ -82,7 +85,7 @@ fn state_edges(
     has_start(m, f, function);
     has_plain_fields(m);
     search_is_least(&domain, graph, &start);
-    match solve(alloc, &domain, graph, &start) {
+    match solve_by_passage(alloc, &domain, graph, &start) {
         Ok(least) => Ok(stated_and(alloc, stated, &least)?),
         Err(e) => Err(error_in(11, e)),
     }

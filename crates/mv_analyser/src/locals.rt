@@ -20,7 +20,7 @@ use std::alloc::{AllocError, Global};
 fn alone(alloc: Global, all: &[Option<Availabilities>]) -> Result<Stated, AllocError>
     ensures { IfOk result (λ s. s ≡ locals_alone all.now) }
 {
-    let mut blocks = Vec::new(alloc);
+    let mut blocks = Stated::new(alloc);
     for block in all {
         let known = match block {
             Some(locals) => Some(Known {
@@ -29,9 +29,9 @@ fn alone(alloc: Global, all: &[Option<Availabilities>]) -> Result<Stated, AllocE
             }),
             None => None,
         };
-        blocks.push(known)?;
+        blocks = blocks.with(known)?;
     }
-    Ok(Stated { blocks })
+    Ok(blocks)
 }
 
 /// The least availabilities of function `f` that hold, with no edges.

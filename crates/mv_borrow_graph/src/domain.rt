@@ -12,7 +12,7 @@ use super::site::{Site, leaves_edges};
 use mv_binary_format::FunctionDefinition;
 use mv_bounds::Bounded;
 use mv_edges::{Edge, Edges, Graph, MOST_EDGES, MOST_POSITIONS};
-use mv_lattice::{Domain, StepError};
+use mv_lattice::{Domain, Passage, StepError};
 use mv_move_types::{Instruction, Node};
 use mv_type_states::{StackTypes, Typed};
 use std::alloc::{AllocError, Global};
@@ -159,9 +159,6 @@ impl<'t, 'm> Domain for BorrowDomain<'t, 'm> {
 
     type State = Edges;
 
-    /// Within a block edges aren't carried as a list, but as ways by which references came about.
-    type Carried = Graph;
-
     ghost size = { λ d. length d.function.code };
 
     ghost is_graph = { λ d g. IsGraphOf d.home d.function g };
@@ -178,8 +175,6 @@ impl<'t, 'm> Domain for BorrowDomain<'t, 'm> {
 
     ghost is_small = { λ d s. IsTrue (are_few s) };
 
-    ghost goes_for = { λ d c s. c ≡ s };
-
     ghost laws = { λ d. edges_lawful d.home d.function };
 
     fn copy(&self, alloc: Global, s: &Edges) -> Result<Edges, AllocError> {
@@ -195,28 +190,42 @@ impl<'t, 'm> Domain for BorrowDomain<'t, 'm> {
         Edges::join(alloc, a, b)
     }
 
-    fn enter(&self, alloc: Global, s: &Edges, _spent: Option<Graph>) -> Result<Graph, AllocError>
-        requires { IsTrue (are_ascending s.now) }
-        ensures { IfOk result (λ c. c ≡ s.now) }
-    {
-        Graph::of_edges(alloc, s)
-    }
-
-    #[inline(always)]
-    fn pass(&self, alloc: Global, mut c: Graph, at: usize) -> Result<Graph, StepError> {
-        self.change(alloc, &mut c, at)?;
-        Ok(c)
-    }
-
-    fn is_under(&self, c: &Graph, u: &Edges) -> bool {
-        c.is_under(u)
-    }
-
-    fn leave(&self, alloc: Global, c: Graph) -> Result<Edges, AllocError> {
-        c.settled(alloc)
+    /// The edges are made a graph for the one instruction. A block's instructions in turn go by `Passage`.
+    fn step(&self, alloc: Global, s: Edges, at: usize) -> Result<Edges, StepError> {
+        let passing = Graph::of_edges(alloc, &s)?;
+        let after = self.pass(alloc, passing, at)?;
+        Ok(after.settled(alloc)?)
     }
 
     fn fits(&self, s: &Edges) -> bool {
         are_few(s.as_slice())
+    }
+}
+
+/// Within a block edges aren't a list, but a graph of how references came about.
+impl<'t, 'm> Passage for BorrowDomain<'t, 'm> {
+    ghost use Rattle.std.specs.Prelude.{◌≡◌, IfOk, IsTrue};
+    ghost use Rattle.mv_edges.specs.Ascending.{are_ascending};
+
+    type Passing = Graph;
+
+    ghost goes_for = { λ d p s. p ≡ s };
+
+    fn enter(&self, alloc: Global, s: &Edges) -> Result<Graph, AllocError> {
+        Graph::of_edges(alloc, s)
+    }
+
+    #[inline(always)]
+    fn pass(&self, alloc: Global, mut p: Graph, at: usize) -> Result<Graph, StepError> {
+        self.change(alloc, &mut p, at)?;
+        Ok(p)
+    }
+
+    fn is_under(&self, p: &Graph, u: &Edges) -> bool {
+        p.is_under(u)
+    }
+
+    fn leave(&self, alloc: Global, p: Graph) -> Result<Edges, AllocError> {
+        p.settled(alloc)
     }
 }

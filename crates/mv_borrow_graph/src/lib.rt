@@ -2,14 +2,14 @@
 //!
 //! ```
 //! use mv_borrow_graph::BorrowDomain;
-//! use mv_lattice::{SolveError, solve};
+//! use mv_lattice::{SolveError, solve_by_passage};
 //! use mv_type_states::Typed;
 //! use std::alloc::Global;
 //!
 //! /// Whether the borrows of a function can be told safe by some certificate. The function has to be there.
 //! fn example(alloc: Global, m: &Typed<'_>, f: usize) -> bool {
 //!     let domain = BorrowDomain::of_function(m, f);
-//!     match solve(alloc, &domain, m.graph(f), &domain.start(alloc)) {
+//!     match solve_by_passage(alloc, &domain, m.graph(f), &domain.start(alloc)) {
 //!         Ok(_) => true,
 //!         Err(SolveError::Need | SolveError::TooComplex | SolveError::Memory) => false,
 //!     }
@@ -19,6 +19,7 @@
 
 mod changes;
 mod domain;
+mod needed;
 mod nodes;
 mod rules;
 mod site;

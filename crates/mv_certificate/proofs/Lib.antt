@@ -12,3 +12,4 @@ pub mod Whole
 pub mod Functions
 pub mod Lists
 pub mod OneCertificate
+pub mod Paired

@@ -8,3 +8,4 @@ pub mod Verified
 pub mod Laws
 pub mod Functions
 pub mod Known
+pub mod Flows

@@ -3,7 +3,7 @@
 -- nothing.
 --   availability_from, node_from, label_from   an availability, a node and a label
 --   edge_from m d                              an edge that fits the function
---   edges_from m d                             edges after their number, which ascend (why: decision 27)
+--   edges_from m d                             edges after their number, which ascend (why: decision 52)
 --   known_from m d                             an availability for each local, and the edges
 --   block_from m d reached                     what is stated of a block that is reached, or isn't
 --   stated_from m d reached                    what is stated of the blocks of a function

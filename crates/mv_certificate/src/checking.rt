@@ -12,7 +12,7 @@ ghost use Rattle.mv_certificate.specs.Reads.{FitsAt};
 use super::certificate::{Cert, Stated};
 use super::shape;
 use mv_borrow_graph::BorrowDomain;
-use mv_lattice::{StepError, check_flow};
+use mv_lattice::{StepError, check_flow, check_flow_by_passage};
 use mv_locals_safety::LocalsDomain;
 use mv_move_types::Refusal;
 use mv_type_states::Typed;
@@ -39,7 +39,7 @@ fn check_locals_of(alloc: Global, m: &Typed<'_>, f: usize, stated: &Stated) -> R
     let start = domain.start(alloc)?;
     let function = shape::function_at(m, f);
     let graph = shape::graph_of(m, f, function);
-    match check_flow(alloc, &domain, graph, &start, &stated.blocks) {
+    match check_flow(alloc, &domain, graph, &start, stated.locals()) {
         Ok(()) => Ok(()),
         Err(e) => Err(refusal_in(10, e)),
     }
@@ -57,7 +57,7 @@ fn check_edges_of(alloc: Global, m: &Typed<'_>, f: usize, stated: &Stated) -> Re
     let function = shape::function_at(m, f);
     let graph = shape::graph_of(m, f, function);
     shape::has_start(m, f, function);
-    match check_flow(alloc, &domain, graph, &empty, &stated.blocks) {
+    match check_flow_by_passage(alloc, &domain, graph, &empty, stated.edges()) {
         Ok(()) => Ok(()),
         Err(e) => Err(refusal_in(11, e)),
     }

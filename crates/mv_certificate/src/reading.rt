@@ -196,12 +196,12 @@ fn read_stated(
     ensures refused { result ≡ Err (Refusal.Phase 2) → stated_from m.now d.now (map (λ b. b.reached) blocks.now) reader.old ≡ None }
     ensures errors { IfErr result (λ e. (e ≡ Refusal.Phase 2) ⊎ (e ≡ Refusal.Memory)) }
 {
-    let mut stated = Vec::new(alloc);
+    let mut stated = Stated::new(alloc);
     'each: for block in blocks {
         let one = read_block(alloc, reader, m, d, block.reached)?;
-        stated.push(one).map_err(|_| Refusal::Memory)?;
+        stated = stated.with(one)?;
     }
-    Ok(Stated { blocks: stated })
+    Ok(stated)
 }
 
 /// Reads what is stated of the blocks of function `f`.

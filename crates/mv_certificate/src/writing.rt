@@ -1,12 +1,13 @@
 // Writing the parts of a certificate.
 
-ghost use Rattle.std.specs.Prelude.{◌≡◌, ◌++◌, ◌∷◌, [], map, flat_map, cond, OnOk};
+ghost use Rattle.std.specs.Prelude.{◌≡◌, ◌<◌, ◌++◌, ◌∷◌, [], length, map, flat_map, slice_get, Option, Some, cond, OnOk};
 ghost use Rattle.mv_uleb.specs.Uleb.{uleb};
 ghost use Rattle.mv_module_text.specs.Entries.{counted};
 ghost use Rattle.mv_edges.specs.Ascending.{node_kind, node_index};
 ghost use Rattle.mv_certificate.specs.CertificateText.{availability_code, node_text, edge_text, known_text, stated_text};
+ghost use Rattle.mv_certificate.specs.Certificate.{Known as KnownRecord};
 
-use super::certificate::{Known, Stated};
+use super::certificate::Stated;
 use mv_edges::{Edge, Edges};
 use mv_move_types::{Availability, Node};
 use std::alloc::AllocError;
@@ -103,15 +104,16 @@ fn write_edges(edges: &Edges, out: &mut Vec<u8>) -> Result<(), AllocError>
 }
 
 /// Writes what is stated of a block: its mark, and what is known.
-fn write_block(block: &Option<Known>, out: &mut Vec<u8>) -> Result<(), AllocError>
-    ensures { OnOk result (out.new.items ≡ out.old.items ++ stated_text block.now) }
+fn write_block(stated: &Stated, block: usize, out: &mut Vec<u8>) -> Result<(), AllocError>
+    requires { block < length stated.now }
+    ensures { (known : Option KnownRecord) → slice_get stated.now block ≡ Some known → OnOk result (out.new.items ≡ out.old.items ++ stated_text known) }
 {
-    match block {
+    match stated.at(block) {
         None => write_byte(0, out),
-        Some(known) => {
+        Some((locals, edges)) => {
             write_byte(1, out)?;
-            write_availabilities(known.locals.as_slice(), out)?;
-            write_edges(&known.edges, out)
+            write_availabilities(locals.as_slice(), out)?;
+            write_edges(edges, out)
         }
     }
 }
@@ -120,8 +122,8 @@ fn write_block(block: &Option<Known>, out: &mut Vec<u8>) -> Result<(), AllocErro
 pub fn write_stated(stated: &Stated, out: &mut Vec<u8>) -> Result<(), AllocError>
     ensures { OnOk result (out.new.items ≡ out.old.items ++ flat_map stated_text stated.now) }
 {
-    for block in &stated.blocks {
-        write_block(block, out)?;
+    for block in 0..stated.len() {
+        write_block(stated, block, out)?;
     }
     Ok(())
 }

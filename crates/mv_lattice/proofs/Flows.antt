@@ -1,9 +1,9 @@
 -- What a turn of the loops over a flow adds.
-use Rattle.std.proofs.Common.{◌≡◌, All, ℕ, suc, ◌+◌, ◌-◌, ◌<◌, ◌≤◌, List, length, get_or, take, Option, Some, None, refl, sym, ap, subst, arith, slice_get, option_map, ◌∙◌, ◌≢◌, Result, Err, ⊎_elim}
+use Rattle.std.proofs.Common.{◌≡◌, All, ℕ, suc, ◌+◌, ◌-◌, ◌<◌, ◌≤◌, List, length, get_or, take, Option, Some, None, refl, sym, ap, subst, arith, slice_get, ◌∙◌, ◌≢◌, Result, Err, ⊎_elim}
 use Rattle.std.proofs.lemmas.Bool.{cases_eq}
 use Rattle.std.proofs.lemmas.List.Elements.{All-more}
-use Rattle.std.proofs.lemmas.Option.{slice_get-map, slice_get_read, slice_get_within}
-use Rattle.mv_lattice.specs.Flow.{carried, states_of, IsStated}
+use Rattle.std.proofs.lemmas.Option.{slice_get_read}
+use Rattle.mv_lattice.specs.Flow.{carried, IsStated}
 
 module _ {S : Type 0} (step : ℕ → S → Option S) where
   -- one instruction more
@@ -29,17 +29,6 @@ module _ {S : Type 0} (step : ℕ → S → Option S) where
         let before = on s is p in
         let after = passes before.0 before.1.0 before.1.1.0 in
         (after.0, (keeps before.0 after.0 before.1.0 after.1.0, (after.1.1, carried_some at last before.0 after.0 h after.1.0 ∙ before.1.1.1)))
-
--- what is stated at a place, by the entry that was read there
-module _ {K S : Type 0} (inner : K → S) (entries : List (Option K)) (k : ℕ) (r : Option K) (within : k < length entries) (read : r ≡ get_or entries k r) where
-  stated_at : slice_get (states_of inner entries) k ≡ option_map (option_map inner) (Some r)
-  stated_at = slice_get-map (option_map inner) entries k ∙ ap (option_map (option_map inner)) (slice_get_read entries (length entries) k r refl within read)
-
-  pub stated_entry : (u : K) (s : S) → r ≡ Some u → s ≡ inner u → IsStated (states_of inner entries) k s
-  stated_entry u s is same = stated_at ∙ ap (λ o. Some (option_map inner o)) is ∙ ap (λ x. Some (Some x)) (sym same)
-
-  pub unstated_entry : r ≡ None → slice_get (states_of inner entries) k ≡ Some None
-  unstated_entry is = stated_at ∙ ap (λ o. Some (option_map inner o)) is
 
 -- of the states that are stated for these blocks, one block more
 module _ {S : Type 0} (P : S → Type 0) (flow : List (Option S)) (blocks : List ℕ) where

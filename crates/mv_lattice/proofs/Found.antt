@@ -1,6 +1,6 @@
 -- What follows of a search by the laws of its domain: its flow is the least closed one, where a need ends it there is none, and where a limit does, a state is
 -- too large or 257 rise.
-use Rattle.std.proofs.Common.{◌≡◌, ℕ, zero, suc, ◌+◌, ◌<◌, ◌≤◌, Bool, true, false, List, [], ◌∷◌, length, get_or, set, replicate, Option, Some, None, Contains, All}
+use Rattle.std.proofs.Common.{◌≡◌, ℕ, suc, ◌<◌, Bool, true, false, List, [], ◌∷◌, length, get_or, set, replicate, Option, Some, None, Contains, All}
 use Rattle.std.proofs.Common.{◌⊎◌, ⊎_elim, inl, inr, refl, sym, ap, ◌∙◌, subst, arith, slice_get}
 use Rattle.std.proofs.lemmas.Bool.{cases_eq}
 use Rattle.std.proofs.lemmas.List.{length-set, length-replicate}
@@ -13,7 +13,7 @@ use Rattle.mv_cfg.specs.declared.Cfg.{Cfg}
 use Rattle.mv_cfg.specs.Graph.{IsBlock, HasEdge, IsReached, at_entry, along, IsGraph}
 use Rattle.mv_lattice.specs.Laws.{IsLawful}
 use Rattle.mv_lattice.specs.Flow.{IsAt, IsStated, IsFlow, IsClosed, IsFlowBelow, IsRisen, through}
-use Rattle.mv_lattice.specs.Search.{Search, resting, IsSameAt, Raises, FlowsInto, stays, rises, IsNext, IsVisit, Makes, at_start}
+use Rattle.mv_lattice.specs.Search.{Search, resting, IsSameAt, Raises, FlowsInto, stays, rises, IsNext, IsVisit}
 use Rattle.mv_lattice.specs.Search.{Reaches, begins, goes_on, EndsWith, MeetsLimit, large_start, too_often, too_large, MeetsNeed, need}
 use Rattle.mv_lattice.specs.Work.{HasLarge, HasChain, AllStated, IsLeastFlow, standing}
 use Rattle.mv_lattice.proofs.Rises.{set_same, set_other, replicate_at, no_longer, contains_or_not, waits_or_not, through_keeps, through_monotone, risen_start, risen_more, risen_higher}

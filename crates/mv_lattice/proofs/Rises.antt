@@ -1,6 +1,6 @@
 -- What the laws give over whole blocks, how states rise, and lists with an element set.
 use Rattle.std.proofs.Common.{◌≡◌, ◌≢◌, ℕ, zero, suc, ◌+◌, ◌-◌, ◌<◌, ◌≤◌, Bool, true, false, List, [], ◌∷◌, length, get_or, set, replicate, Option, Some, None}
-use Rattle.std.proofs.Common.{◌⊎◌, ⊎_elim, inl, inr, Contains, refl, sym, ap, ◌∙◌, subst, arith, slice_get, sum}
+use Rattle.std.proofs.Common.{◌⊎◌, ⊎_elim, inl, inr, Contains, refl, ap, subst, arith, slice_get, sum}
 use Rattle.std.proofs.lemmas.Bool.{cases_eq}
 use Rattle.std.proofs.lemmas.List.Sums.{sum_by-set}
 use Rattle.std.proofs.lemmas.Option.{slice_get-get_or, option_and_then_some}

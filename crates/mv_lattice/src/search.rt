@@ -5,7 +5,9 @@ ghost use Rattle.mv_lattice.specs.Flow.{IsAt, IsFlow, IsClosed, through};
 ghost use Rattle.mv_lattice.specs.Search.{Raises, ExceedsAt, FlowsIntoEach, Exceeds, IsVisit, Makes, EndsWith, MeetsLimit, MeetsNeed};
 ghost use Rattle.mv_lattice.specs.Work.{HasLarge, HasChain, AllStated, IsLeastFlow, IsNewState, standing, IsSearch, IsUnderway};
 
-use crate::{Domain, StepError, pass_through};
+use crate::flow::pass_through;
+use crate::passage::Stepwise;
+use crate::{Domain, Passage, StepError};
 use mv_cfg::{Block, Cfg};
 use std::alloc::{AllocError, Global};
 use thiserror::Error;
@@ -137,7 +139,7 @@ fn raise_each<D: Domain>(
 }
 
 /// What the block makes of the state.
-fn carry_through<D: Domain>(
+fn carry_through<D: Passage>(
     alloc: Global,
     d: &D,
     block: &Block,
@@ -151,13 +153,13 @@ fn carry_through<D: Domain>(
     ensures need { IsErrOf result SolveError.Need → through (D.steps d.now) block.now s.now ≡ Option.None }
     ensures complex { ¬ IsErrOf result SolveError.TooComplex }
 {
-    let entered = d.enter(alloc, s, None)?;
+    let entered = d.enter(alloc, s)?;
     let last = pass_through(alloc, d, entered, block.first, block.last)?;
     Ok(d.leave(alloc, last)?)
 }
 
 /// Carries the state of a block through it, and lets what comes out flow into its successors.
-fn visit<D: Domain>(
+fn visit<D: Passage>(
     alloc: Global,
     d: &D,
     g: &Cfg,
@@ -200,7 +202,7 @@ fn first_waiting(waiting: &[bool]) -> Option<usize>
 }
 
 /// Visits the first block that waits, unless it has been visited as often as it may be.
-fn turn<D: Domain>(
+fn turn<D: Passage>(
     alloc: Global,
     d: &D,
     g: &Cfg,
@@ -233,7 +235,7 @@ fn turn<D: Domain>(
 }
 
 /// Visits blocks, the first that waits each time, until none waits.
-fn search_flow<D: Domain>(
+fn search_flow<D: Passage>(
     alloc: Global,
     d: &D,
     g: &Cfg,
@@ -290,6 +292,33 @@ fn first_counts(alloc: Global, n: usize) -> Result<Vec<u16>, AllocError>
     vec![in alloc; VISITS; n]
 }
 
+/// The flow with which the search of `solve` ends. States go through blocks in the form of their own.
+///
+/// # Errors
+/// Those of `solve`, in the same cases.
+pub fn solve_by_passage<D: Passage>(
+    alloc: Global,
+    d: &D,
+    g: &Cfg,
+    start: &D::State,
+) -> Result<Vec<Option<D::State>>, SolveError>
+    requires graph { IsGraph g.now (D.size d.now) }
+    requires same { D.is_graph d.now g.now }
+    requires start { D.is_state d.now start.now }
+    requires begins { D.may_begin d.now start.now }
+    ensures ends { IfOk result (λ v. EndsWith (D.is_small d.now) (D.below d.now) (D.joined d.now) (D.steps d.now) g.now start.now v.items) }
+    ensures fails { IsErrOf result SolveError.Need → MeetsNeed (D.is_small d.now) (D.below d.now) (D.joined d.now) (D.steps d.now) g.now start.now }
+    ensures limit { IsErrOf result SolveError.TooComplex → MeetsLimit (D.is_small d.now) (D.below d.now) (D.joined d.now) (D.steps d.now) g.now start.now }
+{
+    let first = small(d, d.copy(alloc, start)?)?;
+    let n = g.blocks.len();
+    let mut states = first_states(alloc, n, first)?;
+    let mut waiting = first_marks(alloc, n)?;
+    let mut left = first_counts(alloc, n)?;
+    search_flow(alloc, d, g, &mut states, &mut waiting, &mut left)?;
+    Ok(states)
+}
+
 /// The flow with which this search ends, which is the least closed flow above the start state (`search_is_least`). The start
 /// state is stated of block 0, which waits. Of the blocks that wait always the one with the least first instruction is
 /// visited, and waits no more; its state is carried through it. A successor's state that is not above what comes out is replaced
@@ -313,13 +342,7 @@ pub fn solve<D: Domain>(
     ensures fails { IsErrOf result SolveError.Need → MeetsNeed (D.is_small d.now) (D.below d.now) (D.joined d.now) (D.steps d.now) g.now start.now }
     ensures limit { IsErrOf result SolveError.TooComplex → MeetsLimit (D.is_small d.now) (D.below d.now) (D.joined d.now) (D.steps d.now) g.now start.now }
 {
-    let first = small(d, d.copy(alloc, start)?)?;
-    let n = g.blocks.len();
-    let mut states = first_states(alloc, n, first)?;
-    let mut waiting = first_marks(alloc, n)?;
-    let mut left = first_counts(alloc, n)?;
-    search_flow(alloc, d, g, &mut states, &mut waiting, &mut left)?;
-    Ok(states)
+    solve_by_passage(alloc, &Stepwise::of(d), g, start)
 }
 
 /// What a search ends with. Its flow is closed, of states that are small and with which a block may begin, and below every

@@ -195,9 +195,6 @@ impl<'t, 'm> Domain for LocalsDomain<'t, 'm> {
 
     type State = Availabilities;
 
-    /// The state itself is carried.
-    type Carried = Availabilities;
-
     ghost size = { λ d. length d.function.code };
 
     ghost is_graph = { λ d g. ⊤ };
@@ -213,8 +210,6 @@ impl<'t, 'm> Domain for LocalsDomain<'t, 'm> {
     ghost steps = { λ d at s. locals_step d.home d.function at s };
 
     ghost is_small = { λ d s. ⊤ };
-
-    ghost goes_for = { λ d c s. c ≡ s };
 
     ghost laws = { λ d. locals_lawful d.home d.function };
 
@@ -236,40 +231,16 @@ impl<'t, 'm> Domain for LocalsDomain<'t, 'm> {
         a.join(alloc, b)
     }
 
-    fn enter(
-        &self,
-        alloc: Global,
-        s: &Availabilities,
-        spent: Option<Availabilities>,
-    ) -> Result<Availabilities, AllocError>
-        ensures { IfOk result (λ c. c ≡ s.now) }
-    {
-        match spent {
-            Some(mut c) => {
-                c.copy_from(s)?;
-                Ok(c)
-            }
-            None => s.copy(alloc),
-        }
-    }
-
     /// No step takes memory.
-    fn pass(
+    #[inline(always)]
+    fn step(
         &self,
         _alloc: Global,
-        mut c: Availabilities,
+        mut s: Availabilities,
         at: usize,
     ) -> Result<Availabilities, StepError> {
-        self.change(&mut c, at)?;
-        Ok(c)
-    }
-
-    fn is_under(&self, c: &Availabilities, u: &Availabilities) -> bool {
-        c.is_below(u)
-    }
-
-    fn leave(&self, _alloc: Global, c: Availabilities) -> Result<Availabilities, AllocError> {
-        Ok(c)
+        self.change(&mut s, at)?;
+        Ok(s)
     }
 
     fn fits(&self, _s: &Availabilities) -> bool {

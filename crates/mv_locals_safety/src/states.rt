@@ -103,14 +103,6 @@ impl Availabilities {
         Ok(Availabilities::new(Vec::from_slice(alloc, &self.all)?))
     }
 
-    /// Makes these availabilities equal to others, in the memory that they have where that is enough.
-    pub(crate) fn copy_from(&mut self, other: &Availabilities) -> Result<(), AllocError>
-        ensures { OnOk result (self.new ≡ other.now) }
-    {
-        self.all.clear();
-        self.all.extend_from_slice(&other.all)
-    }
-
     /// Whether a local surely holds a value.
     fn holds(&self, local: u16) -> bool
         ensures { result ≡ option_map_or is_available (slice_get self.now local) false }

@@ -3,6 +3,7 @@
 mod certificates;
 mod edges;
 mod entries;
+mod flows;
 mod graphs;
 mod lists;
 mod modules;

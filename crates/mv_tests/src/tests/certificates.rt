@@ -25,23 +25,21 @@ fn known(alloc: Global) -> Result<Known, AllocError> {
 }
 
 // The text of a certificate of one function.
-fn text_of(alloc: Global, blocks: Vec<Option<Known>>) -> Result<Vec<u8>, AllocError> {
+fn text_of(alloc: Global, stated: Stated) -> Result<Vec<u8>, AllocError> {
     let mut functions = Vec::new(alloc);
-    functions.push(Stated { blocks })?;
+    functions.push(stated)?;
     encode(alloc, &Cert { functions })
 }
 
 #[test]
 fn reached_and_unreached_blocks_are_written(rt: HostRuntime) -> Result<(), Fail> {
     let alloc = rt.alloc();
-    let mut blocks = Vec::new(alloc);
-    blocks.push(Some(known(alloc)?))?;
-    blocks.push(None)?;
+    let stated = Stated::new(alloc).with(Some(known(alloc)?))?.with(None)?;
     // The locals, an edge out of a local, an edge out of the storage, and the block to which no path leads.
     let wanted = [
         1, 1, 2, 0, 2, 1, 0, 0, 1, 1, 31, 1, 2, 0x80, 1, 0, 1, 0, 0, 0,
     ];
-    assert_eq!(rt; text_of(alloc, blocks)?.as_slice(), wanted.as_slice());
-    assert!(rt; text_of(alloc, Vec::new(alloc))?.is_empty());
+    assert_eq!(rt; text_of(alloc, stated)?.as_slice(), wanted.as_slice());
+    assert!(rt; text_of(alloc, Stated::new(alloc))?.is_empty());
     Ok(())
 }

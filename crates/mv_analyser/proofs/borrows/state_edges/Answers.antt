@@ -22,13 +22,13 @@ search_is_least-requires-clause-same c =
     c.of_function-domain.ensures.home c.function_at-function.ensures.at c.of_function-domain.ensures.function c.graph_of-graph.ensures c.function_at-function.ensures.typed
     c.has_plain_fields.ensures.plain c.has_plain_fields.ensures.few
 
-pub solve-requires-clause-graph : goal.solve-requires-clause-graph
-solve-requires-clause-graph c =
+pub solve_by_passage-requires-clause-graph : goal.solve_by_passage-requires-clause-graph
+solve_by_passage-requires-clause-graph c =
     graph-at c.args.m.now c.args.f c.function_at-function.result.now c.of_function-domain.result.function c.graph_of-graph.result.now
     c.function_at-function.ensures.at c.of_function-domain.ensures.function c.graph_of-graph.ensures
 
-pub solve-requires-clause-same : goal.solve-requires-clause-same
-solve-requires-clause-same c =
+pub solve_by_passage-requires-clause-same : goal.solve_by_passage-requires-clause-same
+solve_by_passage-requires-clause-same c =
     graph_is c.args.m.now c.of_function-domain.result.home c.args.f c.function_at-function.result.now c.of_function-domain.result.function c.graph_of-graph.result.now
     c.of_function-domain.ensures.home c.function_at-function.ensures.at c.of_function-domain.ensures.function c.graph_of-graph.ensures c.function_at-function.ensures.typed
     c.has_plain_fields.ensures.plain c.has_plain_fields.ensures.few

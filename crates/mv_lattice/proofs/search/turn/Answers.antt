@@ -1,4 +1,4 @@
-use Rattle.std.proofs.Common.{◌≡◌, ℕ, ◌<◌, ◌-◌, Bool, List, arith, length, get_or, Some, ◌∙◌, set, true, false}
+use Rattle.std.proofs.Common.{◌≡◌, ℕ, ◌<◌, Bool, List, arith, length, get_or, ◌∙◌, true, false}
 use Rattle.std.proofs.lemmas.List.{length-set}
 use Rattle.std.proofs.lemmas.Option.{slice_get-get_or, slice_get_within}
 use Rattle.std.proofs.lemmas.Result.{on_ok_weaker}

@@ -1,9 +1,9 @@
 use Rattle.std.proofs.Common.{◌≡◌, ◌∙◌, sym}
 use Rattle.std.proofs.lemmas.Bool.{false≢true}
-use Rattle.mv_lattice.proofs.check_block.Goals as goal
+use Rattle.mv_lattice.proofs.flow.check_block.Goals as goal
 
-pub is_below_each-requires-clause-carried : goal.is_below_each-requires-clause-carried
-is_below_each-requires-clause-carried g c =
+pub is_below_each-requires-clause-passing : goal.is_below_each-requires-clause-passing
+is_below_each-requires-clause-passing g c =
     let last = c.in_ok-last.ensures.ok c.args.s.now c.requires.state c.in_ok-entered.ensures in
     (last.0, last.1.1)
 
@@ -13,8 +13,8 @@ returns-then-is_below_each-clause-ok g c =
     let below = c.is_below_each.ensures last.0 last.1.1.0 last.1.1.1 in
     (last.0, (last.1.0, rw c.deref.ensures.value at below.0 c.if-is_below_each.true))
 
-pub returns-else-is_below_each-clause-need : goal.returns-else-is_below_each-clause-need
-returns-else-is_below_each-clause-need g c = λ _ closed.
+pub returns-clause-need : goal.returns-clause-need
+returns-clause-need g c = λ _ closed.
     let last = c.in_ok-last.ensures.ok c.args.s.now c.requires.state c.in_ok-entered.ensures in
     let below = c.is_below_each.ensures last.0 last.1.1.0 last.1.1.1 in
     let same : closed.0 ≡ last.0 = cc (last.1.0, closed.1.0) in
