@@ -1,5 +1,5 @@
 // Sets of places of modules, as bits: a word has 64 of them.
-ghost use Rattle.std.specs.Prelude.{◌≡◌, ◌↔◌, ◌/◌, ◌<◌, ◌≤◌, ◌==◌, ◌||◌, ℕ, true, [], length, slice_index, All, Contains, IfOk, OnOk, MatchOption};
+ghost use Rattle.std.specs.Prelude.{◌≡◌, ◌↔◌, ◌+◌, ◌/◌, ◌<◌, ◌≤◌, ◌==◌, ◌||◌, max, ℕ, true, [], length, slice_index, All, Contains, IfOk, OnOk, MatchOption};
 ghost use Rattle.std.specs.Int.{bit_at};
 ghost use Rattle.mv_linker.specs.Places.{has, AreBitsWithin, IsBitFrom, IsBitOutside, IsOutside, IsWithin};
 
@@ -55,6 +55,7 @@ impl Places {
         requires { words ≤ 1024 }
         ensures same { (p : ℕ) → has self.new p ≡ has self.old p }
         ensures long { OnOk result (words ≤ length self.new) }
+        ensures short { length self.new ≤ max (length self.old) words }
     {
         while self.words.len() < words {
             self.words.push(0)?;
@@ -65,7 +66,8 @@ impl Places {
     /// The set of these places, no longer than the highest of them needs.
     pub fn of(alloc: Global, places: &[usize]) -> Result<Self, AllocError>
         requires { All (λ p. p < 65536) places.now }
-        ensures { IfOk result (λ s. (p : ℕ) → (has s p ≡ true) ↔ Contains places.now p) }
+        ensures places { IfOk result (λ s. (p : ℕ) → (has s p ≡ true) ↔ Contains places.now p) }
+        ensures short { IfOk result (λ s. (words : ℕ) → All (λ p. p / 64 < words) places.now → length s ≤ words) }
     {
         let words = match places.iter().max() {
             Some(last) => *last / 64 + 1,
@@ -83,7 +85,8 @@ impl Places {
     /// Puts a place.
     pub fn insert(&mut self, place: usize) -> Result<(), AllocError>
         requires { place < 65536 }
-        ensures { OnOk result ((p : ℕ) → has self.new p ≡ (p == place || has self.old p)) }
+        ensures places { OnOk result ((p : ℕ) → has self.new p ≡ (p == place || has self.old p)) }
+        ensures short { OnOk result (length self.new ≤ max (length self.old) (place / 64 + 1)) }
     {
         self.grow(place / 64 + 1)?;
         self.words[place / 64] = self.words[place / 64] | (1 << (place % 64));

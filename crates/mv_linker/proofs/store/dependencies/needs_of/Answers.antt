@@ -8,4 +8,4 @@ pub returns : goal.returns
 returns c =
     IfOk-weaker c.of.result _ _ (λ needs is modules m here once p.
     needed_from modules m c.args.own c.args.places.now here once p needs
-    (subst (λ (l : List ℕ). (q : ℕ) → (has needs q ≡ true) ↔ Contains l q) (c.deref.ensures.value ∙ c.in_ok-others.ensures) is)) c.of.ensures
+    (subst (λ (l : List ℕ). (q : ℕ) → (has needs q ≡ true) ↔ Contains l q) (c.deref.ensures.value ∙ c.in_ok-others.ensures) is)) c.of.ensures.places

@@ -28,14 +28,14 @@ insert-requires-in_default-next_after c =
 pub search-smaller-in_default-next_after : goal.search-smaller-in_default-next_after
 search-smaller-in_default-next_after c =
     let end = last-open (goal.at.search-smaller-in_default-next_after c).In-Some in
-    let less = less-left c.search.done c.insert-in_default-next_after.new.self c.in-Some.last.now (length (modules_in c.args.self.now)) end.low (not-done _ _ _ end.unsettled) c.in_ok-insert-2.ensures in
+    let less = less-left c.search.done c.insert-in_default-next_after.new.self c.in-Some.last.now (length (modules_in c.args.self.now)) end.low (not-done _ _ _ end.unsettled) c.in_ok-insert-2.ensures.places in
     omega (arith, less)
 
 pub search-preserved-in_default-next_after : goal.search-preserved-in_default-next_after
 search-preserved-in_default-next_after c =
     let i = (goal.at.search-preserved-in_default-next_after c).In-Some in
     search-goes-back _ _ _ _ c.search.chain.items c.search.met c.search.done c.search.invariant c.in-Some.last.now (last-at i) c.pop.new.self.items c.insert-in_default-next_after.new.self
-    c.in_default-next_after.ensures (c.pop.ensures.rest ∙ ap (λ n. take (n - 1) c.search.chain.items) c.search.chain.ok.0) c.in_ok-insert-2.ensures
+    c.in_default-next_after.ensures (c.pop.ensures.rest ∙ ap (λ n. take (n - 1) c.search.chain.items) c.search.chain.ok.0) c.in_ok-insert-2.ensures.places
 
 pub returns-then-contains : goal.returns-then-contains
 returns-then-contains c =
@@ -51,11 +51,11 @@ insert-requires-in-Some c =
 pub search-smaller : goal.search-smaller
 search-smaller c =
     let low = next-low (goal.at.search-smaller c).In-Some-next_after in
-    let less = less-left c.search.met c.insert-in-Some.new.self c.in-Some-next_after.next (length (modules_in c.args.self.now)) low (sym c.contains.ensures ∙ c.if-contains.false) c.in_ok-insert-3.ensures in
+    let less = less-left c.search.met c.insert-in-Some.new.self c.in-Some-next_after.next (length (modules_in c.args.self.now)) low (sym c.contains.ensures ∙ c.if-contains.false) c.in_ok-insert-3.ensures.places in
     omega (arith, less)
 
 pub search-preserved : goal.search-preserved
 search-preserved c =
     let i = (goal.at.search-preserved c).In-Some in
     search-goes-on _ _ _ _ c.search.chain.items c.search.met c.search.done c.search.invariant c.in-Some.last.now (last-at i) c.in-Some-next_after.next c.push-in-Some.new.self.items c.insert-in-Some.new.self
-    c.in-Some-next_after.ensures (sym c.contains.ensures ∙ c.if-contains.false) c.in_ok-push-2.ensures.items c.in_ok-insert-3.ensures
+    c.in-Some-next_after.ensures (sym c.contains.ensures ∙ c.if-contains.false) c.in_ok-push-2.ensures.items c.in_ok-insert-3.ensures.places

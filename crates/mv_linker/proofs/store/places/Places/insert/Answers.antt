@@ -5,8 +5,8 @@ use Rattle.mv_linker.specs.Places.{has}
 use Rattle.mv_linker.proofs.Cycles.PlaceBits.{has-put}
 use Rattle.mv_linker.proofs.store.places.Places.insert.Goals as goal
 
-pub returns : goal.returns
-returns c = λ p.
+pub returns-clause-places : goal.returns-clause-places
+returns-clause-places c = λ p.
     let ws = c.self.inside.words.items in
     let low : c.args.place / 64 < length ws = omega (arith, c.in_ok-grow.ensures.long, ap length c.self.view_is) in
     let word : c.index.result.now ≡ get_or ws (c.args.place / 64) 0 =
