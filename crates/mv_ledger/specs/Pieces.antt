@@ -2,8 +2,6 @@
 --   TakesPiece ends piece old new   a piece was taken off the front of the first of these lines
 --   TakesNext piece old new         the next piece of these lines was taken, if there is one
 --   piece_text ends piece           what is written for it
---   rest_after before objects       the rest of a list of objects in JSON
---   comma_at place                  what stands before the next object
 --   json_left key place objects     what is left of a line of JSON
 use Rattle.std.specs.Prelude.{◌≡◌, ℕ, ◌<◌, Bool, true, false, List, [], ◌∷◌, ◌++◌, codes, length, Option, MatchOption}
 use Rattle.mv_machine.specs.Lines.{json_line, with_commas}

@@ -87,7 +87,7 @@ pub fn offers<'a>(
     ensures errors { IfErr result (λ e. (e ≡ Refusal.Phase 2) ⊎ (e ≡ Refusal.Memory)) }
 {
     let count = reader.number(most)?;
-    let mut all = Vec::new(alloc);
+    let mut all = Vec::with_capacity(alloc, count as usize)?;
     'each: for _ in 0..count {
         let next = offer(reader)?;
         all.push(next).map_err(AllocError::from)?;

@@ -98,11 +98,58 @@ pub(crate) fn edit_in(
     ensures committed { ShowsSame Committed places.old places.new }
     ensures err { OnErr result (ShowsSame Current places.old places.new) }
 {
-    let Some(place) = places.recall(last, key) else {
+    if let Some(place) = recalled(last, key) {
+        if places.slots[place].has_versions() {
+            return places.slots[place].edit(from, new, alloc);
+        }
+    }
+    edit_any(
+        places,
+        touched,
+        last,
+        key.address,
+        key.place,
+        key.index,
+        from,
+        new,
+        alloc,
+    )
+}
+
+// The same of any slot, apart from the way that is gone most, on which nothing is then left over from this one. The key is
+// given in its parts, since a whole one would be put into memory on that way.
+#[cold]
+#[inline(never)]
+fn edit_any(
+    places: &mut Places,
+    touched: &mut Vec<(Key, usize)>,
+    last: &mut Option<(Key, usize)>,
+    address: u128,
+    place: u16,
+    index: u16,
+    from: usize,
+    new: &[u128],
+    alloc: Global,
+) -> Result<bool, AllocError>
+    requires tracked { IsTracked places.old touched.old.items }
+    requires remembered { IsRemembered places.old.tree last.old }
+    ensures tracked { IsTracked places.new touched.new.items }
+    ensures remembered { IsRemembered places.new.tree last.new }
+    ensures done { IfOk result (λ done. done ≡ is_some (option_and_then (spliced from new.now) (value_at Current places.old (record { address = address; place = place; index = index })))) }
+    ensures current { OnOk result (ShowsAt Current (record { address = address; place = place; index = index }) (edited from new.now (value_at Current places.old (record { address = address; place = place; index = index }))) places.old places.new) }
+    ensures committed { ShowsSame Committed places.old places.new }
+    ensures err { OnErr result (ShowsSame Current places.old places.new) }
+{
+    let key = Key {
+        address,
+        place,
+        index,
+    };
+    let Some(at) = places.recall(last, &key) else {
         return Ok(false);
     };
-    note(&places.slots[place], touched, key, place)?;
-    places.slots[place].edit(from, new, alloc)
+    note(&places.slots[at], touched, &key, at)?;
+    places.slots[at].edit(from, new, alloc)
 }
 
 // Makes sure that the run has what it sees under a key to itself, and gives its place if there is anything.
