@@ -8,14 +8,15 @@ use crate::ending::{End, end_of_check, end_of_proof};
 use crate::inputs::first_bytes;
 use crate::printing::{checked_line, proved_line};
 use crate::proving::prove_text;
+use mv_move_types::limits::{MOST_CERTIFICATE_BYTES, MOST_MODULE_BYTES};
 use std::alloc::{AllocError, Global};
 use std::io::{Read, Write};
 
 /// The most bytes that are read of a module's file: one more than a module may have.
-const MODULE_READ: u64 = 65_537;
+const MODULE_READ: u64 = MOST_MODULE_BYTES as u64 + 1;
 
 /// The most bytes that are read of the file of a certificate's text: one more than its digits and a line end.
-const TEXT_READ: u64 = 2_097_154;
+const TEXT_READ: u64 = 2 * MOST_CERTIFICATE_BYTES + 2;
 
 /// Writes a line. The end is then this one, unless that failed.
 pub fn printed<W: Write>(writer: &mut W, end: End, made: Result<String, AllocError>) -> End

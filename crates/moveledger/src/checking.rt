@@ -3,13 +3,14 @@ ghost use Rattle.std.specs.Prelude.{◌≡◌, ℕ, ◌⊎◌, List, Err, IfOk, 
 ghost use Rattle.moveledger.specs.Hexadecimal.{IsHexadecimal};
 ghost use Rattle.moveledger.specs.Checking.{before_line_end, refusal_of, PassesWith, IsRefusedWith, IsAccepted, IsRefusedText};
 
-use crate::modules::{MOST_BYTES, sound};
+use crate::modules::sound;
 use hex::FromHexError;
 use mv_move_types::Refusal;
+use mv_move_types::limits::{MOST_CERTIFICATE_BYTES, MOST_MODULE_BYTES};
 use std::alloc::Global;
 
-/// The most digits of a certificate: two for each of its 1,048,576 bytes.
-const MOST_DIGITS: usize = 2_097_152;
+/// The most digits of a certificate: two for each of its bytes.
+const MOST_DIGITS: usize = 2 * MOST_CERTIFICATE_BYTES as usize;
 
 /// The text without a line end after it.
 fn before_line_end(text: &[u8]) -> &[u8]
@@ -64,7 +65,7 @@ fn check_phases(alloc: Global, module: &[u8], certificate: &[u8]) -> Result<(), 
     ensures refused { IfErr result (IsRefusedText «module».now certificate.now) }
 {
     let digits = before_line_end(certificate);
-    if module.len() > MOST_BYTES || digits.len() > MOST_DIGITS {
+    if module.len() > MOST_MODULE_BYTES || digits.len() > MOST_DIGITS {
         return Err(Refusal::Phase(1));
     }
     check_digits(alloc, module, digits)

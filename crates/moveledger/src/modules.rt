@@ -8,9 +8,6 @@ use mv_move_types::Refusal;
 use mv_type_states::Typed;
 use std::alloc::Global;
 
-/// The most bytes that a module has.
-pub const MOST_BYTES: usize = 65_536;
-
 /// The module that bytes spell, with what it passed: phases 2 to 8 in order.
 pub fn sound<'a>(alloc: Global, bytes: &'a [u8]) -> Result<Typed<'a>, Refusal>
     ensures spelled { IfOk result (Spells bytes.entry.now) }

@@ -4,10 +4,11 @@ ghost use Rattle.mv_analyser.specs.Principal.{IsOfLimits};
 ghost use Rattle.moveledger.specs.Hexadecimal.{hexadecimal, IsHexadecimal};
 ghost use Rattle.moveledger.specs.Proving.{IsProvedBy, IsAcceptedBack, HasNoProof, IsProvableText, error_of};
 
-use crate::modules::{MOST_BYTES, sound};
+use crate::modules::sound;
 use mv_analyser::{ProveError, prove};
 use mv_certificate::encode;
 use mv_move_types::Refusal;
+use mv_move_types::limits::MOST_MODULE_BYTES;
 use std::alloc::{AllocError, Global};
 
 /// The error of a module that is refused before a certificate is sought.
@@ -44,7 +45,7 @@ pub fn prove_text(alloc: Global, module: &[u8]) -> Result<String, ProveError>
 {
     // For the prover: bytes spell one module alone.
     mv_binary_format::modules_are_read_by_text();
-    if module.len() > MOST_BYTES {
+    if module.len() > MOST_MODULE_BYTES {
         return Err(ProveError::Refused(1));
     }
     let typed = match sound(alloc, module) {

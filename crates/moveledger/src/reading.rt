@@ -8,6 +8,7 @@ ghost use Rattle.moveledger.specs.Next.{IsNext};
 ghost use Rattle.moveledger.specs.Outcome.{left_of};
 
 use crate::streaming::EngineError;
+use mv_move_types::limits::MOST_PAYLOAD_BYTES;
 use std::alloc::Global;
 use std::io::Read;
 
@@ -45,9 +46,6 @@ fn fill<R: Read>(reader: &mut R, buffer: &mut [u8]) -> Result<usize, EngineError
     Ok(filled)
 }
 
-/// The most bytes that a payload may have.
-const PAYLOAD_LIMIT: u64 = 33_554_432;
-
 /// The length of a payload, up to the first byte without the high bit or the tenth. None where there is none.
 fn read_length<R: Read>(reader: &mut R) -> Result<Option<u64>, EngineError>
     ensures ok { IfOk result (λ len. (took : List ℕ)
@@ -64,7 +62,7 @@ fn read_length<R: Read>(reader: &mut R) -> Result<Option<u64>, EngineError>
             Some(byte) => {
                 bytes[i] = byte;
                 if byte < 128 {
-                    return match mv_uleb::read(&bytes[..i + 1], PAYLOAD_LIMIT) {
+                    return match mv_uleb::read(&bytes[..i + 1], MOST_PAYLOAD_BYTES) {
                         Ok((n, _)) => Ok(Some(n)),
                         Err(_) => Ok(None),
                     };

@@ -8,8 +8,9 @@ ghost use Rattle.mv_binary_format.specs.Tables.{tables_of};
 ghost use Rattle.mv_binary_format.specs.Outcomes.{Takes};
 
 use super::entries::Entry;
-use super::headers::{Header, MOST_BYTES, TableKind, take_header};
+use super::headers::{Header, TableKind, take_header};
 use mv_module_text::Reader;
+use mv_move_types::limits::MOST_CONTENT_BYTES;
 use mv_move_types::{Refusal, Version};
 use std::alloc::Global;
 
@@ -33,7 +34,7 @@ pub fn read_contents<'a>(
     'reading: while !headers.is_empty() {
         let header = take_header(&mut headers, end).ok_or(Refusal::Phase(2))?;
         end += u64::from(header.length);
-        if end > MOST_BYTES {
+        if end > MOST_CONTENT_BYTES {
             return Err(Refusal::Phase(2));
         }
         let content = reader.bytes(header.length as usize)?;

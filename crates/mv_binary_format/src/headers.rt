@@ -11,14 +11,12 @@ ghost use Rattle.mv_binary_format.specs.Kinds.{table_code, header_of, headers_of
 ghost use Rattle.mv_binary_format.specs.Outcomes.{Takes};
 
 use mv_module_text::Reader;
+use mv_move_types::limits::MOST_CONTENT_BYTES;
 use mv_move_types::{Refusal, Version};
 use std::alloc::Global;
 
 // At most one table of each kind.
 const MOST_TABLES: u64 = 10;
-
-// The most bytes that the contents of all tables have, and so the greatest offset and the greatest length of one.
-pub const MOST_BYTES: u64 = 65536;
 
 // What a table has entries of.
 #[derive(Clone, Copy)]
@@ -111,8 +109,8 @@ fn read_header(reader: &mut Reader<'_>) -> Result<Header, Refusal>
     ensures { ReadsAs header_of header_from reader.old result reader.new }
 {
     let code = reader.byte()?;
-    let offset = reader.number(MOST_BYTES)?;
-    let length = reader.number(MOST_BYTES)?;
+    let offset = reader.number(MOST_CONTENT_BYTES)?;
+    let length = reader.number(MOST_CONTENT_BYTES)?;
     if length == 0 {
         return Err(Refusal::Phase(2));
     }

@@ -15,14 +15,12 @@ use super::headers::TableKind;
 use super::names::{Identifier, Signature};
 use super::{FunctionDefinition, StructDefinition};
 use mv_module_text::Constant;
+use mv_move_types::limits::MOST_FUNCTIONS;
 use mv_move_types::{
     Address, FieldHandle, FunctionHandle, ModuleHandle, Refusal, StructHandle, Token, Version,
 };
 use std::alloc::Global;
 use std::marker::Model;
-
-// The most functions that a module defines.
-const MOST_FUNCTIONS: usize = 256;
 
 // What a module has.
 #[derive(Drop)]

@@ -30,12 +30,6 @@ mod union;
 mod unordered;
 mod ways;
 
-/// How many edges are stated of a block at most: a certificate has no more, and a search states no more.
-pub const MOST_EDGES: usize = 1024;
-
-/// How many positions the label of a stated edge has at most.
-pub const MOST_POSITIONS: usize = 8;
-
 pub use edge::Edge;
 pub use edges::Edges;
 pub use graph::{Graph, Heir};

@@ -84,7 +84,7 @@ pub use Rattle.mv_module_text.specs.Fits.{address_fits, identifier_fits, is_byte
 pub use Rattle.mv_module_text.specs.Laws.{AreBytes}
 pub use Rattle.mv_module_text.specs.Parsing.{Read, address_from, byte_from, bytes_from, counted_from, entries_from, identifier_from, index_from, kind_of, mark_from, number_of_from}
 pub use Rattle.mv_module_text.specs.Reads.{Marks, Reads, ReadsAs}
-pub use Rattle.mv_frames.specs.Counters.{Count, is_tally_at, packs_at, unpacks_at, is_same_definition}
+pub use Rattle.mv_frames.specs.Counters.{AtMost, Count, is_tally_at, packs_at, unpacks_at, is_same_definition}
 pub use Rattle.mv_frames.specs.declared.counters.StructTally.{StructTally}
 pub use Rattle.mv_storage.proofs.Keys.{before-apart, before-trans, keys_compare, same_key-refl, same_key-symm, same_key-to}
 pub use Rattle.mv_storage.proofs.Maps.{Ascends-with_words, entries_from_words, words_under-same, words_under-with_words}
@@ -144,7 +144,7 @@ pub use Rattle.mv_interpreter.proofs.Typing.Fine.{fine_storage, leaf_ranges, typ
 pub use Rattle.mv_interpreter.proofs.Typing.Tests.{same_kind-same}
 pub use Rattle.mv_interpreter.specs.Flat.Agreement.{nameless}
 pub use Rattle.mv_interpreter.proofs.Owned.{IsOwn}
-pub use Rattle.mv_interpreter.specs.Runs.{Agrees, AtMost, IsFineWords, Tallies, arg_value, call_of, number_fits}
+pub use Rattle.mv_interpreter.specs.Runs.{Agrees, IsFineWords, Tallies, arg_value, call_of, number_fits}
 pub use Rattle.mv_interpreter.specs.Typing.Accepted.{StoreAccepted}
 pub use Rattle.mv_interpreter.specs.Typing.StateTyped.{Numbered, StorageTyped}
 pub use Rattle.mv_interpreter.specs.declared.Arg.{Arg, Arg as Argument}

@@ -5,7 +5,8 @@ ghost use Rattle.mv_move_types.specs.Limits.{most_modules, most_runs, most_steps
 ghost use Rattle.mv_machine.specs.Ledger.{is_argument, are_arguments, with_signer as with_sender};
 ghost use Rattle.mv_linker.specs.Link.{tables_in};
 ghost use Rattle.mv_interpreter.specs.declared.Arg.{Arg as Argument};
-ghost use Rattle.mv_interpreter.specs.Runs.{IsCall, IsFineWords, Agrees, HasEnded, AtMost, number_fits, arg_value};
+ghost use Rattle.mv_frames.specs.Counters.{AtMost};
+ghost use Rattle.mv_interpreter.specs.Runs.{IsCall, IsFineWords, Agrees, HasEnded, number_fits, arg_value};
 ghost use Rattle.mv_ledger.specs.Changes.{RunsTo};
 ghost use Rattle.mv_ledger.specs.Answering.{told};
 ghost use Rattle.mv_ledger.specs.Asking.{request_of};
@@ -20,15 +21,10 @@ use crate::published::Published;
 use mv_interpreter::{Arg, FuncId, RunError, Tally, run};
 use mv_linker::{LinkedType, Part, Store};
 use mv_machine::{Ending, Outcome};
+use mv_move_types::limits::{MOST_RUNS, MOST_STEPS};
 use mv_move_types::{Definition, LeafKind};
 use mv_storage::{Overlay, Storage};
 use std::alloc::AllocError;
-
-// How many steps a run may ask for at most.
-const MOST_STEPS: u64 = 10_000_000;
-
-// How many runs a ledger has at most.
-const MOST_RUNS: u64 = 4_294_967_296;
 
 /// A call that may be run.
 #[derive(Drop)]

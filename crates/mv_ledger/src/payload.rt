@@ -11,23 +11,14 @@ ghost use Rattle.mv_ledger.specs.Payloads.{sized_from, offer_from, bundle_from, 
 
 use mv_interpreter::Arg;
 use mv_module_text::Reader;
+use mv_move_types::limits::{
+    MOST_ARGUMENTS, MOST_CERTIFICATE_BYTES, MOST_MODULE_BYTES, MOST_OFFERS,
+};
 use mv_move_types::{LeafKind, Refusal, Version};
 use std::alloc::{AllocError, Global};
 
 // What the reader refuses malformed bytes with. So do the functions here.
 const MALFORMED: Refusal = Refusal::Phase(2);
-
-// How many modules a bundle has at most.
-const MOST_OFFERS: u64 = 16;
-
-// How many bytes a module's text has at most.
-const MOST_TEXT: u64 = 65_536;
-
-// How many bytes a certificate has at most.
-const MOST_CERTIFICATE: u64 = 1_048_576;
-
-// How many arguments a run is given at most.
-const MOST_ARGUMENTS: u64 = 16;
 
 /// A module that is offered, with its certificate.
 #[derive(Clone, Copy)]
@@ -70,8 +61,8 @@ fn offer<'a>(reader: &mut Reader<'a>) -> Result<Offered<'a>, Refusal>
     ensures refused { result ≡ Err (Refusal.Phase 2) → offer_from reader.old ≡ None }
     ensures errors { IfErr result (λ e. e ≡ Refusal.Phase 2) }
 {
-    let text = sized(reader, MOST_TEXT)?;
-    let certificate = sized(reader, MOST_CERTIFICATE)?;
+    let text = sized(reader, MOST_MODULE_BYTES as u64)?;
+    let certificate = sized(reader, MOST_CERTIFICATE_BYTES)?;
     Ok(Offered { text, certificate })
 }
 

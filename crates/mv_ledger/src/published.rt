@@ -6,7 +6,7 @@ ghost use Rattle.mv_move_types.specs.Named.{module_place};
 ghost use Rattle.mv_move_types.specs.Published.{with_modules};
 ghost use Rattle.mv_linker.specs.Link.{tables_in};
 ghost use Rattle.mv_linker.specs.News.{AreTexts, published_of};
-ghost use Rattle.mv_interpreter.specs.Runs.{AtMost};
+ghost use Rattle.mv_frames.specs.Counters.{AtMost};
 ghost use Rattle.mv_ledger.specs.declared.tallies.Placed.{Placed as Standing};
 ghost use Rattle.mv_ledger.specs.Judging.{IsKeptOut, MayFollow};
 ghost use Rattle.mv_ledger.specs.Tallying.{tally_after, AddsTallies, ArePlacedFor, HasRoomLeft};
@@ -17,11 +17,9 @@ use mv_binary_format::Module;
 use mv_frames::StructTally;
 use mv_linker::{New, Store, add, link, name_of};
 use mv_move_types::Refusal;
+use mv_move_types::limits::MOST_MODULES;
 use std::alloc::{AllocError, Global};
 use std::marker::Model;
-
-// How many modules a ledger has at most.
-const MOST_MODULES: usize = 4096;
 
 /// Where each of these modules is to stand, with its tallies: in the place of the published one of its name, whose tallies it
 /// keeps, or in the next place.

@@ -2,8 +2,7 @@
 ghost use Rattle.std.specs.Prelude.{◌≡◌, ◌+◌, ◌-◌, ◌^◌, ◌<◌, ◌≤◌, [], ◌∷◌, ◌++◌, All, true, length, map, drop, slice_get, unwrap_or, None, Some, IfOk, IfErr, OnOk, OnErr};
 ghost use Rattle.std.specs.Vec.{vec_len, vec_capacity};
 ghost use Rattle.mv_linker.specs.Stored.{with_at};
-ghost use Rattle.mv_frames.specs.Counters.{is_tally_at};
-ghost use Rattle.mv_interpreter.specs.Runs.{AtMost};
+ghost use Rattle.mv_frames.specs.Counters.{AtMost, is_tally_at};
 ghost use Rattle.mv_module_text.specs.Parsing.{entries_from};
 ghost use Rattle.mv_ledger.specs.Parts.BodyParts.{form_of, counts_of, struct_of, tally_from};
 ghost use Rattle.mv_ledger.specs.Tallying.{fresh_tally, tally_after, AreInOrder, HasRoomFor, HasRoomLeft, IsRoomFor};

@@ -9,10 +9,8 @@ ghost use Rattle.mv_ledger.specs.ValueParts.{Extends, part_from, parts_from, val
 use crate::texts::put_leaf;
 use mv_linker::{Part, Store};
 use mv_move_types::Definition;
+use mv_move_types::limits::MOST_NESTING;
 use std::alloc::AllocError;
-
-// How deep a struct is nested at most.
-const MOST_NESTING: usize = 8;
 
 /// Appends the value of a struct that some words begin with to a text, and returns the words after it. None where they
 /// begin with no such value.
@@ -99,7 +97,7 @@ pub fn put_value(
     ensures { OnOk result (text.new.items ≡ text.old.items ++ key_value_text (tables_in store.now) (name_at (tables_in store.now) d.place d.index) words.now) }
 {
     let start = text.len();
-    match put_struct(store, MOST_NESTING, d, words, text)? {
+    match put_struct(store, MOST_NESTING as usize, d, words, text)? {
         Some(_) => Ok(()),
         None => {
             text.truncate(start);

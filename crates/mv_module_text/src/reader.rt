@@ -13,6 +13,7 @@ ghost use Rattle.mv_module_text.specs.Reads.{Reads, ReadsAs, Marks, Collects};
 
 use crate::{Constant, codes};
 use byteorder::{BigEndian, ByteOrder, LittleEndian};
+use mv_move_types::limits::{MOST_FIELDS, MOST_INSTRUCTIONS, MOST_NAME_BYTES, MOST_TYPES};
 use mv_move_types::{
     Address, Field, FieldHandle, FunctionHandle, Instruction, LeafKind, ModuleHandle, Refusal,
     StructHandle, Token, ValueType, Version, Visibility, Width,
@@ -28,18 +29,6 @@ const MOST_INDEX: u64 = 65535;
 
 // The bits of all four abilities.
 const ALL_ABILITIES: u64 = 15;
-
-// The most bytes of an identifier.
-const MOST_NAME_BYTES: u64 = 128;
-
-// The most types of a signature.
-const MOST_TYPES: u64 = 64;
-
-// The most fields of a struct.
-const MOST_FIELDS: u64 = 32;
-
-// The most instructions of a function.
-const MOST_INSTRUCTIONS: u64 = 4096;
 
 /// Reads entries from the front of bytes. What it stands for is the bytes that are left.
 #[derive(Drop)]

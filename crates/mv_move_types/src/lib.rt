@@ -15,6 +15,7 @@
 
 mod borrow;
 mod instruction;
+pub mod limits;
 mod refusal;
 mod tables;
 mod token;

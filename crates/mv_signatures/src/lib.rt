@@ -25,16 +25,8 @@ ghost use Rattle.mv_signatures.specs.Signatures.{WellSigned, is_constant, may_be
 
 use mv_binary_format::{Constant, FunctionDefinition, Module, StructDefinition};
 use mv_bounds::Bounded;
+use mv_move_types::limits::{MOST_LOCALS, MOST_PARAMETERS, MOST_RESULTS};
 use mv_move_types::{FunctionHandle, LeafKind, Refusal, Token, ValueType, Width};
-
-/// The most parameters that a function has.
-const PARAMETERS: usize = 16;
-
-/// The most results that a function has.
-const RESULTS: usize = 8;
-
-/// The most locals that a function has, parameters included.
-const LOCALS: usize = 64;
 
 /// Accepts exactly the modules whose rules of phase 5 hold.
 ///
@@ -77,7 +69,9 @@ fn are_handles_small(m: &Module<'_>) -> bool
 fn are_locals_few(m: &Module<'_>) -> bool
     ensures { result ≡ list_all (λ d. nat_le (local_count m.now d) 64) m.now.functions }
 {
-    m.functions().iter().all(|d| count_locals(m, d) <= LOCALS)
+    m.functions()
+        .iter()
+        .all(|d| count_locals(m, d) <= MOST_LOCALS)
 }
 
 /// Whether every constant is a leaf of its type, of exactly its length.
@@ -151,7 +145,7 @@ fn is_field_type(token: Token) -> bool
 fn is_small(m: &Module<'_>, h: FunctionHandle) -> bool
     ensures { result ≡ handle_is_small m.now h }
 {
-    has_at_most(m, h.parameters, PARAMETERS) && has_at_most(m, h.results, RESULTS)
+    has_at_most(m, h.parameters, MOST_PARAMETERS) && has_at_most(m, h.results, MOST_RESULTS)
 }
 
 /// Whether a signature is there and has at most so many types.

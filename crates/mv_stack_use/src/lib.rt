@@ -22,11 +22,9 @@ ghost use Rattle.mv_stack_use.specs.Heights.{function_is_level, effect, effect_o
 use mv_binary_format::FunctionDefinition;
 use mv_bounds::Bounded;
 use mv_cfg::Cfg;
+use mv_move_types::limits::MOST_OPERANDS;
 use mv_move_types::{Instruction, Refusal};
 use std::marker::Model;
-
-/// The most operands that stand on a function's stack.
-const OPERANDS: usize = 128;
 
 /// How many operands an instruction takes, and how many it gives.
 #[derive(Clone, Copy)]
@@ -201,7 +199,7 @@ fn height_by(height: usize, e: StackEffect) -> Option<usize>
     ensures { result ≡ raised height e }
 {
     let after = height.checked_sub(e.takes)?.checked_add(e.gives)?;
-    (after <= OPERANDS).then_some(after)
+    (after <= MOST_OPERANDS).then_some(after)
 }
 
 /// Whether every block begins and ends with nothing on the stack. `code` is the function's code.

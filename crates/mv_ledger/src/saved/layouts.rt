@@ -8,12 +8,10 @@ ghost use Rattle.mv_ledger.specs.Parts.LayoutParts.{kinds_at, kinds_of_part, kin
 ghost use Rattle.mv_ledger.specs.SavedText.{keyed_from};
 
 use mv_linker::{Part, Store};
+use mv_move_types::limits::MOST_NESTING;
 use mv_move_types::{Definition, LeafKind};
 use std::alloc::{AllocError, Global};
 use std::marker::Model;
-
-/// How deep a struct is nested at most.
-pub const MOST_NESTING: usize = 8;
 
 /// Appends the structs with key of the module at a place.
 fn put_keyed(store: &Store, place: u16, keyed: &mut Vec<Definition>) -> Result<(), AllocError>
@@ -173,7 +171,7 @@ impl<'a> Layouts<'a> {
         // For the prover: the modules are a store's, and so their structs are small.
         let _modules = self.len();
         let mut kinds = Vec::new(alloc);
-        let there = self.put_struct(MOST_NESTING, d, &mut kinds)?;
+        let there = self.put_struct(MOST_NESTING as usize, d, &mut kinds)?;
         if there { Ok(Some(kinds)) } else { Ok(None) }
     }
 }

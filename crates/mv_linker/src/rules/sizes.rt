@@ -8,13 +8,9 @@ ghost use Rattle.mv_linker.specs.Sizes.{AreDefined, AreSizes, AreSmall, greater,
 
 use crate::New;
 use mv_binary_format::Module;
+use mv_move_types::limits::{MOST_LEAVES, MOST_NESTING};
 use mv_move_types::{Field, Refusal, Token, ValueType};
 use std::alloc::{AllocError, Global};
-
-/// The most leaf values of a struct.
-const MOST_LEAVES: u32 = 256;
-/// The deepest nesting of a struct.
-pub(crate) const DEEPEST: u8 = 8;
 
 /// A struct's size.
 #[derive(Clone, Copy)]
@@ -85,7 +81,7 @@ fn size_of_struct(rows: &[Vec<Option<Size>>], defined: &[Defined], fields: &[Fie
         }
         deepest = greater(deepest, size.nesting);
     }
-    if deepest < DEEPEST {
+    if deepest < MOST_NESTING {
         Some(Size {
             leaves: leaves as u16,
             nesting: deepest + 1,
@@ -174,7 +170,7 @@ fn rows_of(
     ensures { IfOk result (λ v. AreFinalRows (offered bundle.now) (map (λ d. d.items) defined.now) (map (λ r. r.items) v.items)) }
 {
     let mut rows = next_rows(alloc, &[], bundle, defined)?;
-    for _round in 1..DEEPEST {
+    for _round in 1..MOST_NESTING {
         if are_known(&rows) {
             return Ok(rows);
         }

@@ -15,8 +15,8 @@ returns-in_err-header c =
     (placed-gap (tables_of c.reading.tables.items) (headers_of c.reading.headers.items) c.reading.end c.reading.reader _ (some_map header_of c.reading.headers.items _ n c.reading-test.ensures)
     (sym c.take_header.ensures.first ∙ ap (option_map header_of) c.in_err-header.ensures.ok_part) c.reading.invariant.goes)
 
-pub returns-then-end-gt-MOST_BYTES : goal.returns-then-end-gt-MOST_BYTES
-returns-then-end-gt-MOST_BYTES c =
+pub returns-then-end-gt-MOST_CONTENT_BYTES : goal.returns-then-end-gt-MOST_CONTENT_BYTES
+returns-then-end-gt-MOST_CONTENT_BYTES c =
     let lt : 65536 < c.reading.end + c.in_ok-header.header.length = omega (arith, c.from-end.ensures) in (
       refl,
       placed-beyond (tables_of c.reading.tables.items) (headers_of c.reading.headers.items) c.reading.end c.reading.reader (header_of c.in_ok-header.header) _

@@ -11,21 +11,19 @@ ghost use Rattle.mv_ledger.specs.Parts.LoadedParts.{AreCounted};
 ghost use Rattle.mv_ledger.specs.View.{all_of, tallied, IsTalliedStore};
 
 use crate::saved::counts::{Counts, stored_counts};
-use crate::saved::layouts::{Layouts, MOST_NESTING};
+use crate::saved::layouts::Layouts;
 use crate::tallies::{Tallies, Tally};
 use mv_linker::{Part, Store};
 use mv_move_types::Definition;
+use mv_move_types::limits::{MOST_NESTING, MOST_STEPS};
 use mv_storage::Storage;
 use std::alloc::{AllocError, Global};
-
-// How many values of a struct a run makes at most.
-const MOST_PACKS: u128 = 10_000_000;
 
 /// Whether a tally is that of a struct of which so many values are stored, after so many runs.
 fn is_counted(tally: &Tally, stored: u128, runs: u64) -> bool
     ensures { IsTrue result ↔ ((tally.now.packs ≤ most_steps * runs) × (stored + tally.now.unpacks ≡ tally.now.packs)) }
 {
-    tally.packs <= u128::from(runs) * MOST_PACKS
+    tally.packs <= u128::from(runs) * MOST_STEPS as u128
         && tally.unpacks <= tally.packs
         && tally.packs - tally.unpacks == stored
 }
@@ -79,7 +77,7 @@ fn all_counts(alloc: Global, layouts: &Layouts<'_>, storage: &Storage) -> Result
     'each: for d in layouts.keyed() {
         let n = stored.at(*d);
         if n > 0 {
-            add_struct(layouts, MOST_NESTING, *d, n, &mut counts);
+            add_struct(layouts, MOST_NESTING as usize, *d, n, &mut counts);
         }
     }
     Ok(counts)

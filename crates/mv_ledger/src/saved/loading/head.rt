@@ -7,16 +7,11 @@ ghost use Rattle.mv_ledger.specs.Parts.LoadedParts.{form_from, head_from, head_o
 use crate::payload::{Offered, offers};
 use mv_module_text::Reader;
 use mv_move_types::Refusal;
+use mv_move_types::limits::{MOST_MODULES, MOST_RUNS};
 use std::alloc::Global;
 
 // What the reader refuses malformed bytes with. So do the functions here.
 const MALFORMED: Refusal = Refusal::Phase(2);
-
-// How many runs a ledger has at most.
-const MOST_RUNS: u64 = 4_294_967_296;
-
-// How many modules a ledger has at most.
-const MOST_MODULES: u64 = 4096;
 
 /// The form of a saved ledger's text.
 #[derive(Clone, Copy)]
@@ -68,6 +63,6 @@ pub fn read_head<'a>(alloc: Global, reader: &mut Reader<'a>) -> Result<Head<'a>,
     marks(reader)?;
     let form = form(reader)?;
     let runs = reader.number(MOST_RUNS)?;
-    let offers = offers(alloc, reader, MOST_MODULES)?;
+    let offers = offers(alloc, reader, MOST_MODULES as u64)?;
     Ok(Head { form, runs, offers })
 }

@@ -17,13 +17,11 @@ use crate::saved::loading::stubs::{Stub, Stubs};
 use crate::saved::loading::{LoadError, because};
 use mv_linker::{New, Store};
 use mv_move_types::Refusal;
+use mv_move_types::limits::MOST_MODULE_BYTES;
 use std::alloc::{AllocError, Global};
 
 // How many modules take the places of stubs together at most.
 const MOST_TOGETHER: usize = 64;
-
-// How many bytes the texts of these have, before no more join them.
-const MOST_BYTES: usize = 65_536;
 
 /// Whether they are the same bytes.
 fn are_same(a: &[u8], b: &[u8]) -> bool
@@ -75,7 +73,7 @@ fn next_news<'a>(
     let mut news = Vec::new(alloc);
     let mut size: usize = 0;
     'each: for place in places {
-        if size >= MOST_BYTES || news.len() >= MOST_TOGETHER {
+        if size >= MOST_MODULE_BYTES || news.len() >= MOST_TOGETHER {
             return Ok(news);
         }
         let Some(offer) = offers.get(usize::from(*place)) else {

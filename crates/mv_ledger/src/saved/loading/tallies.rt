@@ -7,10 +7,11 @@ ghost use Rattle.mv_ledger.specs.Parts.BodyParts.{form_of, counts_of, struct_of,
 use crate::saved::loading::head::SavedForm;
 use crate::tallies::Tally;
 use mv_module_text::Reader;
+use mv_move_types::limits::{MOST_RUNS, MOST_STEPS};
 use mv_move_types::{Refusal, Width};
 
 // The most values of a struct that 2^32 runs of 10,000,000 steps each make.
-const MOST_COUNT: u64 = 42_949_672_960_000_000;
+const MOST_COUNT: u64 = MOST_RUNS * MOST_STEPS;
 
 /// Reads a count of a tally.
 fn count(reader: &mut Reader<'_>, form: SavedForm) -> Result<u128, Refusal>
