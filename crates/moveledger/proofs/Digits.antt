@@ -18,7 +18,7 @@ use Rattle.mv_module_text.specs.Laws.{AreBytes}
 use Rattle.mv_binary_format.proofs.Back.{all-are_bytes}
 use Rattle.moveledger.specs.Hexadecimal.{hexadecimal, IsHexadecimal}
 use Rattle.moveledger.specs.Checking.{refusal_of}
-use Rattle.mv_ledger.proofs.Shows.Digits.{digit}
+use Rattle.mv_lines.proofs.Shows.Digits.{digit}
 
 -- a digit in either case has the value of the digit in lower case
 hex_digit_value-lower : (c d : ℕ) → d < 16 → to_ascii_lowercase c ≡ hex_digit d → hex_digit_value c ≡ Some d

@@ -8,7 +8,7 @@ use Rattle.mv_machine.specs.declared.Ending.TheVariants.{Returned as HasReturned
 use Rattle.mv_machine.specs.Lines.{Reply as Told, Refused as ToldRefused, reply_lines, numbered}
 use Rattle.mv_machine.specs.Ledger.{Publish, Run, Show, Audit, BadRun, Bad, Format, AsText, AsJson}
 use Rattle.mv_move_types.specs.declared.refusal.Refusal.{Refusal as ReportRefusal}
-use Rattle.mv_ledger.specs.LinesView.{LinesView}
+use Rattle.mv_lines.specs.LinesView.{LinesView}
 use Rattle.mv_ledger.specs.RecordText.{IsShapeless, format_text}
 use Rattle.mv_ledger.specs.Answering.{Replies, told, told_ending, told_lines}
 use Rattle.mv_ledger.specs.View.{LedgerView, state_of}

@@ -6,8 +6,8 @@ use Rattle.std.specs.Io.KnownBytes.{Appends}
 use Rattle.std.proofs.KnownBytes.{Appends-nil, Appends-trans, starts_with_rest}
 use Rattle.std.proofs.lemmas.List.{flat_map_more}
 use Rattle.mv_machine.specs.Lines.{numbered}
-use Rattle.mv_ledger.specs.Answering.{ended}
-use Rattle.mv_ledger.specs.Pieces.{TakesPiece, piece_text}
+use Rattle.mv_lines.specs.LinesView.{ended}
+use Rattle.mv_lines.specs.Pieces.{TakesPiece, piece_text}
 use Rattle.moveledger.specs.Answered.{Writes, WritesPart, WritesWholeLines, number_at}
 use Rattle.moveledger.specs.Writing.{BreaksOff}
 use Rattle.moveledger.specs.declared.streaming.EngineError.{EngineError}

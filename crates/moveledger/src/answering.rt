@@ -4,7 +4,7 @@ ghost use Rattle.std.specs.Io.KnownBytes.{Appends};
 ghost use Rattle.mv_machine.specs.Ledger.{AsText};
 ghost use Rattle.mv_machine.specs.Lines.{Reply as Told, numbered, kind_text, stop_text};
 ghost use Rattle.mv_ledger.specs.Answering.{told, told_ending, told_lines};
-ghost use Rattle.mv_ledger.specs.Pieces.{piece_text};
+ghost use Rattle.mv_lines.specs.Pieces.{piece_text};
 ghost use Rattle.moveledger.specs.Answered.{BreaksOffReply, IsAnswered, IsBrokenOff, MayBeAnswered, MayBeAnsweredByLines, Writes, WritesPart, WritesWholeLines};
 ghost use Rattle.moveledger.specs.Answered.{WritesReply, WritesReplyWholeLines, WritesReplyPart, line_of, number_at};
 ghost use Rattle.moveledger.specs.Writing.{BreaksOff};

@@ -11,7 +11,8 @@
 use Rattle.std.specs.Prelude.{◌≡◌, ℕ, zero, suc, ℤ, List, [], ◌∷◌, Option, Some, None, ◌⊎◌}
 use Rattle.mv_move_types.specs.declared.refusal.Refusal.TheVariants.{Phase}
 use Rattle.mv_machine.specs.Lines.{Told}
-use Rattle.mv_ledger.specs.Answering.{Replies, ended}
+use Rattle.mv_ledger.specs.Answering.{Replies}
+use Rattle.mv_lines.specs.LinesView.{ended}
 use Rattle.mv_ledger.specs.Loading.{FailsLoad, IsLoaded}
 use Rattle.mv_ledger.specs.View.{LedgerView, empty_view, state_of}
 use Rattle.moveledger.specs.Checking.{IsAccepted, IsRefusedText}

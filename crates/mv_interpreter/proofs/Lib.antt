@@ -1,13 +1,8 @@
-pub mod Owned
 pub mod Edits
 pub mod Counting
 pub mod Entering
 pub mod Turning
-pub mod Typing
 pub mod Flat
-pub mod Borrows
-pub mod Guided
-pub mod Lists
-pub mod Homes
+pub mod TypedCalls
 pub mod Joined
 mod StoredPieces

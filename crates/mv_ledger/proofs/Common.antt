@@ -123,36 +123,37 @@ pub use Rattle.mv_linker.proofs.Joining.Upgraded.{same_abilities-is}
 pub use Rattle.mv_linker.proofs.Kept.HandleDefinitions.{name-found}
 pub use Rattle.mv_interface.proofs.NameLemmas.{is_module-is, same_module-is, same_module-same, same_struct-is, same_struct-same}
 pub use Rattle.mv_interface.proofs.OwnDefinitions.{module_there, own-definition}
-pub use Rattle.mv_linker.proofs.TagTests.{same_tag-is}
-pub use Rattle.mv_linker.specs.Link.{IsPublishable, IsStore, MayJoin, are_compatible, tables_in}
+pub use Rattle.mv_link_rules.proofs.TagTests.{same_tag-is}
+pub use Rattle.mv_link_rules.specs.Link.{IsPublishable, IsStore, MayJoin, are_compatible, tables_in}
 pub use Rattle.mv_linker.specs.News.{AreTexts, HasItsTexts, published_of, published_one}
 pub use Rattle.mv_interface.specs.Shapes.{AreFieldsAt, AreParts, IsMadeOf, IsPart, is_keyed as keyed_in, is_of_value, structs_in, has_key}
-pub use Rattle.mv_linker.specs.StoreRules.{Links, Reaches, depends_on, directly as depends_at_once, further as depends_further, module_is_there, modules_are_there, struct_is_small, struct_is_there}
-pub use Rattle.mv_linker.specs.StoreRules.{structs_are_there}
+pub use Rattle.mv_link_rules.specs.StoreRules.{Links, Reaches, depends_on, directly as depends_at_once, further as depends_further, module_is_there, modules_are_there, struct_is_small, struct_is_there}
+pub use Rattle.mv_link_rules.specs.StoreRules.{structs_are_there}
 pub use Rattle.mv_linker.specs.Stored.{with_at}
-pub use Rattle.mv_linker.specs.Upgrades.{function_stays, may_replace, same_field, same_fields, same_struct_definition, structs_stay}
+pub use Rattle.mv_link_rules.specs.Upgrades.{function_stays, may_replace, same_field, same_fields, same_struct_definition, structs_stay}
 pub use Rattle.mv_linker.specs.declared.New.{New}
 pub use Rattle.mv_interface.specs.declared.shapes.Part.{Part}
 pub use Rattle.mv_interface.specs.declared.shapes.Part.TheVariants.{Leaf as LeafPart, Nothing, Struct as StructPart}
-pub use Rattle.mv_interpreter.proofs.Flat.FineWords.{fine_words-typed}
-pub use Rattle.mv_interpreter.proofs.Guided.Published.{certificates_from, published_certified, runs_faultless}
-pub use Rattle.mv_interpreter.proofs.Homes.{index_of, own_of_store}
-pub use Rattle.mv_interpreter.proofs.Lists.{All-at}
-pub use Rattle.mv_interpreter.proofs.Typing.Admitted.{Ranged, admitted_typed}
-pub use Rattle.mv_interpreter.proofs.Typing.Callees.{on_found}
-pub use Rattle.mv_interpreter.proofs.Typing.Fine.{fine_storage, leaf_ranges, typed_is_fine}
-pub use Rattle.mv_interpreter.proofs.Typing.Tests.{same_kind-same}
-pub use Rattle.mv_interpreter.specs.Flat.Agreement.{nameless}
-pub use Rattle.mv_interpreter.proofs.Owned.{IsOwn}
-pub use Rattle.mv_interpreter.specs.Runs.{Agrees, IsFineWords, Tallies, arg_value, call_of, number_fits}
-pub use Rattle.mv_interpreter.specs.Typing.Accepted.{StoreAccepted}
-pub use Rattle.mv_interpreter.specs.Typing.StateTyped.{Numbered, StorageTyped}
+pub use Rattle.mv_soundness.proofs.Words.FineWords.{fine_words-typed}
+pub use Rattle.mv_soundness.proofs.Guided.Published.{certificates_from, published_certified, runs_faultless}
+pub use Rattle.mv_soundness.proofs.Homes.{index_of, own_of_store}
+pub use Rattle.mv_soundness.proofs.Lists.{All-at}
+pub use Rattle.mv_soundness.proofs.Typing.Admitted.{Ranged, admitted_typed}
+pub use Rattle.mv_soundness.proofs.Typing.Callees.{on_found}
+pub use Rattle.mv_soundness.proofs.Typing.Fine.{fine_storage, leaf_ranges, typed_is_fine}
+pub use Rattle.mv_soundness.proofs.Typing.Tests.{same_kind-same}
+pub use Rattle.mv_lines.specs.Tallies.{nameless}
+pub use Rattle.mv_soundness.proofs.Owned.{IsOwn}
+pub use Rattle.mv_interpreter.specs.Runs.{Agrees, Tallies, arg_value, call_of, number_fits}
+pub use Rattle.mv_soundness.specs.Words.{IsFineWords}
+pub use Rattle.mv_soundness.specs.Typing.Accepted.{StoreAccepted}
+pub use Rattle.mv_soundness.specs.Typing.StateTyped.{Numbered, StorageTyped}
 pub use Rattle.mv_interpreter.specs.declared.Arg.{Arg, Arg as Argument}
 pub use Rattle.mv_ledger.specs.Accepted.Records.{EachRecordIsWell, IsVetted}
 pub use Rattle.mv_ledger.specs.Accepted.SoundLedger.{IsSoundLedger}
 pub use Rattle.mv_ledger.specs.Answering.{AnswersRecord, Replies, told, told_ending}
 pub use Rattle.mv_ledger.specs.Asking.{offer_of, offers_of, request_of}
-pub use Rattle.mv_ledger.specs.Auditing.{audit_from, counted_in, counts_from, counts_json, stored_of}
+pub use Rattle.mv_lines.specs.Auditing.{audit_from, counted_in, counts_from, counts_json, stored_of}
 pub use Rattle.mv_ledger.specs.Changes.{Leaves, RunsTo}
 pub use Rattle.mv_ledger.specs.Counting.Conservation.{Conserves, IsEntryCall, IsFineStorage, IsLeaf}
 pub use Rattle.mv_ledger.specs.Counting.Fine.{IsAbleStore}
@@ -175,7 +176,7 @@ pub use Rattle.mv_ledger.specs.Parts.LoadedParts.{form_from, head_from, head_of,
 pub use Rattle.mv_ledger.specs.Parts.Saving.{AddsValue, AreSections, HasOneMore, IsAdded, IsEmpty, IsSection, IsWritable, KnowsKinds, counts_text, definition_at, section_at}
 pub use Rattle.mv_ledger.specs.Parts.Saving.{sections_of, stored_in, written}
 pub use Rattle.mv_ledger.specs.Payloads.{argument_from, bundle_from, leaf_from, offer_from, offers_from, run_from, sized_from}
-pub use Rattle.mv_ledger.specs.Plain.{IsPlain, is_plain}
+pub use Rattle.mv_lines.specs.Plain.{IsPlain, is_plain}
 pub use Rattle.mv_ledger.specs.Publishing.{AllPass, FailsAmong, FailsAt, FirstFails, IsPublished, IsRefusedAmong, IsRefusedOffer, OfCertificate, OfModule, Passes, Spells, in_linking, in_offer}
 pub use Rattle.mv_ledger.specs.Publishing.{in_room, offered, phases}
 pub use Rattle.mv_ledger.specs.RecordText.{Asks, IsShaped, IsShapeless, argument_fits, argument_text, format_text, leaf_bytes, offer_fits, offer_text, publish_fits, publish_text, run_fits}
@@ -185,11 +186,12 @@ pub use Rattle.mv_ledger.specs.SavedLaws.{EachLedgerHasOneText, EachLoadIsOne, E
 pub use Rattle.mv_ledger.specs.SavedLaws.{NoLoadFails}
 pub use Rattle.mv_ledger.specs.SavedText.{First, Form, HeadFits, IsSavedText, Second, addressed_text, body_text, form_byte, greatest_count, head_text, is_under, keyed_from, keyed_indices}
 pub use Rattle.mv_ledger.specs.SavedText.{leaves_of_fields, leaves_text, saved_text, storage_text, stored_text, struct_text, tally_fits, tally_text}
-pub use Rattle.mv_ledger.specs.Showing.{PutsText, fields_text, key_name_text, key_value_text, show_from}
+pub use Rattle.mv_lines.specs.Showing.{PutsText, fields_text, key_name_text, key_value_text, show_from}
 pub use Rattle.mv_ledger.specs.Tallying.{AddsTallies, AreInOrder, ArePlacedFor, HasRoomFor, HasRoomLeft, IsRoomFor, fresh_tally, is_published, place_for, tallies_at, tally_after}
 pub use Rattle.mv_ledger.proofs.TallyWords.{AreWithin, IsNamed, with_placed}
-pub use Rattle.mv_ledger.specs.ValueParts.{Extends, part_from, parts_from}
-pub use Rattle.mv_ledger.specs.View.{ArePlaced, AreScarce, AreSized, IsLedger, IsSmall, IsTalliedStore, LedgerView, PublishedView, all_of, none_published, scarce_indices, state_of, tallied, view_of}
+pub use Rattle.mv_lines.specs.ValueParts.{Extends, part_from, parts_from}
+pub use Rattle.mv_ledger.specs.View.{ArePlaced, AreScarce, AreSized, IsLedger, IsSmall, IsTalliedStore, LedgerView, PublishedView, none_published, scarce_indices, state_of, view_of}
+pub use Rattle.mv_lines.specs.Tallies.{all_of, tallied}
 pub use Rattle.mv_ledger.specs.declared.executing.Barred.{Barred}
 pub use Rattle.mv_ledger.specs.declared.executing.Barred.TheVariants.{Rejected, Rejected as BarredRejected}
 pub use Rattle.mv_ledger.specs.declared.executing.Call.{Call}
@@ -197,8 +199,7 @@ pub use Rattle.mv_ledger.specs.declared.saved.loading.LoadError.TheVariants.{Bod
 pub use Rattle.mv_ledger.specs.declared.payload.Offered.{Offered}
 pub use Rattle.mv_ledger.specs.declared.saved.saving.Section.{Section}
 pub use Rattle.mv_ledger.specs.declared.tallies.Placed.{Placed}
-pub use Rattle.mv_ledger.specs.declared.tallies.Tally.{Tally}
-pub use Rattle.hex.specs.Hex.{encode_lower, lower_digits}
+pub use Rattle.mv_lines.specs.declared.tally.Tally.{Tally}
 pub use Rattle.mv_uleb.proofs.Spelled.{then_some-parts}
 pub use Rattle.mv_bounds.proofs.Entries.{place_below, element_at, all_at, there_below, mapped-at}
 pub use Rattle.mv_type_states.proofs.Tokens.{kinds_equal}

@@ -1,23 +1,2 @@
--- The proofs of shows and audits: names, numbers and values as text, the lines of JSON, and the lists of both.
---   Digits      An address as hexadecimal digits.
---   Fields      The values of fields, and their text, one after the other.
---   Structs     The value of a struct, by what its fields are made of.
---   Names       The texts of structs' names and of values are plain: identifiers are letters, digits and `_`.
---   Characters  The lines of a show and of an audit are texts of characters.
---   Sends       What a report in JSON sends, and which text is written for it.
---   Objects     That text is the line of JSON, since its texts are plain.
---   Pieces      A line of JSON, piece by piece.
---   Parted      The texts of a stored value, one behind the other.
---   Audits      The counts of an audit, module by module.
---   Reports     What a show and an audit reply.
-pub mod Digits
-pub mod Fields
-pub mod Structs
-pub mod Names
-pub mod Characters
-pub mod Sends
-pub mod Objects
-pub mod Pieces
-pub mod Parted
-pub mod Audits
+-- What a show and an audit reply; mv_lines has the proofs of their lines.
 pub mod Reports

@@ -1,12 +1,11 @@
 -- What the ledger's replies say, and when a call of the ledger answers a record.
 --   told reply, told_lines result              what a reply, and what a show or an audit, says; memory that ran out says nothing
---   ended lines                                lines, each with a line end
 --   AnswersRecord kind payload reply old new   the machine's ledger may reply this, the run ends well, and the ledger is sound after it
 --   IsReplied kind payload reply old new       the same of what a ledger holds; what has to stay stays, and a bundle gets the right answer
 --   Replies kind payload told old new          the same, or nothing is said and the ledger stays as it was
 --   RepliesText kind payload result held       the same of the text of a show or an audit, or of its refusal
 -- told_ending is a part of these.
-use Rattle.std.specs.Prelude.{◌≡◌, ℕ, List, [], ◌∷◌, ◌++◌, Option, Some, None, Result, Ok, Err, ⊤, flat_map, string_bytes, String}
+use Rattle.std.specs.Prelude.{◌≡◌, ℕ, List, [], ◌∷◌, ◌++◌, Option, Some, None, Result, Ok, Err, ⊤, string_bytes, String}
 use Rattle.std.specs.Global.{Global}
 use Rattle.mv_move_types.specs.declared.refusal.Refusal.{Refusal}
 use Rattle.mv_move_types.specs.declared.refusal.Refusal.TheVariants.{Phase, Memory as NoMemory}
@@ -17,7 +16,7 @@ use Rattle.mv_machine.specs.Lines.{RanToEnd, RanToAbort, RanOut, Told as ToldLin
 use Rattle.mv_machine.specs.Ledger.{LedgerState, Request, Answers}
 use Rattle.mv_ledger.specs.View.{LedgerView, state_of}
 use Rattle.mv_ledger.specs.RecordText.{Asks}
-use Rattle.mv_ledger.specs.LinesView.{LinesView}
+use Rattle.mv_lines.specs.LinesView.{LinesView, ended}
 use Rattle.mv_ledger.specs.Changes.{Leaves}
 use Rattle.mv_ledger.specs.Exact.{IsRightly}
 use Rattle.mv_ledger.specs.Publishing.{Spells}
@@ -45,10 +44,6 @@ abbrev pub told_lines : Result LinesView Refusal → Option Told
 told_lines (Ok lines) = Some (ToldLines lines.left)
 told_lines (Err (Phase phase)) = Some (ToldRefused phase)
 told_lines (Err NoMemory) = None
-
--- lines one after the other, each with a line end
-abbrev pub ended : List (List ℕ) → List ℕ
-ended = flat_map (λ line. line ++ 10 ∷ [])
 
 -- A record of this kind with this payload may be answered by what was told, and the ledger goes on to new; the run that it asks
 -- for, if it is admitted, ends as it should; and the ledger is sound then, so that each struct with neither copy nor drop has its

@@ -5,7 +5,7 @@ use Rattle.mv_move_types.specs.declared.refusal.Refusal.{Refusal}
 use Rattle.mv_move_types.specs.declared.refusal.Refusal.TheVariants.{Phase, Memory}
 use Rattle.mv_move_types.specs.Published.{PublishedModule, with_modules}
 use Rattle.mv_machine.specs.Ledger.{LedgerState}
-use Rattle.mv_linker.specs.Link.{MayJoin, tables_in}
+use Rattle.mv_link_rules.specs.Link.{MayJoin, tables_in}
 use Rattle.mv_ledger.specs.Exact.{IsAccepted, IsRefused}
 
 -- more modules may join those that are there

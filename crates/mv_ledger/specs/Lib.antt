@@ -1,11 +1,9 @@
-pub mod ValueParts
 pub mod View
 pub mod Asking
 pub mod Running
 pub mod Tallying
 pub mod RecordText
 pub mod Publishing
-pub mod LinesView
 pub mod Answering
 pub mod Exact
 pub mod Payloads
@@ -13,13 +11,6 @@ pub mod Changes
 pub mod Judging
 pub mod Counting
 pub mod Accepted
-pub mod Showing
-pub mod Plain
-pub mod Sending
-pub mod Auditing
-pub mod Pieces
-pub mod JsonLeft
-pub mod Left
 pub mod Formats
 pub mod SavedText
 pub mod Loading

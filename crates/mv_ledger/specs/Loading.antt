@@ -12,8 +12,8 @@ use Rattle.mv_move_types.specs.Published.{PublishedModule}
 use Rattle.mv_bounds.specs.Definitions.{all_differ}
 use Rattle.mv_machine.specs.Count.{count}
 use Rattle.mv_machine.specs.Ledger.{Offer, LedgerState}
-use Rattle.mv_linker.specs.Link.{have_one_name, tables_in}
-use Rattle.mv_linker.specs.StoreRules.{Links}
+use Rattle.mv_link_rules.specs.Link.{have_one_name, tables_in}
+use Rattle.mv_link_rules.specs.StoreRules.{Links}
 use Rattle.mv_ledger.specs.Publishing.{AllPass, FailsAmong, offered}
 use Rattle.mv_ledger.specs.SavedText.{Form, head_text, HeadFits, IsSavedText}
 use Rattle.mv_ledger.specs.declared.saved.loading.LoadError.{LoadError}

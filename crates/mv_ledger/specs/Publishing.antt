@@ -14,7 +14,7 @@ use Rattle.mv_type_states.specs.Sound.{IsSound}
 use Rattle.mv_acquires.specs.Acquires.{AcquiresHold}
 use Rattle.mv_certificate.specs.Certificate.{Certificate, all_locals_hold, all_edges_hold, certificate_holds}
 use Rattle.mv_certificate.specs.CertificateText.{IsCertificateText}
-use Rattle.mv_linker.specs.Link.{MayJoin, tables_in}
+use Rattle.mv_link_rules.specs.Link.{MayJoin, tables_in}
 use Rattle.mv_move_types.specs.declared.refusal.Refusal.{Refusal}
 use Rattle.mv_move_types.specs.declared.refusal.Refusal.TheVariants.{Phase, Memory}
 use Rattle.mv_machine.specs.Ledger.{Offer, LedgerState, modules_of}

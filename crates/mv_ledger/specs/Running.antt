@@ -7,13 +7,13 @@ use Rattle.mv_machine.specs.Lines.{Reply as Told}
 use Rattle.mv_machine.specs.Ledger.{LedgerState, RunRequest, settled, admitted}
 use Rattle.mv_machine.specs.declared.Ending.{Ending}
 use Rattle.mv_machine.specs.declared.Ending.TheVariants.{Returned, Aborted, Exhausted}
-use Rattle.mv_linker.specs.Link.{tables_in}
+use Rattle.mv_link_rules.specs.Link.{tables_in}
 use Rattle.mv_storage.specs.Map.{Layers}
 use Rattle.mv_interpreter.specs.Runs.{call_of}
 use Rattle.mv_ledger.specs.declared.executing.Call.{Call}
 use Rattle.mv_ledger.specs.declared.executing.Barred.{Barred}
 use Rattle.mv_ledger.specs.declared.executing.Barred.TheVariants.{Rejected, Memory}
-use Rattle.mv_ledger.specs.declared.tallies.Tally.{Tally}
+use Rattle.mv_lines.specs.declared.tally.Tally.{Tally}
 use Rattle.mv_ledger.specs.View.{state_of, view_of}
 
 -- the call that is admitted is the machine's, and the reason against one; want of memory stands for neither

@@ -15,12 +15,13 @@ use Rattle.mv_move_types.specs.Module.{Module, own_name}
 use Rattle.mv_move_types.specs.Named.{have_one_name, module_place}
 use Rattle.mv_move_types.specs.Published.{PublishedModule}
 use Rattle.mv_machine.specs.Ledger.{scarce_structs, tally_of}
-use Rattle.mv_linker.specs.Link.{tables_in}
+use Rattle.mv_link_rules.specs.Link.{tables_in}
 use Rattle.mv_frames.specs.Counters.{is_tally_at, packs_at, unpacks_at}
 use Rattle.mv_frames.specs.declared.counters.StructTally.{StructTally}
-use Rattle.mv_ledger.specs.declared.tallies.Tally.{Tally}
+use Rattle.mv_lines.specs.declared.tally.Tally.{Tally}
 use Rattle.mv_ledger.specs.declared.tallies.Placed.{Placed}
-use Rattle.mv_ledger.specs.View.{scarce_indices, tallied}
+use Rattle.mv_ledger.specs.View.{scarce_indices}
+use Rattle.mv_lines.specs.Tallies.{tallied}
 
 -- each struct with neither copy nor drop has the tally that it had, or an empty one
 abbrev pub AddsTallies : List PublishedModule → List PublishedModule → List Tally → List Tally → Type 0

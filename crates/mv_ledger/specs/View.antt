@@ -1,7 +1,6 @@
 -- What a ledger holds, and the machine's state that it stands for.
 --   LedgerView, empty_view                   what a ledger holds, with values as words
 --   state_of view                            the machine's ledger that it stands for (why: decision 15)
---   tallied modules t                        a tally with its struct's name
 --   view_of published stored tallies runs    what a ledger with these parts holds
 --   IsSmall runs t                           a tally is no more than so many runs can have made
 --   AreScarce modules tallies                each module has the tallies of its scarce structs, in order
@@ -11,19 +10,19 @@
 --   IsTalliedStore modules tallies           what holds of these between calls
 --   IsLedger published stored tallies runs   what holds of a ledger's parts between calls
 -- The others are parts of these.
-use Rattle.std.specs.Prelude.{◌≡◌, ℕ, ◌+◌, ◌*◌, ◌≤◌, List, [], ◌∷◌, map, length, All, IsTrue, unwrap_or, true}
-use Rattle.std.specs.List.{flat_map, filter, list_all, enumerate_from}
+use Rattle.std.specs.Prelude.{◌≡◌, ℕ, ◌+◌, ◌*◌, ◌≤◌, List, [], ◌∷◌, map, length, All, IsTrue, true}
+use Rattle.std.specs.List.{filter, list_all, enumerate_from}
 use Rattle.mv_move_types.specs.Limits.{most_modules, most_runs, most_steps}
-use Rattle.mv_move_types.specs.Module.{Module, name_at}
+use Rattle.mv_move_types.specs.Module.{Module}
 use Rattle.mv_move_types.specs.Published.{PublishedModule}
 use Rattle.mv_machine.specs.Flat.{FlatEntry, storage_of}
 use Rattle.mv_machine.specs.Lines.{Tallied}
 use Rattle.mv_machine.specs.Ledger.{LedgerState}
-use Rattle.mv_linker.specs.Link.{IsStore, tables_in}
+use Rattle.mv_link_rules.specs.Link.{IsStore, tables_in}
 use Rattle.mv_move_types.specs.Scarce.{is_scarce_struct, is_scarce_in}
-use Rattle.mv_interpreter.specs.Runs.{IsFineWords}
-use Rattle.mv_interpreter.specs.Flat.Agreement.{nameless}
-use Rattle.mv_ledger.specs.declared.tallies.Tally.{Tally}
+use Rattle.mv_soundness.specs.Words.{IsFineWords}
+use Rattle.mv_lines.specs.Tallies.{all_of, tallied}
+use Rattle.mv_lines.specs.declared.tally.Tally.{Tally}
 use Rattle.mv_ledger.specs.RecordText.{offer_fits}
 use Rattle.mv_ledger.specs.Publishing.{offered}
 use Rattle.mv_ledger.specs.Accepted.SoundLedger.{IsSoundLedger}
@@ -47,14 +46,6 @@ state_of v = record {
   tallies = v.tallies;
   runs = v.runs;
 }
-
--- a tally with its struct's name
-abbrev pub tallied : List Module → Tally → Tallied
-tallied modules t = record { struct = unwrap_or (name_at modules t.place t.index) nameless; packs = t.packs; unpacks = t.unpacks }
-
--- the tallies of all modules, in the order of publication
-abbrev pub all_of : List (List Tally) → List Tally
-all_of = flat_map (λ ts. ts)
 
 -- the tallies of the modules at this place and on are each with the module of its place
 abbrev pub ArePlaced : ℕ → List (List Tally) → Type 0

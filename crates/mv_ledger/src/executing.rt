@@ -3,17 +3,19 @@ ghost use Rattle.std.specs.Prelude.{◌≡◌, ◌<◌, ◌≤◌, ◌+◌, ℕ,
 ghost use Rattle.std.specs.List.{list_all};
 ghost use Rattle.mv_move_types.specs.Limits.{most_modules, most_runs, most_steps};
 ghost use Rattle.mv_machine.specs.Ledger.{is_argument, are_arguments, with_signer as with_sender};
-ghost use Rattle.mv_linker.specs.Link.{tables_in};
+ghost use Rattle.mv_link_rules.specs.Link.{tables_in};
 ghost use Rattle.mv_interpreter.specs.declared.Arg.{Arg as Argument};
 ghost use Rattle.mv_frames.specs.Counters.{AtMost};
-ghost use Rattle.mv_interpreter.specs.Runs.{IsCall, IsFineWords, Agrees, HasEnded, number_fits, arg_value};
+ghost use Rattle.mv_interpreter.specs.Runs.{IsCall, Agrees, HasEnded, number_fits, arg_value};
+ghost use Rattle.mv_soundness.specs.Words.{IsFineWords};
 ghost use Rattle.mv_ledger.specs.Changes.{RunsTo};
 ghost use Rattle.mv_ledger.specs.Answering.{told};
 ghost use Rattle.mv_ledger.specs.Asking.{request_of};
 ghost use Rattle.mv_ledger.specs.ParameterTypes.{asked_type};
 ghost use Rattle.mv_ledger.specs.Running.{IsAdmitted, IsSettled, left_by, run_of};
 ghost use Rattle.mv_ledger.specs.Tallying.{HasRoomLeft};
-ghost use Rattle.mv_ledger.specs.View.{all_of, IsSmall};
+ghost use Rattle.mv_ledger.specs.View.{IsSmall};
+ghost use Rattle.mv_lines.specs.Tallies.{all_of};
 
 use crate::Reply;
 use crate::payload::RunRecord;

@@ -3,7 +3,7 @@
 ghost use Rattle.mv_ledger.specs.Counting.Headline.{EveryCountIsTallied};
 ghost use Rattle.mv_ledger.specs.Counting.Conservation.{EveryRunIsOwnWork, EveryRunConserves};
 ghost use Rattle.mv_ledger.specs.Accepted.Records.{EachRecordIsWell};
-ghost use Rattle.mv_ledger.specs.Plain.{NoTextIsEscaped};
+ghost use Rattle.mv_lines.specs.Plain.{NoTextIsEscaped};
 ghost use Rattle.mv_ledger.specs.View.{EachTallyIsScarce, state_of};
 ghost use Rattle.mv_ledger.specs.SavedLaws.{EachLedgerHasOneText, EachTextHasOneLedger, EachSaveIsLoaded, EachLoadIsSound, EachLoadIsOne, EachLoadIsSaved, EachSecondFormComesBack, NoLoadFails, NoSaveIsRefused};
 

@@ -15,23 +15,14 @@
 //! ```
 #![tactic(auto)]
 
-mod ahead;
-mod audit;
 mod executing;
 mod format;
-mod json_entries;
-mod json_lines;
-mod json_pieces;
 mod laws;
-mod lines;
 mod payload;
-mod pieces;
 mod published;
 mod publishing;
 mod saved;
 mod tallies;
-mod texts;
-mod values;
 
 ghost use Rattle.std.specs.Prelude.{◌≡◌, is_some, IfOk};
 ghost use Rattle.mv_ledger.specs.View.{empty_view, state_of};
@@ -43,19 +34,17 @@ ghost use Rattle.mv_ledger.specs.SavedText.{IsSavedText, Second};
 
 use executing::{Barred, admitted};
 use format::{Format, read_format};
-pub use json_lines::{json_of_storage, json_of_tallies};
 pub use laws::{
     each_ledger_has_one_text, each_load_is_one, each_load_is_saved, each_load_is_sound,
     each_record_is_well, each_save_is_loaded, each_second_form_comes_back, each_tally_is_scarce,
     each_text_has_one_ledger, every_count_is_tallied, every_run_conserves, every_run_is_own_work,
     no_load_fails, no_save_is_refused, no_text_is_escaped,
 };
-pub use lines::Lines;
+pub use mv_lines::{Lines, Piece, json_of_storage, json_of_tallies};
 use mv_machine::Outcome;
 use mv_move_types::Refusal;
 use mv_storage::Storage;
 use payload::read_run;
-pub use pieces::Piece;
 use published::Published;
 pub use saved::loading::{LoadError, migrate};
 use saved::saving::text_of;
@@ -98,7 +87,8 @@ pub struct Ledger {
 }
 
 impl Model for Ledger {
-    ghost use Rattle.mv_ledger.specs.View.{LedgerView, view_of, all_of, IsLedger};
+    ghost use Rattle.mv_ledger.specs.View.{LedgerView, view_of, IsLedger};
+    ghost use Rattle.mv_lines.specs.Tallies.{all_of};
 
     ghost Value = { LedgerView };
 
@@ -227,12 +217,13 @@ impl Ledger {
     {
         let alloc = self.alloc;
         let published = &self.published;
+        let tallies = published.tallies.lists();
         let Some(format) = read_format(payload) else {
             return Err(Refusal::Phase(1));
         };
         match format {
-            Format::Text => Ok(Lines::of_tallies(alloc, &published.store, &published.tallies)),
-            Format::Json => Ok(Lines::json_of_tallies(alloc, &published.store, &published.tallies)),
+            Format::Text => Ok(Lines::of_tallies(alloc, &published.store, tallies)),
+            Format::Json => Ok(Lines::json_of_tallies(alloc, &published.store, tallies)),
         }
     }
 

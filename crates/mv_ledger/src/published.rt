@@ -4,13 +4,14 @@ ghost use Rattle.mv_move_types.specs.Limits.{most_modules};
 ghost use Rattle.mv_move_types.specs.Module.{own_name};
 ghost use Rattle.mv_move_types.specs.Named.{module_place};
 ghost use Rattle.mv_move_types.specs.Published.{with_modules};
-ghost use Rattle.mv_linker.specs.Link.{tables_in};
+ghost use Rattle.mv_link_rules.specs.Link.{tables_in};
 ghost use Rattle.mv_linker.specs.News.{AreTexts, published_of};
 ghost use Rattle.mv_frames.specs.Counters.{AtMost};
 ghost use Rattle.mv_ledger.specs.declared.tallies.Placed.{Placed as Standing};
 ghost use Rattle.mv_ledger.specs.Judging.{IsKeptOut, MayFollow};
 ghost use Rattle.mv_ledger.specs.Tallying.{tally_after, AddsTallies, ArePlacedFor, HasRoomLeft};
-ghost use Rattle.mv_ledger.specs.View.{all_of, none_published, ArePlaced, IsTalliedStore};
+ghost use Rattle.mv_ledger.specs.View.{none_published, ArePlaced, IsTalliedStore};
+ghost use Rattle.mv_lines.specs.Tallies.{all_of};
 
 use crate::tallies::{Placed, Tallies, put, scarce_structs};
 use mv_binary_format::Module;

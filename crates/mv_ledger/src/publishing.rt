@@ -6,14 +6,14 @@ ghost use Rattle.mv_module_text.specs.Laws.{AreBytes};
 ghost use Rattle.mv_certificate.specs.Certificate.{Certificate};
 ghost use Rattle.mv_certificate.specs.Verified.{IsCertifiedBy};
 ghost use Rattle.mv_machine.specs.Ledger.{Publish};
-ghost use Rattle.mv_linker.specs.Link.{IsStore};
+ghost use Rattle.mv_link_rules.specs.Link.{IsStore};
 ghost use Rattle.mv_linker.specs.News.{AreTexts, HasItsTexts, published_of};
 ghost use Rattle.mv_ledger.specs.Asking.{offer_of, offers_of};
 ghost use Rattle.mv_ledger.specs.RecordText.{IsShaped};
 ghost use Rattle.mv_ledger.specs.Publishing.{Spells, Passes, AllPass, IsRefusedOffer, IsRefusedAmong};
 ghost use Rattle.mv_ledger.specs.Judging.{IsAcceptedBy, IsRefusedBy};
 ghost use Rattle.mv_ledger.specs.Tallying.{AddsTallies};
-ghost use Rattle.mv_ledger.specs.View.{all_of};
+ghost use Rattle.mv_lines.specs.Tallies.{all_of};
 
 use crate::payload::{Bundle, Offered, read_bundle};
 use crate::published::Published;

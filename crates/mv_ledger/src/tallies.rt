@@ -6,27 +6,19 @@ ghost use Rattle.mv_frames.specs.Counters.{AtMost, is_tally_at};
 ghost use Rattle.mv_module_text.specs.Parsing.{entries_from};
 ghost use Rattle.mv_ledger.specs.Parts.BodyParts.{form_of, counts_of, struct_of, tally_from};
 ghost use Rattle.mv_ledger.specs.Tallying.{fresh_tally, tally_after, AreInOrder, HasRoomFor, HasRoomLeft, IsRoomFor};
-ghost use Rattle.mv_ledger.specs.View.{all_of, ArePlaced, scarce_indices};
+ghost use Rattle.mv_ledger.specs.View.{ArePlaced, scarce_indices};
+ghost use Rattle.mv_lines.specs.Tallies.{all_of, lists_of};
 
 use crate::saved::loading::head::SavedForm;
 use crate::saved::loading::tallies::read_tallies;
 use mv_binary_format::Module;
 use mv_frames::StructTally;
+use mv_lines::Tally;
 use mv_linker::is_scarce;
 use mv_module_text::Reader;
 use mv_move_types::Refusal;
 use std::alloc::{AllocError, Global};
 use std::marker::Model;
-
-/// How often values of a struct with neither copy nor drop were made, and taken apart, in the runs that returned; of other
-/// structs nothing is kept. The struct is named by its module's place in the order of publication and its definition's index.
-#[derive(Clone, Copy)]
-pub struct Tally {
-    pub place: u16,
-    pub index: u16,
-    pub packs: u128,
-    pub unpacks: u128,
-}
 
 /// The indices of a module's structs with neither copy nor drop.
 pub fn scarce_structs(alloc: Global, m: &Module<'_>) -> Result<Vec<u16>, AllocError>
@@ -105,7 +97,7 @@ pub struct Tallies {
 
 impl Model for Tallies {
     ghost use Rattle.std.specs.Prelude.{List, map};
-    ghost use Rattle.mv_ledger.specs.declared.tallies.Tally.{Tally};
+    ghost use Rattle.mv_lines.specs.declared.tally.Tally.{Tally};
     ghost use Rattle.mv_ledger.specs.View.{ArePlaced};
 
     ghost Value = { List (List Tally) };
@@ -131,6 +123,13 @@ impl Tallies {
         ensures placed { ArePlaced 0 self.now }
     {
         self.modules.len()
+    }
+
+    /// Each module's tallies.
+    pub fn lists(&self) -> &[Vec<Tally>]
+        ensures { lists_of result.now ≡ self.now }
+    {
+        &self.modules
     }
 
     /// The tallies of the module at a place; none, if no module is there.

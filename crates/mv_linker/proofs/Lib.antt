@@ -1,5 +1,5 @@
--- The proofs of the store and of phase 13. Of general use are ListTests, Orders, Outcomes, Members (modules among others), DependsOn and TagTests
--- (types by names); mv_interface has those on one module.
+-- The proofs of the store and of phase 13. Of general use are ListTests, Orders, Outcomes and Members (modules among others);
+-- mv_interface has those on one module, and mv_link_rules those on the rules.
 -- Common passes on the words that the proofs speak of all along, and Lemmas the lemmas that most of them cite.
 -- The rooms, each with an index at its head:
 --   Joining      a bundle joins a store
@@ -13,9 +13,7 @@ pub mod Common
 pub mod ListTests
 pub mod Orders
 pub mod Outcomes
-pub mod DependsOn
 pub mod Members
-pub mod TagTests
 pub mod Lemmas
 pub mod Joining
 pub mod Cycles

@@ -8,8 +8,9 @@ use Rattle.mv_linker.specs.declared.store.code.Callee.TheVariants.{Own, Foreign}
 use Rattle.mv_linker.specs.declared.store.code.Code.{Code}
 use Rattle.mv_interface.specs.Interface.{IsInterface}
 use Rattle.mv_linker.specs.DependencyGraph.{AreNeeds}
-use Rattle.mv_linker.specs.Lowered.{AreOthers, AreOwnSizes, IsCalled, IsLowered}
-use Rattle.mv_linker.specs.Resolved.{AreWidths}
+use Rattle.mv_linker.specs.Lowered.{AreOthers, AreOwnSizes, IsCalled}
+use Rattle.mv_lowering.specs.Lowered.{IsLowered}
+use Rattle.mv_lowering.specs.Resolved.{AreWidths}
 use Rattle.mv_linker.specs.Slots.{AreSlots, IsOpen}
 
 -- the function that a handle names is that of a slot of the module at a place

@@ -4,7 +4,7 @@ use Rattle.mv_move_types.specs.Options.{◌>>=◌}
 use Rattle.mv_move_types.specs.Module.{Module, module_name}
 use Rattle.mv_move_types.specs.Named.{module_place}
 use Rattle.mv_linker.specs.Places.{has}
-use Rattle.mv_linker.specs.StoreRules.{depends_on, Reaches}
+use Rattle.mv_link_rules.specs.StoreRules.{depends_on, Reaches}
 
 -- no module of the store depends on itself by a chain
 abbrev pub IsOrdered : List Module → Type 0

@@ -4,20 +4,14 @@ pub mod Found
 pub mod Indexed
 pub mod Kept
 pub mod KeptTypes
-pub mod Link
-pub mod Linked
-pub mod LinkedBy
 pub mod Lowered
 pub mod Matches
-pub mod StoreRules
 pub mod News
-pub mod Operations
 pub mod DependencyGraph
 pub mod Places
 pub mod ScopeDependencies
 pub mod Settled
 pub mod Relinked
-pub mod Resolved
 pub mod Scope
 pub mod Sizes
 pub mod Slots
@@ -25,6 +19,3 @@ pub mod Slotted
 pub mod FoundStructs
 pub mod Stored
 pub mod Targets
-pub mod Upgrades
-pub mod Widths
-pub mod Words

@@ -12,7 +12,7 @@ use Rattle.mv_move_types.specs.Module.{Module, module_name, own_name}
 use Rattle.mv_move_types.specs.Named.{declared_in, is_struct}
 use Rattle.mv_move_types.specs.Options.{find_index}
 use Rattle.mv_bounds.specs.Definitions.{WellDefined}
-use Rattle.mv_linker.specs.StoreRules.{function_fits, function_named}
+use Rattle.mv_link_rules.specs.StoreRules.{function_fits, function_named}
 
 -- a handle of a module is of another one, which is well defined
 pub record IsOf (m : Module) (handle : ℕ) (n : Module) (home : ModuleName) : Type 0 where

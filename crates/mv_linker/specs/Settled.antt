@@ -8,7 +8,7 @@
 use Rattle.std.specs.Prelude.{◌≡◌, ◌⊎◌, ℕ, ◌<◌, List, IsTrue, Some, slice_get}
 use Rattle.mv_move_types.specs.Module.{Module}
 use Rattle.mv_linker.specs.Places.{has, IsWithin}
-use Rattle.mv_linker.specs.StoreRules.{depends_on, Reaches}
+use Rattle.mv_link_rules.specs.StoreRules.{depends_on, Reaches}
 
 -- the module at one place depends on the one at another
 pub record LeadsTo (modules : List Module) (p q : ℕ) : Type 0 where

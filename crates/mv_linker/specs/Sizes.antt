@@ -20,7 +20,7 @@ use Rattle.mv_move_types.specs.Names.{StructName}
 use Rattle.mv_move_types.specs.Module.{Module, StructDefinition, struct_name, name_of_struct, name_at}
 use Rattle.mv_move_types.specs.Named.{definition_of}
 use Rattle.mv_move_types.specs.Leaves.{leaves_within}
-use Rattle.mv_linker.specs.StoreRules.{struct_is_small}
+use Rattle.mv_link_rules.specs.StoreRules.{struct_is_small}
 use Rattle.mv_linker.specs.declared.rules.sizes.Size.{Size}
 use Rattle.mv_linker.specs.declared.rules.sizes.Defined.{Defined}
 use Rattle.mv_linker.specs.declared.rules.sizes.Defined.TheVariants.{Published, Bundled}

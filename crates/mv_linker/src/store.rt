@@ -1,7 +1,7 @@
 // The module store. Its readers are in stored.rt.
 ghost use Rattle.std.specs.Prelude.{◌≡◌, ◌≤◌, [], length};
 ghost use Rattle.mv_move_types.specs.Named.{module_place};
-ghost use Rattle.mv_linker.specs.Link.{IsStore, tables_in};
+ghost use Rattle.mv_link_rules.specs.Link.{IsStore, tables_in};
 
 pub mod adding;
 pub mod code;
@@ -30,7 +30,7 @@ impl Model for Store {
     ghost use Rattle.std.specs.Prelude.{◌≤◌, List, length};
     ghost use Rattle.mv_move_types.specs.Published.{PublishedModule};
     ghost use Rattle.mv_linker.specs.Kept.{AreKeyed, published_under};
-    ghost use Rattle.mv_linker.specs.Link.{IsStore, tables_in};
+    ghost use Rattle.mv_link_rules.specs.Link.{IsStore, tables_in};
     ghost use Rattle.mv_linker.specs.Stored.{AreCodesOf};
 
     ghost Value = { List PublishedModule };

@@ -3,12 +3,17 @@ use Rattle.mv_interpreter.proofs.Flat.Common.{◌≡◌, ℕ, suc, ◌≤◌, Li
 use Rattle.mv_interpreter.proofs.Flat.Common.{Tag, LeafTag, StructTag, ReferenceTag, Token, flat, FunctionCall, Storage, State, Failure, Value, Ref, IsLinked, Program, tokens_named}
 use Rattle.mv_interpreter.proofs.Flat.Common.{width_of_tokens, width_of_tags, FlatOutcome, FlatStuck, SameOutcome, flat_entry, History, ValueWords, LocalsWords, Represented, StoreAccepted}
 use Rattle.mv_interpreter.proofs.Flat.Common.{SoundStore, HaveTypes, HasType, Guides, StorageTyped}
-use Rattle.mv_interpreter.proofs.{Typing.Operands.on_names, Typing.Structs.names_length, Typing.Addresses.accepted_is_sound, Flat.Wide.Sized, Flat.Sizes.sizes}
-use Rattle.mv_interpreter.proofs.{Typing.Roots.tokens_have_tags, Flat.Slot.widths_named, Flat.Arguments.ListWords, Flat.Grow.entered_locals, Flat.Grow.opened-long, Flat.Grow.all_named, Flat.Grow.named_split}
+use Rattle.mv_soundness.proofs.Typing.Operands.{on_names}
+use Rattle.mv_soundness.proofs.Typing.Structs.{names_length}
+use Rattle.mv_soundness.proofs.Typing.Addresses.{accepted_is_sound}
+use Rattle.mv_soundness.proofs.Words.Leaves.{Sized}
+use Rattle.mv_soundness.proofs.Words.Sizes.{sizes}
+use Rattle.mv_interpreter.proofs.{Flat.Slot.widths_named, Flat.Arguments.ListWords, Flat.Grow.entered_locals, Flat.Grow.opened-long, Flat.Grow.all_named, Flat.Grow.named_split}
+use Rattle.mv_soundness.proofs.Typing.Roots.{tokens_have_tags}
 use Rattle.mv_interpreter.proofs.{Flat.Calls.types_are, Flat.Run.turns_follow}
-use Rattle.mv_interpreter.proofs.Typing.First.{Nowhere, CallTyped, begun, first_typed, first_is}
+use Rattle.mv_soundness.proofs.Typing.First.{Nowhere, CallTyped, begun, first_typed, first_is}
 use Rattle.mv_machine.specs.Run.{outcome_from, run}
-use Rattle.mv_interpreter.specs.Typing.HasType.{fields_by_name}
+use Rattle.mv_soundness.specs.Typing.HasType.{fields_by_name}
 use Rattle.mv_interpreter.specs.Flat.FlatRun.{flat_turns, flat_first, flat_run, width_of_others}
 use Rattle.mv_interpreter.specs.Flat.FlatStep.{opened}
 use Rattle.std.proofs.lemmas.Option.{none-some}

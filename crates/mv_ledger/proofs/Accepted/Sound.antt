@@ -5,7 +5,7 @@ use Rattle.mv_ledger.proofs.Common.{with_run, Published, Refused, Reply, AtRetur
 use Rattle.mv_ledger.proofs.Common.{Storage, is_fine_storage, IsStore, tables_in, runs_faultless, Ranged, admitted_typed, fine_storage, typed_is_fine, StorageTyped, IsVetted, IsSoundLedger}
 use Rattle.mv_ledger.proofs.Common.{Conserves, IsFineStorage, IsPublished, Spells}
 use Rattle.mv_linker.proofs.Joining.Empty.{no_modules}
-use Rattle.mv_interpreter.specs.Typing.Outcome.{Faultless}
+use Rattle.mv_soundness.specs.Typing.Outcome.{Faultless}
 use Rattle.mv_ledger.proofs.Bundles.Heirs.{Inherits, inherited}
 use Rattle.mv_ledger.proofs.Bundles.Staying.{storage-stays}
 use Rattle.mv_ledger.proofs.Counting.Admitted.{admitted-entry}

@@ -6,7 +6,8 @@ use Rattle.mv_ledger.proofs.Common.{is_struct, module_named, module_place, Modul
 use Rattle.mv_ledger.proofs.Common.{is_scarce_struct, Field, Abilities, on_bind, all_at, then_found, same_abilities-is, is_module-is, same_module-same, IsStore, are_compatible, tables_in}
 use Rattle.mv_ledger.proofs.Common.{function_stays, may_replace, same_fields, same_struct_definition, structs_stay, own_of_store, IsOwn, AreScarce, scarce_indices, Tally}
 use Rattle.std.proofs.lemmas.Slice.Eq.{bytes_eq-Decides}
-use Rattle.mv_ledger.proofs.Bundles.Places.{had, one_own}
+use Rattle.mv_ledger.proofs.Bundles.Places.{one_own}
+use Rattle.mv_ledger.proofs.Bundles.Places.{had}
 use Rattle.mv_interface.proofs.Found.{passing, found_passes}
 use Rattle.mv_linker.proofs.Joining.Upgraded.{stays-at}
 use Rattle.std.proofs.lemmas.Option.{option_and_then_some}

@@ -3,7 +3,8 @@ use Rattle.mv_ledger.proofs.Common.{[], ◌*◌, ◌+◌, ◌<◌, ◌∙◌, �
 use Rattle.mv_ledger.proofs.Common.{map, All, All-head, All-map, All-tail, count_by, find, nat_le, nat_lt, unwrap_or, Module, StructName, same_struct, PublishedModule, with_modules, Offer, Publish, Tallied, IsStore, tables_in}
 use Rattle.mv_ledger.proofs.Common.{refl, scarce_structs, tally_of, untouched_tally, IsShaped, AddsTallies, ArePlacedFor, AreWithin, MayFollow, is_published, with_placed, ArePlaced, AreScarce}
 use Rattle.mv_ledger.proofs.Common.{IsKeptOut, IsRefusedIn, IsSmall, IsTalliedStore, Refusal, Memory, Phase, all_of, inl, tallied, Placed, Tally}
-use Rattle.mv_ledger.proofs.Bundles.Places.{AreSpotted, EachIs, had, had-at, all-spotted, count-joined, each-first, each-joined, spotted-within, had-found}
+use Rattle.mv_ledger.proofs.Bundles.Places.{AreSpotted, EachIs, had-at, all-spotted, count-joined, each-first, each-joined, spotted-within, had-found}
+use Rattle.mv_ledger.proofs.Bundles.Places.{had}
 use Rattle.mv_ledger.proofs.Bundles.Heirs.{inherited}
 use Rattle.mv_ledger.proofs.Bundles.TalliesJoined.{tallies-added, scarce-added}
 use Rattle.mv_ledger.proofs.Runs.ScarceTallies.{All-back}

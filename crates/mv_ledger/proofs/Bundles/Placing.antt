@@ -4,7 +4,8 @@ use Rattle.mv_ledger.proofs.Common.{suc, sym, take, true, zero, zero-add, ℕ, n
 use Rattle.mv_ledger.proofs.Common.{slice_set, unwrap_or, Global, Vec, Module, own_name, module_place, PublishedModule, tables_in, published_of, published_one, with_at, New, ArePlacedFor}
 use Rattle.mv_ledger.proofs.Common.{AreWithin, fresh_tally, is_published, place_for, tallies_at, with_placed, ArePlaced, scarce_indices, Placed, Tally}
 use Rattle.mv_linker.proofs.Kept.WithAt.{set-with_at, push-with_at, length-with_at}
-use Rattle.mv_ledger.proofs.Bundles.Places.{place-found, is_there, spot, spot-below, had}
+use Rattle.mv_ledger.proofs.Bundles.Places.{place-found, is_there, spot, spot-below}
+use Rattle.mv_ledger.proofs.Bundles.Places.{had}
 use Rattle.mv_ledger.proofs.Loads.BodyTallies.{lists}
 
 -- the next place after these

@@ -5,7 +5,8 @@ use Rattle.mv_ledger.proofs.Common.{All-tail, All-weaker, same_Some, first_so, s
 use Rattle.mv_ledger.proofs.Common.{PublishedModule, scarce_name, scarce_structs, tally_of, untouched_tally, Tallied, some-of, same_struct-is, same_struct-same}
 use Rattle.mv_ledger.proofs.Common.{IsStore, tables_in, index_of, nameless, AddsTallies, fresh_tally, tallies_at, ArePlaced, AreScarce, IsNamed, all_of, scarce_indices}
 use Rattle.mv_ledger.proofs.Common.{tallied, Tally}
-use Rattle.mv_ledger.proofs.Bundles.Places.{had, EachIs}
+use Rattle.mv_ledger.proofs.Bundles.Places.{EachIs}
+use Rattle.mv_ledger.proofs.Bundles.Places.{had}
 use Rattle.mv_ledger.proofs.Bundles.Heirs.{Inherits, had-first, name-stays}
 use Rattle.mv_ledger.proofs.Runs.ScarceTallies.{Ascends, ascend-from}
 use Rattle.mv_ledger.proofs.Runs.TalliesAfter.{map-where, map-then}

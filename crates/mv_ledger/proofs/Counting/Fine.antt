@@ -4,7 +4,7 @@ use Rattle.mv_move_types.specs.Names.{StructName}
 use Rattle.mv_move_types.specs.Module.{Module}
 use Rattle.mv_machine.specs.Value.{Value}
 use Rattle.mv_machine.specs.State.{Frame, State, frames}
-use Rattle.mv_interpreter.specs.Typing.StateTyped.{Numbered}
+use Rattle.mv_soundness.specs.Typing.StateTyped.{Numbered}
 use Rattle.mv_ledger.specs.Counting.Kept.{IsKept, StorageIsKept, IsAscending}
 use Rattle.mv_ledger.proofs.Counting.Held.{held, made, unmade}
 

@@ -6,8 +6,8 @@ use Rattle.mv_ledger.proofs.Common.{count_in, count_in_fields, Event, Frame, Sta
 use Rattle.mv_ledger.proofs.Common.{with_stack, abilities_of, Leaf, Local, Place, Ref, Root, Stored, Struct, Value, list_of, value_at, same_struct-is, Numbered, Balances, IsAbleStore, IsFine, held}
 use Rattle.mv_ledger.proofs.Common.{held_in_frame, held_in_frames, held_in_local, held_in_locals, held_in_stack, made, unmade, FrameIsKept, FramesAreKept, IsKept, IsScarce, LocalIsKept}
 use Rattle.mv_ledger.proofs.Common.{LocalsAreKept, StackIsKept}
-use Rattle.mv_interpreter.proofs.Typing.Frames.{held_entry, written_below}
-use Rattle.mv_interpreter.proofs.Typing.Write.{numbers_stay, root-stack}
+use Rattle.mv_soundness.proofs.Typing.Frames.{held_entry, written_below}
+use Rattle.mv_soundness.proofs.Typing.Write.{numbers_stay, root-stack}
 use Rattle.mv_ledger.proofs.Counting.Counts.{held-set, kept-set, kept-get, none_in, lacks_copy, lacks_drop, held-append, held-reverse, held-list_of, held-fields_of, held-entered, kept-append}
 use Rattle.mv_ledger.proofs.Counting.Counts.{kept-first, kept-rest, kept-reverse, kept-list_of, kept-entered, kept-value_at, Replaces, replaces-at}
 use Rattle.mv_ledger.proofs.Counting.Stored.{count-over, kept-stored_at, kept-with, ascending-with, count-without, count-new, kept-without, ascending-without}

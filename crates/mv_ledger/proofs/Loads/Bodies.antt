@@ -9,7 +9,7 @@ use Rattle.mv_machine.specs.Lines.{Tallied}
 use Rattle.mv_machine.specs.State.{Storage}
 use Rattle.mv_machine.specs.Typed.{is_fine_storage}
 use Rattle.mv_storage.specs.FlatStorage.{FlatStorage}
-use Rattle.mv_linker.specs.Link.{IsStore, tables_in}
+use Rattle.mv_link_rules.specs.Link.{IsStore, tables_in}
 use Rattle.mv_ledger.specs.Counting.Kept.{IsAscending}
 use Rattle.mv_ledger.specs.SavedText.{Form, tally_text, tally_fits, storage_text}
 use Rattle.mv_ledger.specs.Parts.LoadedParts.{body_from}

@@ -2,7 +2,7 @@
 use Rattle.mv_ledger.proofs.Common.{[], ◌++◌, ◌+◌, ◌<◌, ◌∙◌, ◌∷◌, ◌≡◌, ◌≤◌, List, Option, Some, ap, arith, cond, false, inl, inr, map, subst, suc, true, zero, zero-add, ℕ, AllByRecursion}
 use Rattle.mv_ledger.proofs.Common.{enumerate_from, filter, option_map_or, slice_get, Module, StructDefinition, Definition, Abilities, on_bind, abilities_at, on_found, is_keyed, has_key}
 use Rattle.mv_ledger.proofs.Common.{keyed_from, keyed_indices}
-use Rattle.mv_interpreter.proofs.Borrows.Standing.{Among as IsIn}
+use Rattle.mv_soundness.proofs.Borrows.Standing.{Among as IsIn}
 use Rattle.mv_ledger.proofs.Loads.BodyGroups.{Among, IsApart, Distinct}
 use Rattle.mv_ledger.proofs.Lists.{all-weaker, all-append}
 

@@ -15,7 +15,7 @@ use Rattle.mv_ledger.proofs.Loads.BodyValues.{under-flat}
 use Rattle.mv_ledger.proofs.Lists.{all-weaker, all-filter}
 use Rattle.mv_binary_format.proofs.Back.{filter-shorter}
 use Rattle.mv_ledger.specs.Parts.Saving.{struct_under}
-use Rattle.mv_interpreter.specs.Flat.Represents.{flat_entry}
+use Rattle.mv_soundness.specs.Words.{flat_entry}
 
 -- ---- what is read
 

@@ -11,7 +11,7 @@ use Rattle.mv_ledger.proofs.Loads.BodyLookups.{under, IsLow, low-all}
 use Rattle.mv_ledger.proofs.Loads.BodyEntries.{entry_text, IsEntry}
 use Rattle.mv_binary_format.proofs.Binds.{cond_parts}
 use Rattle.mv_ledger.specs.Parts.Saving.{struct_under}
-use Rattle.mv_interpreter.specs.Flat.Represents.{flat_entry}
+use Rattle.mv_soundness.specs.Words.{flat_entry}
 
 -- ---- leaves of the kinds that a struct's values have are those of such a value
 

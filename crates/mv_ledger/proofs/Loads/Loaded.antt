@@ -6,8 +6,8 @@ use Rattle.mv_ledger.proofs.Common.{StoreAccepted, StorageTyped, IsSoundLedger, 
 use Rattle.mv_ledger.proofs.Common.{struct_of, AreCounted, AreNotJoined, EachBodyIsRead, EachReadIsBody, IsBody, IsNoBody, SavedHead, body_from, counted_by, head_from, reason_of}
 use Rattle.mv_ledger.proofs.Common.{AllPass, offered, offer_fits, HeadFits, IsSavedText, body_text, head_text, storage_text, tally_text, AreLinked, IsLedger, IsSmall, IsTalliedStore, all_of, state_of, tallied, view_of, Link}
 use Rattle.mv_ledger.proofs.Common.{BadModule, Tally}
-use Rattle.mv_interpreter.proofs.Flat.Decoding.{storage_decoded}
-use Rattle.mv_interpreter.proofs.Flat.Sizes.{sizes}
+use Rattle.mv_soundness.proofs.Words.Decoding.{storage_decoded}
+use Rattle.mv_soundness.proofs.Words.Sizes.{sizes}
 use Rattle.mv_ledger.specs.declared.saved.loading.LoadError.{LoadError}
 use Rattle.mv_ledger.specs.declared.saved.loading.LoadError.TheVariants.{Memory}
 use Rattle.mv_ledger.proofs.Accepted.Stores.{accepted_store}

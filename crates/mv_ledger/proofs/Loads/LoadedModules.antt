@@ -2,7 +2,7 @@
 use Rattle.mv_ledger.proofs.Common.{[], ◌++◌, ◌∙◌, ◌∷◌, ◌≡◌, ◌≤◌, Bool, IsTrue, List, None, ap, append-nil, append_assoc, arith, cond, false, inl, inr, length, refl, subst, sym, and_parts}
 use Rattle.mv_ledger.proofs.Common.{list_any, not, Module, PublishedModule, with_module, with_modules, Refusal, Memory, Phase, all_differ, Offer, tables_in, Links, AreLinked, AreNotJoined}
 use Rattle.mv_ledger.proofs.Common.{IsKeptOut, MayFollow, reason_of, AllPass, IsRefusedAmong, NoLink, NoModule}
-use Rattle.mv_linker.specs.Link.{have_one_name}
+use Rattle.mv_link_rules.specs.Link.{have_one_name}
 use Rattle.mv_ledger.proofs.Bundles.Places.{one_name-turns}
 
 -- ---- modules of different names stand in the order in which they came

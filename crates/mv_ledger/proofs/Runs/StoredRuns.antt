@@ -3,7 +3,7 @@ use Rattle.mv_ledger.proofs.Common.{◌+◌, ◌∙◌, ◌≡◌, List, Option,
 use Rattle.mv_ledger.proofs.Common.{storage_of, LedgerState, settled, Told, Tallied, Aborted, Exhausted, Faulted, Returned, RunOutcome, Storage, HasAborted, HasExhausted, HasReturned}
 use Rattle.mv_ledger.proofs.Common.{tables_in, Agrees, told, told_ending, IsSettled, run_of, tally_after, IsNamed, IsSmall, all_of, state_of, tallied, view_of, Call, Tally}
 use Rattle.std.proofs.Common.{refl, subst}
-use Rattle.mv_interpreter.specs.Runs.{IsFineWords}
+use Rattle.mv_soundness.specs.Words.{IsFineWords}
 use Rattle.mv_machine.specs.declared.Outcome.{Outcome}
 use Rattle.mv_machine.specs.declared.Ending.{Ending}
 use Rattle.mv_ledger.specs.Changes.{RunsTo}

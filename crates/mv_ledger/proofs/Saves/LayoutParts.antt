@@ -12,6 +12,7 @@ use Rattle.mv_interface.specs.Handles.{IsStructAt}
 use Rattle.mv_interface.specs.Shapes.{has_key}
 use Rattle.mv_interface.specs.declared.shapes.Part.TheVariants.{Leaf, Struct}
 use Rattle.mv_ledger.proofs.Loads.LeafKinds.{kinds-count}
+use Rattle.mv_lines.proofs.Shows.Named.{defined, named, no_definition}
 
 -- ---- the kinds of the leaves of parts, as they are put one after the other
 
@@ -142,12 +143,6 @@ module _ (modules : List Module) where
   pub keyed-same : (d : Definition) → keyed_in modules d ≡ is_keyed modules d
   keyed-same d = key-at d (slice_get modules d.place)
 
-  -- the first part of a chain that leads to nothing
-  pub no_definition : {B : Type 0} (d : Definition) (f : Module → StructDefinition → Option B) (o : Option Module) → (o >>= λ m. slice_get m.structs d.index) ≡ None
-      → (o >>= λ m. slice_get m.structs d.index >>= f m) ≡ None
-  no_definition d f None e = refl
-  no_definition d f (Some m) e = ap (λ o. o >>= f m) e
-
   pub missing-name : (d : Definition) → AreFieldsAt modules d None → name_at modules d.place d.index ≡ None
   missing-name d h = no_definition d name_of_struct (slice_get modules d.place) h
 
@@ -171,34 +166,21 @@ module _ (published : List PublishedModule) (is : IsStore published) where
   abbrev modules : List Module
   modules = tables_in published
 
-  -- its modules are sound
-  sound : (place : ℕ) (m : Module) → slice_get modules place ≡ Some m → IsSound m
-  sound place m at = let p = passed-among published m is.passed (among-at modules place m at) in subst IsSound p.2 p.1.sound
-
-  -- what stands at a place and an index has a name, and is what the name stands for
-  pub defined : (d : Definition) (m : Module) (x : StructDefinition) → slice_get modules d.place ≡ Some m → slice_get m.structs d.index ≡ Some x
-      → (name : StructName) × (name_of_struct m x ≡ Some name) × (definition_of modules name ≡ Some (m, x.fields)) × (find_index (is_struct m name) m.structs ≡ Some d.index)
-  defined d m x at x_at = own-definition modules d.place m is.once at (sound d.place m at).bounds (sound d.place m at).defined d.index x x_at
-
-  pub named : (d : Definition) (m : Module) (x : StructDefinition) (name : StructName) → slice_get modules d.place ≡ Some m → slice_get m.structs d.index ≡ Some x → name_of_struct m x ≡ Some name
-      → name_at modules d.place d.index ≡ Some name
-  named d m x name at x_at e = then_found (slice_get modules d.place) _ m (Some name) at (then_found (slice_get m.structs d.index) _ x (Some name) x_at e)
-
   -- the kinds of a struct are those of its parts
   pub made-kinds : (k : ℕ) (d : Definition) (parts : List Part) → IsMadeOf modules d parts → (name_at modules d.place d.index >>= kinds_within (suc k) modules) ≡ kinds_of_parts modules k parts
   made-kinds k d parts h =
-      let own = defined d h.home h.definition h.there h.defined in
-      ap (λ o. o >>= kinds_within (suc k) modules) (named d h.home h.definition own.0 h.there h.defined own.1)
+      let own = defined published is d h.home h.definition h.there h.defined in
+      ap (λ o. o >>= kinds_within (suc k) modules) (named published is d h.home h.definition own.0 h.there h.defined own.1)
       ∙ ap (λ o. o >>= λ x. kinds_of_fields (kinds_of_token (kinds_within k modules) x.0) x.1) own.2
       ∙ parts-kinds modules h.home k h.definition.fields parts h.fields
 
   -- a struct has as many values of another one as its parts say
   pub made-structs : (k : ℕ) (d : Definition) (parts : List Part) → IsMadeOf modules d parts → HasStructs modules k d parts
   made-structs k d parts h =
-      let own = defined d h.home h.definition h.there h.defined in
+      let own = defined published is d h.home h.definition h.there h.defined in
       record {
         name = own.0;
-        named = named d h.home h.definition own.0 h.there h.defined own.1;
+        named = named published is d h.home h.definition own.0 h.there h.defined own.1;
         each = λ s.
             ap (λ o. option_map_or (λ (x : Module × List Field). cond (same_struct own.0 s) 1 0 + structs_in_fields (structs_in_token (structs_within k modules s) x.0) x.1) o 0) own.2
             ∙ ap (λ n. cond (same_struct own.0 s) 1 0 + n) (parts-structs modules h.home k s h.definition.fields parts h.fields);
@@ -218,12 +200,12 @@ module _ (published : List PublishedModule) (is : IsStore published) where
       on_found (λ (a : Abilities). a.key) (abilities_at modules d.place d.index) keyed (λ a a_is has.
       on_bind (slice_get modules d.place) _ a a_is (λ m m_is e1.
       on_bind (slice_get m.structs d.index) _ a e1 (λ x x_is e2.
-      let own = defined d m x m_is x_is in
+      let own = defined published is d m x m_is x_is in
       let small = all_at (struct_is_small modules m) m.structs d.index x (all_at (λ m. list_all (struct_is_small modules m) m.structs) modules d.place m is.links.small m_is) x_is in
       on_found (λ n. nat_le n 256) (name_of_struct m x >>= leaves_within 8 modules) small (λ n n_is le.
       let leaves : leaves_within 8 modules own.0 ≡ Some n = sym (ap (λ o. o >>= leaves_within 8 modules) own.1) ∙ n_is in
       let ks = map-is length (kinds_within 8 modules own.0) n (kinds-count modules 8 own.0 ∙ leaves) in
-      (ks.0, ap (λ o. o >>= leaf_kinds modules) (named d m x own.0 m_is x_is own.1) ∙ ks.1)))))
+      (ks.0, ap (λ o. o >>= leaf_kinds modules) (named published is d m x own.0 m_is x_is own.1) ∙ ks.1)))))
 
 -- the same where the modules are known to be those of a store
 pub puts-struct : (ms : List Module) → IsOfStore ms → (depth : ℕ) (d : Definition) (parts : List Part) (there : Bool) (old new : List LeafKind) → depth ≢ 0 → IsMadeOf ms d parts

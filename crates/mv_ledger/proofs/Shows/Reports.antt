@@ -6,11 +6,11 @@ use Rattle.mv_ledger.proofs.Common.{end_line, json_line, Storage, IsPublishable,
 use Rattle.mv_ledger.proofs.Common.{format_text, AreScarce, LedgerView, all_of, scarce_indices, state_of, Tally}
 use Rattle.mv_ledger.proofs.Common.{Answers, Asks, LedgerState, Publish, Request, Run, Spells, subst}
 use Rattle.std.specs.Prelude.{IsUtf8}
-use Rattle.mv_ledger.specs.Answering.{ended}
+use Rattle.mv_lines.specs.LinesView.{ended}
 use Rattle.mv_ledger.specs.Formats.{IsNoFormat}
 use Rattle.mv_ledger.proofs.Accepted.Records.{answers_record}
 use Rattle.mv_ledger.proofs.Counting.Ended.{counts-tallied}
-use Rattle.mv_ledger.proofs.Shows.Characters.{shown_utf8, audited_utf8}
+use Rattle.mv_lines.proofs.Shows.Characters.{shown_utf8, audited_utf8}
 
 -- ---- a payload that asks for no format
 
@@ -90,10 +90,10 @@ told_utf8 kind payload lines old new (Publish sender offers) late asked answers 
 told_utf8 kind payload lines old new (Run r) late asked answers sound = absurd (omega (arith, late, asked.0))
 told_utf8 kind payload lines old new (Show format) late asked answers sound =
     let same : lines ≡ shown old format = cc in
-    subst (λ (ls : List (List ℕ)). IsUtf8 (ended ls)) (sym same) (shown_utf8 old sound format)
+    subst (λ (ls : List (List ℕ)). IsUtf8 (ended ls)) (sym same) (shown_utf8 old sound.store sound.tallied format)
 told_utf8 kind payload lines old new (Audit format) late asked answers sound =
     let same : lines ≡ audited old format = cc in
-    subst (λ (ls : List (List ℕ)). IsUtf8 (ended ls)) (sym same) (audited_utf8 old sound format)
+    subst (λ (ls : List (List ℕ)). IsUtf8 (ended ls)) (sym same) (audited_utf8 old sound.store sound.tallied format)
 told_utf8 kind payload lines old new BadRun late asked answers sound = absurd (omega (arith, late, asked.0))
 told_utf8 kind payload lines old new Bad late asked answers sound = cc
 

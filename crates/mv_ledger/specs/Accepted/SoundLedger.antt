@@ -1,8 +1,8 @@
 -- Ledgers over which no run meets a fault.
 use Rattle.std.specs.Prelude.{◌≡◌, map}
 use Rattle.mv_machine.specs.Ledger.{LedgerState, modules_of, scarce_structs}
-use Rattle.mv_linker.specs.Link.{IsStore}
-use Rattle.mv_interpreter.specs.Typing.StateTyped.{StorageTyped}
+use Rattle.mv_link_rules.specs.Link.{IsStore}
+use Rattle.mv_soundness.specs.Typing.StateTyped.{StorageTyped}
 use Rattle.mv_ledger.specs.Counting.Kept.{IsAscending}
 use Rattle.mv_ledger.specs.Counting.Headline.{IsBalanced}
 

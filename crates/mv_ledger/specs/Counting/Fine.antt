@@ -4,7 +4,7 @@ use Rattle.std.specs.List.{AllByRecursion, list_all}
 use Rattle.mv_move_types.specs.Module.{Module}
 use Rattle.mv_abilities.specs.Abilities.{AbilitiesHold}
 use Rattle.mv_signatures.specs.Signatures.{entry_fits}
-use Rattle.mv_linker.specs.StoreRules.{structs_are_there}
+use Rattle.mv_link_rules.specs.StoreRules.{structs_are_there}
 
 -- what of the phases the counts rest on: abilities hold, handles carry the declared abilities, entry functions have no results
 pub record IsAbleStore (modules : List Module) : Type 0 where

@@ -9,7 +9,7 @@ use Rattle.mv_move_types.specs.Module.{Module, name_at}
 use Rattle.mv_move_types.specs.Published.{PublishedModule}
 use Rattle.mv_interface.specs.declared.shapes.Part.{Part}
 use Rattle.mv_interface.specs.declared.shapes.Part.TheVariants.{Leaf, Struct, Nothing}
-use Rattle.mv_linker.specs.Link.{IsStore, tables_in}
+use Rattle.mv_link_rules.specs.Link.{IsStore, tables_in}
 use Rattle.mv_ledger.specs.Layouts.{kinds_within}
 use Rattle.mv_ledger.specs.SavedText.{keyed_indices}
 

@@ -1,7 +1,7 @@
 // The structs whose values can be stored, and the leaves of which each such value is made.
 ghost use Rattle.std.specs.Prelude.{◌≡◌, ◌≤◌, ◌++◌, is_some, length, List, option_map, slice_get, Some, IfOk, OnOk};
 ghost use Rattle.mv_move_types.specs.Module.{Module as Tables};
-ghost use Rattle.mv_linker.specs.Link.{tables_in};
+ghost use Rattle.mv_link_rules.specs.Link.{tables_in};
 ghost use Rattle.mv_interface.specs.Shapes.{AreFieldsAt, structs_in};
 ghost use Rattle.mv_ledger.specs.Layouts.{is_keyed, kinds_under};
 ghost use Rattle.mv_ledger.specs.Parts.LayoutParts.{kinds_at, kinds_of_part, kinds_of_parts, keyed_at, IsOfStore, PutsKinds};
@@ -39,7 +39,7 @@ pub struct Layouts<'a> {
 impl<'a> Model for Layouts<'a> {
     ghost use Rattle.std.specs.Prelude.{◌≡◌, List};
     ghost use Rattle.mv_move_types.specs.Module.{Module};
-    ghost use Rattle.mv_linker.specs.Link.{tables_in};
+    ghost use Rattle.mv_link_rules.specs.Link.{tables_in};
     ghost use Rattle.mv_ledger.specs.SavedText.{keyed_from};
 
     ghost Value = { List Module };

@@ -6,7 +6,8 @@ ghost use Rattle.mv_ledger.specs.Loading.{IsLoaded, load_number, IsLoadRefusal};
 ghost use Rattle.mv_ledger.specs.Parts.LoadedParts.{head_of, reason_of, BeginsWith};
 ghost use Rattle.mv_ledger.specs.Publishing.{AllPass};
 ghost use Rattle.mv_ledger.specs.SavedText.{IsSavedText, Second};
-ghost use Rattle.mv_ledger.specs.View.{all_of, state_of, view_of, IsLedger};
+ghost use Rattle.mv_ledger.specs.View.{state_of, view_of, IsLedger};
+ghost use Rattle.mv_lines.specs.Tallies.{all_of};
 
 mod balance;
 mod body;

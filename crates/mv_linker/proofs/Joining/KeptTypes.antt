@@ -9,7 +9,7 @@ use Rattle.mv_linker.proofs.Common.{function_stays, have_one_type, inl, inr, is_
 use Rattle.mv_linker.proofs.Common.{refl, same_Some, same_abilities, same_fields, same_signature, same_struct_definition, same_tag, same_tags, same_types, slice_get, slice_get_within, struct_abilities, struct_name}
 use Rattle.mv_linker.proofs.Common.{structs_stay, suc, sym, token_named, tokens_named, true, value_type_named, zero}
 use Rattle.std.specs.List.{AllZip}
-use Rattle.mv_linker.specs.StoreRules.{function_named}
+use Rattle.mv_link_rules.specs.StoreRules.{function_named}
 use Rattle.mv_linker.specs.KeptTypes.{function_same, kept_at, struct_same, types_same}
 use Rattle.mv_linker.proofs.Lemmas.{all_at, element_at}
 use Rattle.mv_interface.proofs.TypeTests.{same_types_is}

@@ -9,7 +9,7 @@ use Rattle.std.proofs.lemmas.Option.{option_and_then_some}
 use Rattle.mv_linker.proofs.Lemmas.{Among, all-among, among-any, among-at, any-among, follower, found_at, have_one_name-from, have_one_name-is, is_module-is, named-so, owns-structs}
 use Rattle.mv_linker.proofs.Lemmas.{passing, so-named}
 use Rattle.mv_linker.proofs.Joining.Upgraded.{Replaces, both-there, declared-stays}
-use Rattle.mv_linker.proofs.TagTests.{same_tags-is, same_tags-same}
+use Rattle.mv_link_rules.proofs.TagTests.{same_tags-is, same_tags-same}
 use Rattle.mv_interface.proofs.NameLemmas.{is_module-from}
 use Rattle.mv_interface.proofs.OwnDefinitions.{function_named_so}
 

@@ -7,7 +7,7 @@ use Rattle.mv_linker.proofs.Common.{struct_name, structs_are_there, suc, sum_of_
 use Rattle.std.proofs.lemmas.Option.{option_and_then_some, some_pair_parts}
 use Rattle.mv_linker.proofs.Lemmas.{all_from, all_at, module_place-is, passing, same_bind, struct_parts}
 use Rattle.mv_linker.proofs.Joining.Upgraded.{Replaces, both-there, parts-stay, stays-at, struct-stays}
-use Rattle.mv_linker.proofs.TagTests.{same_tag-is}
+use Rattle.mv_link_rules.proofs.TagTests.{same_tag-is}
 use Rattle.mv_linker.proofs.Joining.Resolving.{struct-of-all}
 use Rattle.mv_interface.proofs.OwnDefinitions.{OwnsStructs}
 

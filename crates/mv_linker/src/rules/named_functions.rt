@@ -10,7 +10,7 @@ ghost use Rattle.mv_linker.specs.Found.{AreTargets, IsFound};
 ghost use Rattle.mv_interface.specs.Handles.{AreFunctionsAt, AreStructsAt, IsFunctionAt, IsFunctionIn};
 ghost use Rattle.mv_interface.specs.Interface.{IsInterface};
 ghost use Rattle.mv_linker.specs.Matches.{IsOf, function_matches};
-ghost use Rattle.mv_linker.specs.StoreRules.{function_fits, function_is_there};
+ghost use Rattle.mv_link_rules.specs.StoreRules.{function_fits, function_is_there};
 ghost use Rattle.mv_linker.specs.Targets.{modules_in};
 ghost use Rattle.mv_interface.specs.TypesByDefinition.{are_types};
 ghost use Rattle.mv_interface.specs.TypesByName.{both_there};

@@ -8,7 +8,7 @@ ghost use Rattle.mv_linker.specs.Found.{AreOutlines, AreTargets, IsFound, IsTarg
 ghost use Rattle.mv_interface.specs.Outline.{IsOutline};
 ghost use Rattle.mv_linker.specs.Relinked.{IsFitting};
 ghost use Rattle.mv_linker.specs.Scope.{offered};
-ghost use Rattle.mv_linker.specs.StoreRules.{module_is_there, modules_are_there};
+ghost use Rattle.mv_link_rules.specs.StoreRules.{module_is_there, modules_are_there};
 ghost use Rattle.mv_linker.specs.Targets.{modules_in};
 
 use crate::rules::pushed::pushed;

@@ -7,7 +7,7 @@ ghost use Rattle.mv_linker.specs.Found.{AreTargets};
 ghost use Rattle.mv_interface.specs.Handles.{AreStructsAt, IsStructAt};
 ghost use Rattle.mv_linker.specs.Matches.{IsOf, IsStructOf, struct_matches};
 ghost use Rattle.mv_interface.specs.Outline.{IsOutline};
-ghost use Rattle.mv_linker.specs.StoreRules.{struct_is_there, structs_are_there};
+ghost use Rattle.mv_link_rules.specs.StoreRules.{struct_is_there, structs_are_there};
 ghost use Rattle.mv_linker.specs.Targets.{modules_in};
 
 use crate::rules::named_modules::Target;

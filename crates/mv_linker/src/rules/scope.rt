@@ -4,7 +4,7 @@ ghost use Rattle.mv_move_types.specs.Module.{own_name as name_of_module};
 ghost use Rattle.mv_bounds.specs.Definitions.{all_differ};
 ghost use Rattle.mv_linker.specs.Indexed.{ArePlacesOf};
 ghost use Rattle.mv_linker.specs.Kept.{name_in};
-ghost use Rattle.mv_linker.specs.Link.{IsStore, tables_in, have_one_name};
+ghost use Rattle.mv_link_rules.specs.Link.{IsStore, tables_in, have_one_name};
 ghost use Rattle.mv_linker.specs.Scope.{offered, places_in, all_named};
 
 use crate::store::entry::{Name, asked_for};

@@ -1,6 +1,6 @@
 // The search for a chain of dependencies that leads back to its module.
 ghost use Rattle.std.specs.Prelude.{◌≡◌, ◌↔◌, ◌<◌, ◌≤◌, [], length, slice_get, ℕ, Some, IsTrue, IfOk, MatchBool, MatchOption};
-ghost use Rattle.mv_linker.specs.Link.{IsStore};
+ghost use Rattle.mv_link_rules.specs.Link.{IsStore};
 ghost use Rattle.mv_linker.specs.DependencyGraph.{IsOrdered};
 ghost use Rattle.mv_linker.specs.Places.{IsWithin};
 ghost use Rattle.mv_linker.specs.ScopeDependencies.{AreDependenciesIn, AreNeedsAt};

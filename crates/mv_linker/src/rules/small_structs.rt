@@ -3,7 +3,7 @@ ghost use Rattle.std.specs.Prelude.{◌≡◌, ◌≤◌, length, map, IsSome, I
 ghost use Rattle.std.specs.List.{AllZip};
 ghost use Rattle.mv_move_types.specs.Module.{name_at};
 ghost use Rattle.mv_move_types.specs.Refusals.{IsRefusedIn};
-ghost use Rattle.mv_linker.specs.Link.{tables_in};
+ghost use Rattle.mv_link_rules.specs.Link.{tables_in};
 ghost use Rattle.mv_linker.specs.Relinked.{IsFitting};
 ghost use Rattle.mv_linker.specs.Sizes.{AreSizes, AreSmall};
 ghost use Rattle.mv_linker.specs.FoundStructs.{IsFoundAt, AreFoundFor};

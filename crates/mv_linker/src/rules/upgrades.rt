@@ -11,9 +11,9 @@ ghost use Rattle.mv_interface.specs.Interface.{IsInterface};
 ghost use Rattle.mv_interface.specs.Outline.{are_names};
 ghost use Rattle.mv_linker.specs.KeptTypes.{are_kept, are_parts, function_same, kept_at, kept_named, part_named, struct_same, types_same};
 ghost use Rattle.mv_interface.specs.TypesByName.{both_there, token_named, value_type_named};
-ghost use Rattle.mv_linker.specs.Link.{tables_in, replaced_in, follows, all_follow as each_follows};
+ghost use Rattle.mv_link_rules.specs.Link.{tables_in, replaced_in, follows, all_follow as each_follows};
 ghost use Rattle.mv_linker.specs.Scope.{offered};
-ghost use Rattle.mv_linker.specs.Upgrades.{structs_stay as all_stay, function_stays as this_stays, may_replace as may_stand_for};
+ghost use Rattle.mv_link_rules.specs.Upgrades.{structs_stay as all_stay, function_stays as this_stays, may_replace as may_stand_for};
 ghost use Rattle.std.specs.List.{list_all};
 
 use crate::Store;

@@ -3,7 +3,7 @@ ghost use Rattle.std.specs.Prelude.{◌≡◌, Some, All, IfOk, OnOk};
 ghost use Rattle.mv_move_types.specs.Module.{own_name};
 ghost use Rattle.mv_linker.specs.Kept.{name_in, published_as, published_in};
 ghost use Rattle.mv_linker.specs.News.{HasItsTexts, AreTexts, published_of, published_one};
-ghost use Rattle.mv_linker.specs.Link.{IsPublishable};
+ghost use Rattle.mv_link_rules.specs.Link.{IsPublishable};
 
 use crate::New;
 use mv_interface::name_of;

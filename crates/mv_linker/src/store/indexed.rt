@@ -5,7 +5,7 @@ ghost use Rattle.std.specs.Map.{lookup};
 ghost use Rattle.mv_move_types.specs.Named.{module_place};
 ghost use Rattle.mv_linker.specs.Indexed.{PutsName, PutsPlace, has_name_of};
 ghost use Rattle.mv_linker.specs.Kept.{name_in};
-ghost use Rattle.mv_linker.specs.Link.{tables_in};
+ghost use Rattle.mv_link_rules.specs.Link.{tables_in};
 
 use crate::Store;
 use crate::store::entry::Name;

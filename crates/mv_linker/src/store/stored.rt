@@ -3,10 +3,10 @@ ghost use Rattle.std.specs.Prelude.{◌≡◌, ◌<◌, ◌≤◌, IsSome, Some,
 ghost use Rattle.mv_move_types.specs.Limits.{most_functions};
 ghost use Rattle.mv_move_types.specs.Module.{name_at};
 ghost use Rattle.mv_move_types.specs.Named.{function_place};
-ghost use Rattle.mv_linker.specs.Link.{IsStore, tables_in};
+ghost use Rattle.mv_link_rules.specs.Link.{IsStore, tables_in};
 ghost use Rattle.mv_linker.specs.Code.{program};
 ghost use Rattle.mv_interface.specs.Interface.{IsInterface, IsSignatureAt};
-ghost use Rattle.mv_linker.specs.Linked.{program_of, width_of_others};
+ghost use Rattle.mv_lowering.specs.Linked.{program_of, width_of_others};
 ghost use Rattle.mv_interface.specs.Shapes.{AreFieldsAt, is_keyed, structs_in};
 ghost use Rattle.mv_linker.specs.ScopeDependencies.{AreNeedsAt};
 ghost use Rattle.mv_linker.specs.Stored.{IsSizeAt};

@@ -1,6 +1,6 @@
 use Rattle.std.proofs.Common.{Err, ap, refl, ◌∙◌}
 use Rattle.std.proofs.lemmas.Result.{err_from_is_err_and}
-use Rattle.mv_ledger.specs.Pieces.{TakesPiece}
+use Rattle.mv_lines.specs.Pieces.{TakesPiece}
 use Rattle.moveledger.proofs.Steps.{error-is}
 use Rattle.moveledger.proofs.Writing.{HasWritten-start, HasWritten-next, HasWritten-broken, HasWritten-failed, HasWritten-part, fewer-left}
 use Rattle.moveledger.proofs.Writing.{HasWrittenLines-start, HasWrittenLines-next, HasWrittenLines-whole}

@@ -1,6 +1,6 @@
 use Rattle.std.proofs.Common.{◌≡◌, length}
 use Rattle.mv_machine.specs.Ledger.{AsText}
-use Rattle.mv_ledger.specs.Answering.{ended}
+use Rattle.mv_lines.specs.LinesView.{ended}
 use Rattle.moveledger.proofs.Writing.{HasWritten, HasWrittenLines}
 use Rattle.moveledger.proofs.answering.write_lines.Given as goal
 

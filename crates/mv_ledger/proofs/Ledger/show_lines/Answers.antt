@@ -1,7 +1,7 @@
 use Rattle.mv_ledger.proofs.Common.{◌≡◌, Some, arith, subst, AsJson, AsText, ToldRefused, ToldLines, Replies, LedgerView, all_of, view_of, List, ℕ, ap, sym, format_text, ◌∙◌}
 use Rattle.mv_ledger.proofs.Ledgers.{held-is, held-sound}
 use Rattle.mv_ledger.proofs.Shows.Reports.{unasked_replies, show_replies}
-use Rattle.mv_ledger.specs.LinesView.{LinesView}
+use Rattle.mv_lines.specs.LinesView.{LinesView}
 use Rattle.mv_ledger.proofs.Ledger.show_lines.Goals as goal
 
 abbrev lines_in : LinesView → List (List ℕ)

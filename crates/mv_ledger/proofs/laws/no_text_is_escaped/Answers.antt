@@ -1,4 +1,4 @@
-use Rattle.mv_ledger.proofs.Shows.Names.{plain-value, plain-named, plain-address, plain-decimal}
+use Rattle.mv_lines.proofs.Shows.Names.{plain-value, plain-named, plain-address, plain-decimal}
 use Rattle.mv_ledger.proofs.laws.no_text_is_escaped.Goals as goal
 
 pub returns : goal.returns

@@ -2,17 +2,19 @@
 ghost use Rattle.std.specs.Prelude.{◌≡◌, ◌*◌, ◌+◌, ◌↔◌, ◌≤◌, All, IsTrue, IfOk, map};
 ghost use Rattle.std.specs.List.{AllByRecursion};
 ghost use Rattle.mv_move_types.specs.Limits.{most_steps};
-ghost use Rattle.mv_interpreter.specs.Runs.{IsFineWords};
-ghost use Rattle.mv_linker.specs.Link.{tables_in};
+ghost use Rattle.mv_soundness.specs.Words.{IsFineWords};
+ghost use Rattle.mv_link_rules.specs.Link.{tables_in};
 ghost use Rattle.mv_machine.specs.Flat.{storage_of};
 ghost use Rattle.mv_ledger.specs.Parts.CountRows.{Adds, AreAll, IsTallied};
 ghost use Rattle.mv_ledger.specs.Inside.{structs_in_part, structs_in_parts, structs_under};
 ghost use Rattle.mv_ledger.specs.Parts.LoadedParts.{AreCounted};
-ghost use Rattle.mv_ledger.specs.View.{all_of, tallied, IsTalliedStore};
+ghost use Rattle.mv_ledger.specs.View.{IsTalliedStore};
+ghost use Rattle.mv_lines.specs.Tallies.{all_of, tallied};
 
 use crate::saved::counts::{Counts, stored_counts};
 use crate::saved::layouts::Layouts;
-use crate::tallies::{Tallies, Tally};
+use crate::tallies::Tallies;
+use mv_lines::Tally;
 use mv_linker::{Part, Store};
 use mv_move_types::Definition;
 use mv_move_types::limits::{MOST_NESTING, MOST_STEPS};

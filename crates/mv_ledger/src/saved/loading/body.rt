@@ -1,9 +1,9 @@
 // What follows the modules of a saved ledger: its tallies and its stored values.
 ghost use Rattle.std.specs.Prelude.{◌≡◌, ◌⊎◌, ◌^◌, ◌<◌, ◌≤◌, [], Some, Err, IfOk, IfErr, map, length};
-ghost use Rattle.mv_linker.specs.Link.{tables_in};
+ghost use Rattle.mv_link_rules.specs.Link.{tables_in};
 ghost use Rattle.mv_ledger.specs.Parts.BodyParts.{form_of, counts_of, struct_of};
 ghost use Rattle.mv_ledger.specs.Parts.LoadedParts.{body_from, IsNoBody};
-ghost use Rattle.mv_ledger.specs.View.{all_of};
+ghost use Rattle.mv_lines.specs.Tallies.{all_of};
 
 use crate::saved::layouts::Layouts;
 use crate::saved::loading::head::SavedForm;

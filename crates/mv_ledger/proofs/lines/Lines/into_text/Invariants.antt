@@ -1,9 +1,0 @@
-use Rattle.mv_ledger.proofs.Common.{◌++◌, ◌≡◌, length}
-use Rattle.mv_ledger.specs.Answering.{ended}
-use Rattle.mv_ledger.proofs.lines.Lines.into_text.Given as goal
-
-abbrev pub invariant-each : goal.invariant-each
-invariant-each l = l.text.items ++ ended l.self.left ≡ ended l.fn.self.left
-
-abbrev pub decreases-each : goal.decreases-each
-decreases-each l = length (ended l.self.left)

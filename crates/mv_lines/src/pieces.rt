@@ -1,0 +1,49 @@
+// The pieces in which the lines of a report are told.
+ghost use Rattle.std.specs.Prelude.{◌≡◌, ◌++◌, false, true, OnOk};
+ghost use Rattle.mv_lines.specs.Pieces.{piece_text};
+
+use std::alloc::AllocError;
+
+/// A piece of a line.
+#[derive(Drop)]
+pub struct Piece {
+    /// Its bytes. There is at least one where the line goes on behind it.
+    pub text: Vec<u8>,
+    /// Whether the line ends behind it.
+    pub is_last: bool,
+}
+
+impl Piece {
+    /// The last piece of a line.
+    pub(crate) fn last(text: Vec<u8>) -> Self
+        ensures text { result.text.items ≡ text.items }
+        ensures last { result.is_last ≡ true }
+    {
+        Piece {
+            text,
+            is_last: true,
+        }
+    }
+
+    /// A piece of a line that goes on.
+    pub(crate) fn front(text: Vec<u8>) -> Self
+        ensures text { result.text.items ≡ text.items }
+        ensures front { result.is_last ≡ false }
+    {
+        Piece {
+            text,
+            is_last: false,
+        }
+    }
+
+    /// Appends its bytes and, where the line ends behind it, a line end.
+    pub fn put(&self, text: &mut Vec<u8>) -> Result<(), AllocError>
+        ensures { OnOk result (text.new.items ≡ text.old.items ++ piece_text self.now.is_last self.now.text.items) }
+    {
+        text.extend_from_slice(&self.text)?;
+        if self.is_last {
+            text.push(b'\n')?;
+        }
+        Ok(())
+    }
+}

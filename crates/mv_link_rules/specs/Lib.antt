@@ -1,0 +1,3 @@
+pub mod StoreRules
+pub mod Upgrades
+pub mod Link

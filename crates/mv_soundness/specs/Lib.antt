@@ -1,0 +1,4 @@
+pub mod Typing
+pub mod Borrows
+pub mod Guided
+pub mod Words
