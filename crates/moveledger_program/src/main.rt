@@ -12,8 +12,6 @@
 mod kinds;
 mod meter;
 mod program;
-#[cfg(test)]
-mod tests;
 mod told;
 
 use std::process::ExitCode;
