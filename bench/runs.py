@@ -23,7 +23,7 @@ from process import difference
 TRIES = 2
 STEPS = 10_000_000
 # A first try has so many steps; and where it says that all would take longer than this, so many more are made and no others.
-FIRST, PATIENCE = 100_000, 3.0
+FIRST, PATIENCE = 100_000, 20.0
 # As many steps are counted as take so many seconds, at least the first number of them and at most the last.
 COUNTED, COUNTED_SECONDS = (500, 50_000), 0.02
 # Nothing is counted where it takes longer to load the ledger.
