@@ -11,7 +11,7 @@ use Rattle.mv_module_text.proofs.Handles.{identifier-whole}
 use Rattle.mv_module_text.proofs.Addresses.{address-whole}
 use Rattle.mv_machine.specs.Value.{Leaf, Struct, Ref}
 use Rattle.mv_machine.specs.Ledger.{Offer, RunRequest, Request, Publish, Run, Show, Audit, BadRun, Bad, Format, AsText, AsJson}
-use Rattle.mv_interpreter.specs.Runs.{arg_value}
+use Rattle.mv_machine.specs.Arguments.{arg_value}
 use Rattle.mv_ledger.specs.RecordText.{offer_text, offer_fits, publish_text, publish_fits, run_text, run_fits, argument_text, argument_fits, format_text, IsShaped, Asks}
 use Rattle.mv_ledger.specs.Payloads.{argument_from}
 use Rattle.mv_ledger.proofs.ShapesOfArguments.{arg_text, arg_fits, argument-whole}

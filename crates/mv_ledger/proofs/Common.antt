@@ -142,13 +142,14 @@ pub use Rattle.mv_soundness.proofs.Typing.Admitted.{Ranged, admitted_typed}
 pub use Rattle.mv_soundness.proofs.Typing.Callees.{on_found}
 pub use Rattle.mv_soundness.proofs.Typing.Fine.{fine_storage, leaf_ranges, typed_is_fine}
 pub use Rattle.mv_soundness.proofs.Typing.Tests.{same_kind-same}
-pub use Rattle.mv_lines.specs.Tallies.{nameless}
+pub use Rattle.mv_machine.specs.Tallies.{nameless}
 pub use Rattle.mv_soundness.proofs.Owned.{IsOwn}
-pub use Rattle.mv_interpreter.specs.Runs.{Agrees, Tallies, arg_value, call_of, number_fits}
+pub use Rattle.mv_machine.specs.Arguments.{arg_value, number_fits}
+pub use Rattle.mv_interpreter.specs.Runs.{Agrees, Tallies, call_of}
 pub use Rattle.mv_soundness.specs.Words.{IsFineWords}
 pub use Rattle.mv_soundness.specs.Typing.Accepted.{StoreAccepted}
 pub use Rattle.mv_soundness.specs.Typing.StateTyped.{Numbered, StorageTyped}
-pub use Rattle.mv_interpreter.specs.declared.Arg.{Arg, Arg as Argument}
+pub use Rattle.mv_machine.specs.declared.Arg.{Arg, Arg as Argument}
 pub use Rattle.mv_ledger.specs.Accepted.Records.{EachRecordIsWell, IsVetted}
 pub use Rattle.mv_ledger.specs.Accepted.SoundLedger.{IsSoundLedger}
 pub use Rattle.mv_ledger.specs.Answering.{AnswersRecord, Replies, told, told_ending}
@@ -191,7 +192,7 @@ pub use Rattle.mv_ledger.specs.Tallying.{AddsTallies, AreInOrder, ArePlacedFor, 
 pub use Rattle.mv_ledger.proofs.TallyWords.{AreWithin, IsNamed, with_placed}
 pub use Rattle.mv_lines.specs.ValueParts.{Extends, part_from, parts_from}
 pub use Rattle.mv_ledger.specs.View.{ArePlaced, AreScarce, AreSized, IsLedger, IsSmall, IsTalliedStore, LedgerView, PublishedView, none_published, scarce_indices, state_of, view_of}
-pub use Rattle.mv_lines.specs.Tallies.{all_of, tallied}
+pub use Rattle.mv_machine.specs.Tallies.{all_of, tallied}
 pub use Rattle.mv_ledger.specs.declared.executing.Barred.{Barred}
 pub use Rattle.mv_ledger.specs.declared.executing.Barred.TheVariants.{Rejected, Rejected as BarredRejected}
 pub use Rattle.mv_ledger.specs.declared.executing.Call.{Call}
@@ -199,7 +200,7 @@ pub use Rattle.mv_ledger.specs.declared.saved.loading.LoadError.TheVariants.{Bod
 pub use Rattle.mv_ledger.specs.declared.payload.Offered.{Offered}
 pub use Rattle.mv_ledger.specs.declared.saved.saving.Section.{Section}
 pub use Rattle.mv_ledger.specs.declared.tallies.Placed.{Placed}
-pub use Rattle.mv_lines.specs.declared.tally.Tally.{Tally}
+pub use Rattle.mv_machine.specs.declared.Tally.{Tally}
 pub use Rattle.mv_uleb.proofs.Spelled.{then_some-parts}
 pub use Rattle.mv_bounds.proofs.Entries.{place_below, element_at, all_at, there_below, mapped-at}
 pub use Rattle.mv_type_states.proofs.Tokens.{kinds_equal}

@@ -2,7 +2,7 @@
 use Rattle.std.specs.Prelude.{◌≡◌, ℕ, ◌+◌, ◌≤◌, nat_lt, All, IsSome, cond, List, [], ◌∷◌, fold}
 use Rattle.mv_move_types.specs.Module.{Module, name_at}
 use Rattle.mv_linker.specs.Stored.{with_at}
-use Rattle.mv_lines.specs.declared.tally.Tally.{Tally}
+use Rattle.mv_machine.specs.declared.Tally.{Tally}
 use Rattle.mv_ledger.specs.declared.tallies.Placed.{Placed}
 
 -- a struct of the modules has this tally

@@ -1,7 +1,7 @@
 -- What a payload that was read asks.
 use Rattle.std.specs.Prelude.{List, map}
 use Rattle.mv_machine.specs.Ledger.{Offer, RunRequest}
-use Rattle.mv_interpreter.specs.Runs.{arg_value}
+use Rattle.mv_machine.specs.Arguments.{arg_value}
 use Rattle.mv_ledger.specs.declared.payload.Offered.{Offered}
 use Rattle.mv_ledger.specs.declared.payload.RunRecord.{RunRecord}
 

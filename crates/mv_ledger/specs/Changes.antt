@@ -2,7 +2,7 @@
 use Rattle.std.specs.Prelude.{◌≡◌, ◌+◌, List, Option, Some, None, ⊤}
 use Rattle.mv_machine.specs.Flat.{FlatEntry}
 use Rattle.mv_machine.specs.Lines.{Reply, Published, Refused, Rejected, RanToEnd, RanToAbort, RanOut, Told}
-use Rattle.mv_lines.specs.declared.tally.Tally.{Tally}
+use Rattle.mv_machine.specs.declared.Tally.{Tally}
 use Rattle.mv_ledger.specs.View.{LedgerView}
 
 -- nothing changes but the number of runs

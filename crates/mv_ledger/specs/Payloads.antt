@@ -13,8 +13,8 @@ use Rattle.mv_move_types.specs.declared.token.LeafKind.{LeafKind}
 use Rattle.mv_move_types.specs.declared.token.LeafKind.TheVariants.{Boolean, Number, Address, Signer}
 use Rattle.mv_move_types.specs.Options.{◌>>=◌}
 use Rattle.mv_module_text.specs.Parsing.{Read, byte_from, bytes_from, number_of_from, kind_of, counted_from, identifier_from, address_from}
-use Rattle.mv_interpreter.specs.declared.Arg.{Arg}
-use Rattle.mv_interpreter.specs.Runs.{arg_value}
+use Rattle.mv_machine.specs.declared.Arg.{Arg}
+use Rattle.mv_machine.specs.Arguments.{arg_value}
 use Rattle.mv_machine.specs.Ledger.{Offer, RunRequest}
 
 -- bytes after their number, of at most so many

@@ -18,10 +18,10 @@ use Rattle.mv_machine.specs.Ledger.{scarce_structs, tally_of}
 use Rattle.mv_link_rules.specs.Link.{tables_in}
 use Rattle.mv_frames.specs.Counters.{is_tally_at, packs_at, unpacks_at}
 use Rattle.mv_frames.specs.declared.counters.StructTally.{StructTally}
-use Rattle.mv_lines.specs.declared.tally.Tally.{Tally}
+use Rattle.mv_machine.specs.declared.Tally.{Tally}
 use Rattle.mv_ledger.specs.declared.tallies.Placed.{Placed}
 use Rattle.mv_ledger.specs.View.{scarce_indices}
-use Rattle.mv_lines.specs.Tallies.{tallied}
+use Rattle.mv_machine.specs.Tallies.{tallied}
 
 -- each struct with neither copy nor drop has the tally that it had, or an empty one
 abbrev pub AddsTallies : List PublishedModule → List PublishedModule → List Tally → List Tally → Type 0

@@ -21,8 +21,8 @@ use Rattle.mv_machine.specs.Ledger.{LedgerState}
 use Rattle.mv_link_rules.specs.Link.{IsStore, tables_in}
 use Rattle.mv_move_types.specs.Scarce.{is_scarce_struct, is_scarce_in}
 use Rattle.mv_soundness.specs.Words.{IsFineWords}
-use Rattle.mv_lines.specs.Tallies.{all_of, tallied}
-use Rattle.mv_lines.specs.declared.tally.Tally.{Tally}
+use Rattle.mv_machine.specs.Tallies.{all_of, tallied}
+use Rattle.mv_machine.specs.declared.Tally.{Tally}
 use Rattle.mv_ledger.specs.RecordText.{offer_fits}
 use Rattle.mv_ledger.specs.Publishing.{offered}
 use Rattle.mv_ledger.specs.Accepted.SoundLedger.{IsSoundLedger}

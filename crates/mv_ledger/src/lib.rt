@@ -88,7 +88,7 @@ pub struct Ledger {
 
 impl Model for Ledger {
     ghost use Rattle.mv_ledger.specs.View.{LedgerView, view_of, IsLedger};
-    ghost use Rattle.mv_lines.specs.Tallies.{all_of};
+    ghost use Rattle.mv_machine.specs.Tallies.{all_of};
 
     ghost Value = { LedgerView };
 

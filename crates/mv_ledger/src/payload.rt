@@ -1,8 +1,8 @@
 // The payloads of publish and run records.
 ghost use Rattle.std.specs.Prelude.{◌≡◌, ◌⊎◌, None, Some, Err, IfOk, IfErr, IsTrue};
 ghost use Rattle.std.specs.List.{list_all};
-ghost use Rattle.mv_interpreter.specs.declared.Arg.{Arg as Argument};
-ghost use Rattle.mv_interpreter.specs.Runs.{number_fits};
+ghost use Rattle.mv_machine.specs.declared.Arg.{Arg as Argument};
+ghost use Rattle.mv_machine.specs.Arguments.{number_fits};
 ghost use Rattle.mv_machine.specs.Ledger.{Publish, Run};
 ghost use Rattle.mv_module_text.specs.Parsing.{counted_from};
 ghost use Rattle.mv_ledger.specs.Asking.{offer_of, offers_of, request_of};

@@ -11,7 +11,7 @@ ghost use Rattle.mv_ledger.specs.declared.tallies.Placed.{Placed as Standing};
 ghost use Rattle.mv_ledger.specs.Judging.{IsKeptOut, MayFollow};
 ghost use Rattle.mv_ledger.specs.Tallying.{tally_after, AddsTallies, ArePlacedFor, HasRoomLeft};
 ghost use Rattle.mv_ledger.specs.View.{none_published, ArePlaced, IsTalliedStore};
-ghost use Rattle.mv_lines.specs.Tallies.{all_of};
+ghost use Rattle.mv_machine.specs.Tallies.{all_of};
 
 use crate::tallies::{Placed, Tallies, put, scarce_structs};
 use mv_binary_format::Module;

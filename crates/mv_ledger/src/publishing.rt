@@ -13,7 +13,7 @@ ghost use Rattle.mv_ledger.specs.RecordText.{IsShaped};
 ghost use Rattle.mv_ledger.specs.Publishing.{Spells, Passes, AllPass, IsRefusedOffer, IsRefusedAmong};
 ghost use Rattle.mv_ledger.specs.Judging.{IsAcceptedBy, IsRefusedBy};
 ghost use Rattle.mv_ledger.specs.Tallying.{AddsTallies};
-ghost use Rattle.mv_lines.specs.Tallies.{all_of};
+ghost use Rattle.mv_machine.specs.Tallies.{all_of};
 
 use crate::payload::{Bundle, Offered, read_bundle};
 use crate::published::Published;

@@ -7,14 +7,14 @@ ghost use Rattle.mv_module_text.specs.Parsing.{entries_from};
 ghost use Rattle.mv_ledger.specs.Parts.BodyParts.{form_of, counts_of, struct_of, tally_from};
 ghost use Rattle.mv_ledger.specs.Tallying.{fresh_tally, tally_after, AreInOrder, HasRoomFor, HasRoomLeft, IsRoomFor};
 ghost use Rattle.mv_ledger.specs.View.{ArePlaced, scarce_indices};
-ghost use Rattle.mv_lines.specs.Tallies.{all_of, lists_of};
+ghost use Rattle.mv_machine.specs.Tallies.{all_of, lists_of};
 
 use crate::saved::loading::head::SavedForm;
 use crate::saved::loading::tallies::read_tallies;
 use mv_binary_format::Module;
 use mv_frames::StructTally;
-use mv_lines::Tally;
 use mv_linker::is_scarce;
+use mv_machine::Tally;
 use mv_module_text::Reader;
 use mv_move_types::Refusal;
 use std::alloc::{AllocError, Global};
@@ -97,7 +97,7 @@ pub struct Tallies {
 
 impl Model for Tallies {
     ghost use Rattle.std.specs.Prelude.{List, map};
-    ghost use Rattle.mv_lines.specs.declared.tally.Tally.{Tally};
+    ghost use Rattle.mv_machine.specs.declared.Tally.{Tally};
     ghost use Rattle.mv_ledger.specs.View.{ArePlaced};
 
     ghost Value = { List (List Tally) };

@@ -42,11 +42,11 @@ pub use Rattle.mv_link_rules.specs.Link.{IsPublishable, IsStore, tables_in}
 pub use Rattle.mv_interface.specs.Shapes.{AreFieldsAt, AreParts, IsMadeOf, IsPart, is_of_value}
 pub use Rattle.mv_interface.specs.declared.shapes.Part.{Part}
 pub use Rattle.mv_interface.specs.declared.shapes.Part.TheVariants.{Leaf as LeafPart, Nothing, Struct as StructPart}
-pub use Rattle.mv_lines.specs.Tallies.{all_of, nameless, tallied}
+pub use Rattle.mv_machine.specs.Tallies.{all_of, nameless, tallied}
 pub use Rattle.mv_lines.specs.Auditing.{counted_in, counts_from, stored_of}
 pub use Rattle.mv_lines.specs.Plain.{IsPlain, is_plain}
 pub use Rattle.mv_lines.specs.Showing.{PutsText, fields_text, key_name_text, key_value_text}
 pub use Rattle.mv_lines.specs.ValueParts.{Extends, part_from, parts_from}
-pub use Rattle.mv_lines.specs.declared.tally.Tally.{Tally}
+pub use Rattle.mv_machine.specs.declared.Tally.{Tally}
 pub use Rattle.hex.specs.Hex.{encode_lower, lower_digits}
 pub use Rattle.mv_bounds.proofs.Entries.{all_at}

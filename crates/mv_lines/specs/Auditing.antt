@@ -4,8 +4,8 @@ use Rattle.mv_move_types.specs.Published.{PublishedModule}
 use Rattle.mv_machine.specs.Lines.{Tallied, end_line, json_line, count_line, count_object}
 use Rattle.mv_link_rules.specs.Link.{tables_in}
 use Rattle.mv_lines.specs.declared.audit.Counted.{Counted}
-use Rattle.mv_lines.specs.declared.tally.Tally.{Tally}
-use Rattle.mv_lines.specs.Tallies.{all_of, tallied}
+use Rattle.mv_machine.specs.declared.Tally.{Tally}
+use Rattle.mv_machine.specs.Tallies.{all_of, tallied}
 
 -- a struct with its counts
 abbrev pub counted_in : Counted → Tallied

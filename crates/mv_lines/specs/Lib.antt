@@ -1,10 +1,9 @@
 -- Lines of shows and of audits.
---   Tallies, Auditing    the counts of an audit
+--   Auditing             the counts of an audit
 --   Showing, ValueParts  the values of a show
 --   Sending, Plain       what is sent of them as JSON, which no text of it has to be escaped for
 --   Pieces, JsonLeft     a line of JSON, piece by piece
 --   LinesView, Left      the lines that are left
-pub mod Tallies
 pub mod Auditing
 pub mod Showing
 pub mod ValueParts

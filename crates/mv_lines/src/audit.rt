@@ -3,12 +3,11 @@ ghost use Rattle.std.specs.Prelude.{◌≡◌, [], ◌∷◌, length, map, IfOk,
 ghost use Rattle.mv_link_rules.specs.Link.{tables_in};
 ghost use Rattle.mv_machine.specs.Lines.{count_line};
 ghost use Rattle.mv_lines.specs.Auditing.{counted_in, counts_from, stored_of};
-ghost use Rattle.mv_lines.specs.Tallies.{nameless};
-ghost use Rattle.mv_lines.specs.Tallies.{lists_of, tallied};
+ghost use Rattle.mv_machine.specs.Tallies.{lists_of, nameless, tallied};
 
-use crate::tally::Tally;
 use crate::texts::{put_labelled, put_name};
 use mv_linker::{Store, StructName};
+use mv_machine::Tally;
 use mv_move_types::Definition;
 use std::alloc::{AllocError, Global};
 use std::marker::Model;
@@ -75,7 +74,7 @@ impl<'a> Model for Counts<'a> {
     ghost use Rattle.mv_link_rules.specs.Link.{tables_in};
     ghost use Rattle.mv_machine.specs.Lines.{Tallied};
     ghost use Rattle.mv_lines.specs.Auditing.{counts_from};
-    ghost use Rattle.mv_lines.specs.Tallies.{lists_of, tallied};
+    ghost use Rattle.mv_machine.specs.Tallies.{lists_of, tallied};
 
     ghost Value = { List Tallied };
 

@@ -9,13 +9,13 @@ ghost use Rattle.mv_machine.specs.Lines.{struct_text, show_json};
 ghost use Rattle.mv_lines.specs.Auditing.{counted_in, counts_json};
 ghost use Rattle.mv_lines.specs.Plain.{IsPlain};
 ghost use Rattle.mv_lines.specs.Sending.{entry_data, count_data, items_of};
-ghost use Rattle.mv_lines.specs.Tallies.{all_of, lists_of, tallied};
+ghost use Rattle.mv_machine.specs.Tallies.{all_of, lists_of, tallied};
 
 use crate::audit::{Counted, Counts};
 use crate::json_entries::{as_str, parted, put_texts};
-use crate::tally::Tally;
 use crate::texts::{put_name, put_number};
 use mv_linker::{Store, StructName};
+use mv_machine::Tally;
 use mv_move_types::Key;
 use mv_storage::Storage;
 use serde::{Described, Serialize, Serializer};
@@ -167,7 +167,7 @@ impl<'a> Described for TallyAudit<'a> {
     ghost use Rattle.std.specs.Prelude.{codes, map};
     ghost use Rattle.mv_link_rules.specs.Link.{tables_in};
     ghost use Rattle.mv_lines.specs.Sending.{count_data, SendsReport};
-    ghost use Rattle.mv_lines.specs.Tallies.{all_of, lists_of, tallied};
+    ghost use Rattle.mv_machine.specs.Tallies.{all_of, lists_of, tallied};
 
     ghost writes = { λ a. SendsReport (codes "audit") (map count_data (map (tallied (tables_in a.store.now)) (all_of (lists_of a.tallies.now)))) };
 }

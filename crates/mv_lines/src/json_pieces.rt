@@ -7,15 +7,15 @@ ghost use Rattle.mv_machine.specs.Lines.{count_object, entry_object, show_json, 
 ghost use Rattle.mv_lines.specs.Auditing.{counted_in, counts_json, stored_of};
 ghost use Rattle.mv_lines.specs.Pieces.{TakesNext, TakesPiece};
 ghost use Rattle.mv_lines.specs.Plain.{ArePlain, IsPlain};
-ghost use Rattle.mv_lines.specs.Tallies.{all_of, lists_of, tallied};
+ghost use Rattle.mv_machine.specs.Tallies.{all_of, lists_of, tallied};
 
 use crate::ahead::Ahead;
 use crate::audit::{Counted, Counts};
 use crate::json_entries::{parted, put_texts};
 use crate::json_lines::{NO_MEMORY, send_counts};
 use crate::pieces::Piece;
-use crate::tally::Tally;
 use mv_linker::Store;
+use mv_machine::Tally;
 use mv_move_types::Key;
 use mv_storage::Storage;
 use serde::{Described, Serialize, Serializer};

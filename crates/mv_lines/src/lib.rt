@@ -21,11 +21,9 @@ mod json_lines;
 mod json_pieces;
 mod lines;
 mod pieces;
-mod tally;
 mod texts;
 mod values;
 
 pub use json_lines::{json_of_storage, json_of_tallies};
 pub use lines::Lines;
 pub use pieces::Piece;
-pub use tally::Tally;

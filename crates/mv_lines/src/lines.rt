@@ -7,16 +7,16 @@ ghost use Rattle.mv_machine.specs.Lines.{end_line, entry_line, show_json, show_l
 ghost use Rattle.mv_lines.specs.Auditing.{audit_from, counts_json};
 ghost use Rattle.mv_lines.specs.LinesView.{ended};
 ghost use Rattle.mv_lines.specs.Pieces.{TakesNext, TakesPiece};
-ghost use Rattle.mv_lines.specs.Tallies.{all_of, lists_of, tallied};
+ghost use Rattle.mv_machine.specs.Tallies.{all_of, lists_of, tallied};
 
 use crate::ahead::Ahead;
 use crate::audit::{Counts, count_text};
 use crate::json_pieces::{CountedJson, StoredJson};
 use crate::pieces::Piece;
-use crate::tally::Tally;
 use crate::texts::{definition_of, put_address, put_key, put_labelled, struct_at};
 use crate::values::put_value;
 use mv_linker::Store;
+use mv_machine::Tally;
 use mv_move_types::Key;
 use mv_storage::Storage;
 use std::alloc::{AllocError, Global};

@@ -19,3 +19,5 @@ pub mod Offsets
 pub mod Typed
 pub mod Lines
 pub mod Ledger
+pub mod Arguments
+pub mod Tallies

@@ -1,4 +1,5 @@
-//! The defensive machine: its values, states, steps, runs and replies stand in specs/. Here is how a run may end.
+//! The defensive machine: its values, states, steps, runs and replies stand in specs/. Here is what a run is given, how it may
+//! end, and what is counted of runs.
 //!
 //! ```
 //! use mv_machine::{Ending, Kind, Outcome};
@@ -9,6 +10,16 @@
 //! }
 //! ```
 #![tactic(auto)]
+
+use mv_move_types::LeafKind;
+
+/// An argument of a run: a leaf, as its kind and its number. A bool is 0 or 1, an address the number that its 16 bytes
+/// are, the highest first; the signer of an entry function has the sender's address.
+#[derive(Clone, Copy, PartialEq, Eq, Debug)]
+pub struct Arg {
+    pub kind: LeafKind,
+    pub number: u128,
+}
 
 /// Why a run aborts.
 #[derive(Clone, Copy, PartialEq, Eq, Debug)]
@@ -48,4 +59,14 @@ pub enum Ending {
 pub struct Outcome {
     pub ending: Ending,
     pub steps: u64,
+}
+
+/// How often values of a struct with neither copy nor drop were made, and taken apart, in the runs that returned; of other
+/// structs nothing is kept. The struct is named by its module's place in the order of publication and its definition's index.
+#[derive(Clone, Copy)]
+pub struct Tally {
+    pub place: u16,
+    pub index: u16,
+    pub packs: u128,
+    pub unpacks: u128,
 }

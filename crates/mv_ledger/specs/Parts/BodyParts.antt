@@ -25,7 +25,7 @@ use Rattle.mv_machine.specs.Flat.{FlatEntry}
 use Rattle.mv_storage.specs.FlatStorage.{FlatStorage, words_under, with_words}
 use Rattle.mv_ledger.specs.declared.saved.loading.head.SavedForm.{SavedForm}
 use Rattle.mv_ledger.specs.declared.saved.loading.head.SavedForm.TheVariants.{First as FirstForm, Second as SecondForm}
-use Rattle.mv_lines.specs.declared.tally.Tally.{Tally}
+use Rattle.mv_machine.specs.declared.Tally.{Tally}
 use Rattle.mv_ledger.specs.Layouts.{kinds_under}
 use Rattle.mv_ledger.specs.Payloads.{leaf_from}
 use Rattle.mv_ledger.specs.SavedText.{Form, First, Second, greatest_count, keyed_from}

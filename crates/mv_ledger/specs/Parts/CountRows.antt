@@ -15,7 +15,7 @@ use Rattle.mv_move_types.specs.Names.{StructName}
 use Rattle.mv_move_types.specs.Module.{Module, name_at}
 use Rattle.mv_machine.specs.Count.{count}
 use Rattle.mv_machine.specs.Flat.{FlatEntry, storage_of}
-use Rattle.mv_lines.specs.declared.tally.Tally.{Tally}
+use Rattle.mv_machine.specs.declared.Tally.{Tally}
 
 -- the counts of the structs of the module at a place
 abbrev pub row_at : List (List ℕ) → ℕ → List ℕ

@@ -26,7 +26,7 @@ use Rattle.mv_machine.specs.State.{Storage}
 use Rattle.mv_machine.specs.Flat.{FlatEntry, storage_of}
 use Rattle.mv_link_rules.specs.Link.{tables_in}
 use Rattle.mv_ledger.specs.declared.saved.saving.Section.{Section}
-use Rattle.mv_lines.specs.declared.tally.Tally.{Tally}
+use Rattle.mv_machine.specs.declared.Tally.{Tally}
 use Rattle.mv_ledger.specs.Layouts.{coded, kinds_under}
 use Rattle.mv_ledger.specs.SavedText.{Second, addressed_text, head_text, is_under, keyed_from, struct_text}
 use Rattle.mv_ledger.specs.Publishing.{offered}

@@ -7,7 +7,7 @@ ghost use Rattle.mv_ledger.specs.Parts.LoadedParts.{head_of, reason_of, BeginsWi
 ghost use Rattle.mv_ledger.specs.Publishing.{AllPass};
 ghost use Rattle.mv_ledger.specs.SavedText.{IsSavedText, Second};
 ghost use Rattle.mv_ledger.specs.View.{state_of, view_of, IsLedger};
-ghost use Rattle.mv_lines.specs.Tallies.{all_of};
+ghost use Rattle.mv_machine.specs.Tallies.{all_of};
 
 mod balance;
 mod body;

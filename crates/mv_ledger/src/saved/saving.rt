@@ -14,14 +14,14 @@ ghost use Rattle.mv_ledger.specs.Publishing.{offered};
 ghost use Rattle.mv_ledger.specs.RecordText.{leaf_bytes, offer_text, sized};
 ghost use Rattle.mv_ledger.specs.SavedText.{head_text, keyed_from, struct_text, Second};
 ghost use Rattle.mv_ledger.specs.Parts.Saving.{counts_text, leaf_length, section_at, sections_of, struct_under, AddsValue, AreSections, IsEmpty, IsWritable, KnowsKinds, written};
-ghost use Rattle.mv_lines.specs.Tallies.{all_of};
+ghost use Rattle.mv_machine.specs.Tallies.{all_of};
 
 use crate::saved::counts::{Counts, stored_counts};
 use crate::saved::layouts::Layouts;
 use crate::tallies::Tallies;
 use byteorder::{ByteOrder, LittleEndian};
-use mv_lines::Tally;
 use mv_linker::Store;
+use mv_machine::Tally;
 use mv_module_text::write_address;
 use mv_move_types::{Definition, Key, LeafKind, Width};
 use mv_storage::Storage;

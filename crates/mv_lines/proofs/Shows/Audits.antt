@@ -1,7 +1,7 @@
 -- The counts of an audit, module by module.
 use Rattle.mv_lines.proofs.Common.{[], ◌++◌, ◌+◌, ◌∙◌, ◌∷◌, ◌≡◌, ◌<◌, Global, List, Vec, add-one, ap, arith, drop, get_or, length, map, map-append, refl, suc, sym, zero, ℕ}
 use Rattle.mv_lines.proofs.Common.{PublishedModule, Tallied, Tally, all_of, counts_from, tables_in, tallied}
-use Rattle.mv_lines.specs.Tallies.{lists_of}
+use Rattle.mv_machine.specs.Tallies.{lists_of}
 
 -- those of a module are the first of the modules from its place on
 drop-list : (tallies : List (Vec Tally Global)) (place : ℕ) (d : Vec Tally Global) → place < length tallies

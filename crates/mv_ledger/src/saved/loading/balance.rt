@@ -9,13 +9,13 @@ ghost use Rattle.mv_ledger.specs.Parts.CountRows.{Adds, AreAll, IsTallied};
 ghost use Rattle.mv_ledger.specs.Inside.{structs_in_part, structs_in_parts, structs_under};
 ghost use Rattle.mv_ledger.specs.Parts.LoadedParts.{AreCounted};
 ghost use Rattle.mv_ledger.specs.View.{IsTalliedStore};
-ghost use Rattle.mv_lines.specs.Tallies.{all_of, tallied};
+ghost use Rattle.mv_machine.specs.Tallies.{all_of, tallied};
 
 use crate::saved::counts::{Counts, stored_counts};
 use crate::saved::layouts::Layouts;
 use crate::tallies::Tallies;
-use mv_lines::Tally;
 use mv_linker::{Part, Store};
+use mv_machine::Tally;
 use mv_move_types::Definition;
 use mv_move_types::limits::{MOST_NESTING, MOST_STEPS};
 use mv_storage::Storage;

@@ -3,7 +3,7 @@ ghost use Rattle.std.specs.Prelude.{◌≡◌, ◌⊎◌, ◌^◌, ◌<◌, ◌�
 ghost use Rattle.mv_link_rules.specs.Link.{tables_in};
 ghost use Rattle.mv_ledger.specs.Parts.BodyParts.{form_of, counts_of, struct_of};
 ghost use Rattle.mv_ledger.specs.Parts.LoadedParts.{body_from, IsNoBody};
-ghost use Rattle.mv_lines.specs.Tallies.{all_of};
+ghost use Rattle.mv_machine.specs.Tallies.{all_of};
 
 use crate::saved::layouts::Layouts;
 use crate::saved::loading::head::SavedForm;

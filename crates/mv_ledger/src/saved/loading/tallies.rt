@@ -5,7 +5,7 @@ ghost use Rattle.mv_module_text.specs.Reads.{Reads};
 ghost use Rattle.mv_ledger.specs.Parts.BodyParts.{form_of, counts_of, struct_of, count_from, tally_from};
 
 use crate::saved::loading::head::SavedForm;
-use mv_lines::Tally;
+use mv_machine::Tally;
 use mv_module_text::Reader;
 use mv_move_types::limits::{MOST_RUNS, MOST_STEPS};
 use mv_move_types::{Refusal, Width};

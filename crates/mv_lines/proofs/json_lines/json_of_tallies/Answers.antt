@@ -3,7 +3,7 @@ use Rattle.mv_lines.specs.Sending.{count_data, count_texts}
 use Rattle.mv_lines.proofs.Shows.Names.{IsPlainStruct, plain-decimal, plain-tallied}
 use Rattle.mv_lines.proofs.Shows.Sends.{report_text}
 use Rattle.mv_lines.proofs.Shows.Objects.{IsPlainMember, list_text, objects_text, objects_whole}
-use Rattle.mv_lines.specs.Tallies.{lists_of}
+use Rattle.mv_machine.specs.Tallies.{lists_of}
 use Rattle.mv_lines.proofs.json_lines.json_of_tallies.Goals as goal
 
 each-plain : (ts : List Tallied) → AllByRecursion (λ (t : Tallied). IsPlainStruct t.struct) ts → AllByRecursion (λ (t : Tallied). AllByRecursion IsPlainMember (count_texts t)) ts

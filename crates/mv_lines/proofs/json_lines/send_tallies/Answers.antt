@@ -2,7 +2,7 @@ use Rattle.mv_lines.proofs.Common.{AllByRecursion, IfOk-weaker, List, Tallied, a
 use Rattle.serde_json.specs.Events.{SendsItems}
 use Rattle.mv_lines.specs.Sending.{count_data, items_of}
 use Rattle.mv_lines.proofs.Shows.Names.{IsPlainStruct, plain-tallied}
-use Rattle.mv_lines.specs.Tallies.{lists_of}
+use Rattle.mv_machine.specs.Tallies.{lists_of}
 use Rattle.mv_lines.proofs.json_lines.send_tallies.Goals as goal
 
 abbrev ArePlain : List Tallied → Type 0

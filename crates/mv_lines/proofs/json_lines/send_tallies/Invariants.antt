@@ -3,7 +3,7 @@ use Rattle.serde.specs.Event.{Log}
 use Rattle.serde_json.specs.Events.{SendsItems}
 use Rattle.mv_lines.specs.Sending.{count_data, items_of}
 use Rattle.mv_lines.proofs.Shows.Names.{IsPlainStruct}
-use Rattle.mv_lines.specs.Tallies.{lists_of}
+use Rattle.mv_machine.specs.Tallies.{lists_of}
 use Rattle.mv_lines.proofs.json_lines.send_tallies.Given as goal
 
 abbrev pub invariant-each : goal.invariant-each

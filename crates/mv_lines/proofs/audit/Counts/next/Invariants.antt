@@ -1,6 +1,6 @@
 use Rattle.mv_lines.proofs.Common.{◌++◌, ◌-◌, length, map, tables_in, counts_from, tallied}
 use Rattle.mv_lines.proofs.Shows.Audits.{IsReading}
-use Rattle.mv_lines.specs.Tallies.{lists_of}
+use Rattle.mv_machine.specs.Tallies.{lists_of}
 use Rattle.mv_lines.proofs.audit.Counts.next.Given as goal
 
 abbrev pub invariant-modules : goal.invariant-modules

@@ -2,7 +2,7 @@ use Rattle.mv_lines.proofs.Common.{all_of, map, subst, sym, tables_in, tallied}
 use Rattle.mv_lines.specs.Plain.{ArePlain}
 use Rattle.mv_lines.proofs.Shows.Names.{plain-tallied}
 use Rattle.mv_lines.proofs.Shows.Pieces.{all-plain}
-use Rattle.mv_lines.specs.Tallies.{lists_of}
+use Rattle.mv_machine.specs.Tallies.{lists_of}
 use Rattle.mv_lines.proofs.json_pieces.CountedJson.new.Goals as goal
 
 pub invariant_of-result : goal.invariant_of-result
