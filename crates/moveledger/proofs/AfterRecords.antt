@@ -2,7 +2,7 @@
 use Rattle.std.proofs.Common.{◌≡◌, ℕ, suc, ◌+◌, List, [], length, Option, Result, Ok, Err, Bool, true, false, IfOk, IfErr, inl, inr, refl, subst, ◌-◌, ◌^◌, arith}
 use Rattle.std.specs.Io.KnownBytes.{Consumes}
 use Rattle.std.proofs.KnownBytes.{Consumes-trans}
-use Rattle.mv_ledger.specs.View.{LedgerView}
+use Rattle.mv_ledger_state.specs.View.{LedgerView}
 use Rattle.moveledger.specs.Outcome.{left_of}
 use Rattle.moveledger.specs.Reading.{IsCutAt}
 use Rattle.moveledger.specs.Progress.{Progress}

@@ -2,7 +2,7 @@
 use Rattle.std.proofs.Common.{◌≡◌, ℕ, List, ◌++◌, Option, Result, Ok, Err, Bool, true, false, IfOk, IfErr, refl, inl, inr}
 use Rattle.std.specs.Io.KnownBytes.{Keeps}
 use Rattle.std.proofs.KnownBytes.{Appends-kept}
-use Rattle.mv_ledger.specs.View.{LedgerView}
+use Rattle.mv_ledger_state.specs.View.{LedgerView}
 use Rattle.moveledger.specs.Headline.{Headline}
 use Rattle.moveledger.specs.Outcome.{Ends, ReadsAll, Stops, StopsAt, StopsByLines, StopsReading, StopsWith, Begun, BegunByLines}
 use Rattle.moveledger.specs.Status.{end_after}

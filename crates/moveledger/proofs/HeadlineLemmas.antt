@@ -12,10 +12,10 @@ use Rattle.mv_machine.specs.Run.{RunOutcome, Returned, Aborted, Exhausted, Fault
 use Rattle.mv_machine.specs.Ledger.{LedgerState, Request, Publish, Run, Show, Audit, BadRun, Bad, modules_of, scarce_structs, admitted}
 use Rattle.mv_machine.specs.Lines.{Reply, Tallied}
 use Rattle.mv_ledger.specs.Answering.{IsReplied}
-use Rattle.mv_ledger.specs.Counting.Headline.{EndsWell, CallEndsWell, RunsWell}
-use Rattle.mv_ledger.specs.Counting.Kept.{AreAbove, IsAscending}
-use Rattle.mv_ledger.specs.Accepted.SoundLedger.{IsSoundLedger}
-use Rattle.mv_ledger.specs.View.{LedgerView, state_of}
+use Rattle.mv_ledger_state.specs.Counting.Headline.{EndsWell, CallEndsWell, RunsWell}
+use Rattle.mv_ledger_state.specs.Counting.Kept.{AreAbove, IsAscending}
+use Rattle.mv_ledger_state.specs.Accepted.SoundLedger.{IsSoundLedger}
+use Rattle.mv_ledger_state.specs.View.{LedgerView, state_of}
 use Rattle.moveledger.specs.Headline.{EndsWithinBudget, IsOfOwnModules, HoldsOfRun, IsTalliedBy, KeysAscend, IsAccounted, AnswersWhole}
 
 ends_without_fault : (budget : ℕ) (o : RunOutcome) → EndsWell budget o → EndsWithinBudget budget o

@@ -9,10 +9,10 @@ use Rattle.mv_machine.specs.Lines.{Reply as Told, Refused as ToldRefused, reply_
 use Rattle.mv_machine.specs.Ledger.{Publish, Run, Show, Audit, BadRun, Bad, Format, AsText, AsJson}
 use Rattle.mv_move_types.specs.declared.refusal.Refusal.{Refusal as ReportRefusal}
 use Rattle.mv_lines.specs.LinesView.{LinesView}
-use Rattle.mv_ledger.specs.RecordText.{IsShapeless, format_text}
+use Rattle.mv_ledger_state.specs.RecordText.{IsShapeless, format_text}
 use Rattle.mv_ledger.specs.Answering.{Replies, told, told_ending, told_lines}
-use Rattle.mv_ledger.specs.View.{LedgerView, state_of}
-use Rattle.mv_ledger.specs.Accepted.SoundLedger.{IsSoundLedger}
+use Rattle.mv_ledger_state.specs.View.{LedgerView, state_of}
+use Rattle.mv_ledger_state.specs.Accepted.SoundLedger.{IsSoundLedger}
 use Rattle.mv_ledger.specs.declared.Reply.{Reply}
 use Rattle.mv_ledger.specs.declared.Reply.TheVariants.{Published, Refused, Rejected, Ran, Memory}
 use Rattle.moveledger.proofs.HeadlineLemmas.{answers_whole}

@@ -3,8 +3,8 @@ use Rattle.std.proofs.Common.{◌≡◌, ℕ, ◌≤◌, ◌<◌, ◌⊎◌, Lis
 use Rattle.std.proofs.Math.Nat.{eq-or-lt_of_le}
 use Rattle.std.proofs.Math.Seq.{take-append_seam, take-length}
 use Rattle.std.specs.Io.KnownBytes.{Consumes, IsAtEnd}
-use Rattle.mv_ledger.specs.Loading.{FailsLoad}
-use Rattle.mv_ledger.specs.Loading.FailsLoad.{no_head}
+use Rattle.mv_ledger_state.specs.Loading.{FailsLoad}
+use Rattle.mv_ledger_state.specs.Loading.FailsLoad.{no_head}
 use Rattle.moveledger.specs.Saved.{IsMark}
 
 -- a text whose first four bytes are no mark has no head

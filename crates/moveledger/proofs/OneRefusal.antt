@@ -4,10 +4,10 @@ use Rattle.mv_move_types.specs.Published.{PublishedModule}
 use Rattle.mv_binary_format.specs.Laws.{IsReadByText}
 use Rattle.mv_certificate.specs.Certificate.{Certificate}
 use Rattle.mv_machine.specs.Ledger.{Offer, LedgerState}
-use Rattle.mv_ledger.specs.Publishing.{Passes, FailsAt, phases, AllPass, IsLinked, HasRoom, IsPublished, IsRefusedAt, in_offer, in_linking, in_room}
-use Rattle.mv_ledger.proofs.Phases.{never-fails, one-first}
-use Rattle.mv_ledger.proofs.SavedFails.{none_fails, passed-one}
-use Rattle.mv_ledger.proofs.Spelling.{OffersAreBytes}
+use Rattle.mv_ledger_state.specs.Publishing.{Passes, FailsAt, phases, AllPass, IsLinked, HasRoom, IsPublished, IsRefusedAt, in_offer, in_linking, in_room}
+use Rattle.mv_ledger_state.proofs.Phases.{never-fails, one-first}
+use Rattle.mv_ledger_state.proofs.SavedFails.{none_fails, passed-one}
+use Rattle.mv_ledger_state.proofs.Spelling.{OffersAreBytes}
 
 -- an offer fails one phase first
 fails-one : (o : Offer) (p q : ℕ) → FailsAt o p → FailsAt o q → p ≡ q

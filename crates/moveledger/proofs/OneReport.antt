@@ -5,17 +5,17 @@ use Rattle.mv_move_types.specs.Published.{PublishedModule}
 use Rattle.mv_binary_format.specs.Laws.{IsReadByText}
 use Rattle.mv_machine.specs.Lines.{Reply, Published, Refused, reply_lines, numbered}
 use Rattle.mv_machine.specs.Ledger.{Offer, LedgerState, Request, Publish, Run, Show, Audit, BadRun, Bad, Answers, with_bundle}
-use Rattle.mv_ledger.specs.RecordText.{Asks, IsShaped}
-use Rattle.mv_ledger.specs.Publishing.{Spells, IsPublished, IsRefusedAt}
-use Rattle.mv_ledger.specs.Exact.{IsAccepted, IsRefused, no_bundle, failing, IsRightly}
-use Rattle.mv_ledger.specs.View.{LedgerView, state_of}
+use Rattle.mv_ledger_state.specs.RecordText.{Asks, IsShaped}
+use Rattle.mv_ledger_state.specs.Publishing.{Spells, IsPublished, IsRefusedAt}
+use Rattle.mv_ledger_state.specs.Exact.{IsAccepted, IsRefused, no_bundle, failing, IsRightly}
+use Rattle.mv_ledger_state.specs.View.{LedgerView, state_of}
 use Rattle.moveledger.specs.Records.{Record, Whole, Cut, AreRecords, most_records}
 use Rattle.moveledger.specs.Headline.{AnswersWhole, Step, Reports}
 use Rattle.moveledger.specs.OneReport.{OneReport}
 use Rattle.moveledger.proofs.One.{begins_one, nothing_begins}
 use Rattle.moveledger.proofs.OneRequest.{offers_fit, publish-one, asks-one}
-use Rattle.mv_ledger.proofs.Spelling.{OffersAreBytes, offers_bytes}
-use Rattle.mv_ledger.proofs.SavedFails.{passed-one}
+use Rattle.mv_ledger_state.proofs.Spelling.{OffersAreBytes, offers_bytes}
+use Rattle.mv_ledger_state.proofs.SavedFails.{passed-one}
 use Rattle.moveledger.proofs.OneRefusal.{published_or_refused, refused-one}
 
 -- two replies are one, and so are the states after them

@@ -12,10 +12,10 @@ use Rattle.mv_module_text.proofs.Addresses.{address-whole}
 use Rattle.mv_machine.specs.Value.{Leaf, Struct, Ref}
 use Rattle.mv_machine.specs.Ledger.{Offer, RunRequest, Request, Publish, Run, Show, Audit, BadRun, Bad, Format, AsText, AsJson}
 use Rattle.mv_machine.specs.Arguments.{arg_value}
-use Rattle.mv_ledger.specs.RecordText.{offer_text, offer_fits, publish_text, publish_fits, run_text, run_fits, argument_text, argument_fits, format_text, IsShaped, Asks}
-use Rattle.mv_ledger.specs.Payloads.{argument_from}
-use Rattle.mv_ledger.proofs.ShapesOfArguments.{arg_text, arg_fits, argument-whole}
-use Rattle.mv_ledger.proofs.SavedOnce.{IsOneOn, whole-one, uleb-one, counted-one, offers-one}
+use Rattle.mv_ledger_state.specs.RecordText.{offer_text, offer_fits, publish_text, publish_fits, run_text, run_fits, argument_text, argument_fits, format_text, IsShaped, Asks}
+use Rattle.mv_ledger_state.specs.Payloads.{argument_from}
+use Rattle.mv_ledger_state.proofs.ShapesOfArguments.{arg_text, arg_fits, argument-whole}
+use Rattle.mv_ledger_state.proofs.SavedOnce.{IsOneOn, whole-one, uleb-one, counted-one, offers-one}
 
 -- ---- parts
 

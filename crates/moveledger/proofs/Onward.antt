@@ -4,7 +4,7 @@ use Rattle.std.proofs.Common.{Option, inl, inr, flat_map}
 use Rattle.std.specs.Io.{StartsWith}
 use Rattle.std.specs.Io.KnownBytes.{Consumes, Appends}
 use Rattle.std.proofs.KnownBytes.{Consumes-nil, Appends-nil, Consumes-trans, Appends-trans}
-use Rattle.mv_ledger.specs.View.{LedgerView}
+use Rattle.mv_ledger_state.specs.View.{LedgerView}
 use Rattle.mv_machine.specs.Lines.{Refused, reply_lines, numbered}
 use Rattle.moveledger.specs.Records.{Record, Whole, Cut, IsText, AreRecords, AreWhole}
 use Rattle.moveledger.specs.Headline.{Reports}

@@ -16,12 +16,12 @@ use Rattle.mv_analyser.specs.Principal.{IsOfLimits, IsProvable, IsUnproved, Pass
 use Rattle.mv_analyser.specs.declared.ProveError.{ProveError}
 use Rattle.mv_analyser.specs.declared.ProveError.TheVariants.{Refused, TooComplex, Memory}
 use Rattle.moveledger.specs.Hexadecimal.{hexadecimal, IsHexadecimal}
-use Rattle.mv_ledger.specs.Publishing.{Passes, Spells}
-use Rattle.mv_ledger.proofs.Spelling.{module-one}
+use Rattle.mv_ledger_state.specs.Publishing.{Passes, Spells}
+use Rattle.mv_ledger_state.proofs.Spelling.{module-one}
 use Rattle.moveledger.specs.Checking.{AreShort, IsAccepted, IsRefusedAlone, PassesWith, before_line_end, offer_of}
 use Rattle.moveledger.specs.Proving.{HasNoProof, IsAcceptedBack, IsProvableText, IsProvedBy, IsShort, error_of, in_each, in_module}
 use Rattle.moveledger.proofs.Texts.{before_line_end-hexadecimal, before_line_end-line}
-use Rattle.mv_ledger.proofs.Phases.{never-fails}
+use Rattle.mv_ledger_state.proofs.Phases.{never-fails}
 
 -- what isn't refused holds
 decided : (b : Bool) → ((IsTrue b → ⊥) → ⊥) → IsTrue b

@@ -4,7 +4,7 @@ use Rattle.std.proofs.Common.{length-append, take_all, le_refl, Option, Some, No
 use Rattle.std.specs.Io.{StartsWith}
 use Rattle.std.specs.Io.KnownBytes.{Consumes, Appends}
 use Rattle.std.proofs.KnownBytes.{Consumes-nil, Appends-nil, Consumes-trans, Appends-trans}
-use Rattle.mv_ledger.specs.View.{LedgerView}
+use Rattle.mv_ledger_state.specs.View.{LedgerView}
 use Rattle.mv_machine.specs.Lines.{numbered}
 use Rattle.moveledger.specs.Records.{Record, Whole, Cut, IsText, Begins, AreRecords}
 use Rattle.moveledger.specs.Headline.{Step, Reports, Tells, Headline}

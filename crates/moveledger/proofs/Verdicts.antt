@@ -6,10 +6,10 @@ use Rattle.mv_move_types.specs.Module.{Module}
 use Rattle.mv_type_states.specs.Sound.{IsSound}
 use Rattle.hex.proofs.HexLemmas.{decode_of-same}
 use Rattle.moveledger.specs.Hexadecimal.{IsHexadecimal}
-use Rattle.mv_ledger.specs.Publishing.{Spells, FailsAt, IsRefusedOffer}
+use Rattle.mv_ledger_state.specs.Publishing.{Spells, FailsAt, IsRefusedOffer}
 use Rattle.moveledger.specs.Checking.{AreShort, FailsCheck, FailsWith, IsAccepted, IsRefusedAlone, IsRefusedText, IsRefusedWith, PassesWith}
 use Rattle.moveledger.specs.Checking.{before_line_end, failing, in_certificate, in_module, not_hexadecimal, offer_of, too_long}
-use Rattle.mv_ledger.proofs.Phases.{never-fails}
+use Rattle.mv_ledger_state.proofs.Phases.{never-fails}
 use Rattle.moveledger.proofs.Digits.{decode_of-hexadecimal}
 
 module _ (bytes : List ℕ) where

@@ -10,7 +10,7 @@
 use Rattle.std.specs.Prelude.{◌≡◌, ◌⊎◌, ℕ, Bool, true, false, List, [], ◌∷◌, ◌++◌, Option, Some, None, codes, decimal, flat_map}
 use Rattle.std.specs.Io.{StartsWith}
 use Rattle.std.specs.Io.KnownBytes.{Appends}
-use Rattle.mv_ledger.specs.View.{LedgerView}
+use Rattle.mv_ledger_state.specs.View.{LedgerView}
 use Rattle.mv_machine.specs.Lines.{Reply, reply_lines, numbered}
 use Rattle.moveledger.specs.Records.{Whole}
 use Rattle.moveledger.specs.Headline.{Step}

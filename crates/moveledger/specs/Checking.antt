@@ -19,7 +19,7 @@ use Rattle.mv_machine.specs.Ledger.{Offer}
 use Rattle.hex.specs.declared.error.FromHexError.{FromHexError}
 use Rattle.hex.specs.declared.error.FromHexError.TheVariants.{OutOfMemory}
 use Rattle.moveledger.specs.Hexadecimal.{IsHexadecimal}
-use Rattle.mv_ledger.specs.Publishing.{Spells, Passes, FailsAt}
+use Rattle.mv_ledger_state.specs.Publishing.{Spells, Passes, FailsAt}
 
 -- the text without a line end after it
 abbrev pub before_line_end : List ℕ → List ℕ

@@ -5,7 +5,7 @@
 --   StopsAfterByLines                  the same, at most as BegunByLines
 use Rattle.std.specs.Prelude.{◌≡◌, ℕ, ◌+◌, List, [], ◌++◌, length, Option, ◌⊎◌}
 use Rattle.std.specs.Io.KnownBytes.{Appends, Consumes}
-use Rattle.mv_ledger.specs.View.{LedgerView}
+use Rattle.mv_ledger_state.specs.View.{LedgerView}
 use Rattle.moveledger.specs.Records.{Record, AreRecords, AreWhole, most_records}
 use Rattle.moveledger.specs.Headline.{Reports, Tells}
 use Rattle.moveledger.specs.Outcome.{left_of, Begun, BegunByLines, StopsAt}

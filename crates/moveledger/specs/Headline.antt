@@ -18,11 +18,11 @@ use Rattle.mv_machine.specs.Count.{count}
 use Rattle.mv_machine.specs.Run.{RunOutcome, Returned, Aborted, Exhausted, Faulted, run}
 use Rattle.mv_machine.specs.Ledger.{LedgerState, Request, Run, Answers, modules_of, scarce_structs, admitted}
 use Rattle.mv_machine.specs.Lines.{Tallied, Reply, Refused, reply_lines, numbered}
-use Rattle.mv_ledger.specs.RecordText.{Asks}
-use Rattle.mv_ledger.specs.Publishing.{Spells}
-use Rattle.mv_ledger.specs.Exact.{IsRightly}
+use Rattle.mv_ledger_state.specs.RecordText.{Asks}
+use Rattle.mv_ledger_state.specs.Publishing.{Spells}
+use Rattle.mv_ledger_state.specs.Exact.{IsRightly}
 use Rattle.mv_ledger.specs.Changes.{Leaves}
-use Rattle.mv_ledger.specs.View.{LedgerView, state_of}
+use Rattle.mv_ledger_state.specs.View.{LedgerView, state_of}
 use Rattle.moveledger.specs.Records.{Record, Whole, Cut, AreRecords, most_records}
 
 -- a run ends without a fault: it returns, aborts or exhausts its steps or frames, after at most as many steps as its budget

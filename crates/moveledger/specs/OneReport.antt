@@ -1,6 +1,6 @@
 -- One input and one ledger allow one report.
 use Rattle.std.specs.Prelude.{◌≡◌, ℕ, ◌≤◌, List, Option}
-use Rattle.mv_ledger.specs.View.{LedgerView, state_of}
+use Rattle.mv_ledger_state.specs.View.{LedgerView, state_of}
 use Rattle.moveledger.specs.Records.{most_records}
 use Rattle.moveledger.specs.Headline.{Headline}
 

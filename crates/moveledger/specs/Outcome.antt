@@ -17,7 +17,7 @@
 use Rattle.std.specs.Prelude.{◌≡◌, ℕ, ◌+◌, ◌<◌, List, [], ◌++◌, length, Option, Some, None, ◌⊎◌, flat_map}
 use Rattle.std.specs.Io.{StartsWith}
 use Rattle.std.specs.Io.KnownBytes.{Appends, Consumes}
-use Rattle.mv_ledger.specs.View.{LedgerView}
+use Rattle.mv_ledger_state.specs.View.{LedgerView}
 use Rattle.moveledger.specs.Records.{Record, AreWhole, most_records}
 use Rattle.moveledger.specs.Reading.{IsCutAt, IsTaken, IsUnfinished}
 use Rattle.mv_machine.specs.Lines.{numbered}

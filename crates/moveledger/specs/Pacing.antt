@@ -1,7 +1,7 @@
 -- What is wanted after each record is done after each, before the next one is read.
 use Rattle.std.specs.Prelude.{◌≡◌, ◌≢◌, ℕ, zero, suc, ◌+◌, List, ◌++◌, length, Option, Result, Ok, Err, ◌⊎◌}
 use Rattle.std.specs.Io.KnownBytes.{Consumes}
-use Rattle.mv_ledger.specs.View.{LedgerView}
+use Rattle.mv_ledger_state.specs.View.{LedgerView}
 use Rattle.moveledger.specs.Records.{Record, AreWhole}
 use Rattle.moveledger.specs.Reading.{IsTaken, IsUnfinished}
 use Rattle.moveledger.specs.Outcome.{left_of, ReadsAll}

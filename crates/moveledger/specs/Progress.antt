@@ -1,7 +1,7 @@
 -- Where a run of the engine stands between two records.
 use Rattle.std.specs.Prelude.{◌≡◌, ℕ, List, length, Option}
 use Rattle.std.specs.Io.KnownBytes.{Appends, Consumes}
-use Rattle.mv_ledger.specs.View.{LedgerView}
+use Rattle.mv_ledger_state.specs.View.{LedgerView}
 use Rattle.moveledger.specs.Records.{Record, AreWhole}
 use Rattle.moveledger.specs.Headline.{Reports}
 

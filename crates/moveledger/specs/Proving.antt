@@ -18,7 +18,7 @@ use Rattle.mv_analyser.specs.Principal.{FailsEach, IsTooComplex, IsWithoutRefere
 use Rattle.mv_analyser.specs.declared.ProveError.{ProveError}
 use Rattle.mv_analyser.specs.declared.ProveError.TheVariants.{Refused, TooComplex, Memory}
 use Rattle.moveledger.specs.Hexadecimal.{hexadecimal}
-use Rattle.mv_ledger.specs.Publishing.{Spells, Passes}
+use Rattle.mv_ledger_state.specs.Publishing.{Spells, Passes}
 use Rattle.moveledger.specs.Checking.{FailsAlone, IsAccepted, most_digits, offer_of}
 
 -- the bytes of a module are within their limit

@@ -8,7 +8,7 @@ use Rattle.std.specs.Io.{StartsWith}
 use Rattle.std.specs.Io.KnownBytes.{Appends}
 use Rattle.mv_machine.specs.Ledger.{AsJson, Audit, Show}
 use Rattle.mv_machine.specs.Lines.{numbered}
-use Rattle.mv_ledger.specs.RecordText.{Asks}
+use Rattle.mv_ledger_state.specs.RecordText.{Asks}
 use Rattle.moveledger.specs.Records.{Record, Whole, Cut}
 
 -- a writer took a beginning of the text, and not all of it

@@ -2,7 +2,7 @@
 ghost use Rattle.std.specs.Prelude.{◌≡◌, ◌⊎◌, ◌↔◌, ◌++◌, ◌≤◌, ◌<◌, IfErr, IfOk, IfSome, IsTrue, Ok, None, length, take};
 ghost use Rattle.std.specs.Io.KnownBytes.{Consumes, IsAtEnd};
 ghost use Rattle.std.specs.IoError.{error_kind};
-ghost use Rattle.mv_ledger.specs.Loading.{FailsLoad};
+ghost use Rattle.mv_ledger_state.specs.Loading.{FailsLoad};
 ghost use Rattle.moveledger.specs.Saved.{IsMark};
 
 use crate::ending::End;

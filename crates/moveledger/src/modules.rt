@@ -1,7 +1,7 @@
 // The bytes of a module: phases 2 to 8.
 ghost use Rattle.std.specs.Prelude.{IfOk, IfErr};
 ghost use Rattle.mv_type_states.specs.Sound.{IsSound};
-ghost use Rattle.mv_ledger.specs.Publishing.{Spells};
+ghost use Rattle.mv_ledger_state.specs.Publishing.{Spells};
 ghost use Rattle.moveledger.specs.Checking.{IsRefusedAlone};
 
 use mv_move_types::Refusal;

@@ -1,9 +1,9 @@
 // The commands over saved ledgers, over what their files give and what they print.
 ghost use Rattle.std.specs.Prelude.{◌≡◌, ◌≢◌, ◌⊎◌, List, ℕ, Result, IfErr, IfOk, IfSome, OnOk};
 ghost use Rattle.std.specs.Fn.{FnOnceReturnsAt};
-ghost use Rattle.mv_ledger.specs.Loading.{IsLoadRefusal, IsLoaded};
-ghost use Rattle.mv_ledger.specs.SavedText.{IsSavedText, Second};
-ghost use Rattle.mv_ledger.specs.View.{state_of};
+ghost use Rattle.mv_ledger_state.specs.Loading.{IsLoadRefusal, IsLoaded};
+ghost use Rattle.mv_ledger_state.specs.SavedText.{IsSavedText, Second};
+ghost use Rattle.mv_ledger_state.specs.View.{state_of};
 ghost use Rattle.moveledger.specs.Saved.{IsMigrated, IsNotLoaded};
 ghost use Rattle.moveledger.specs.Status.{end_after_keeping};
 ghost use Rattle.moveledger.specs.declared.saved.KeepError.{KeepError};

@@ -1,7 +1,7 @@
 // The engine: records in, lines out.
 ghost use Rattle.std.specs.Prelude.{◌≡◌, ◌⊎◌, ℕ, List, [], IfOk, IfErr, Err};
 ghost use Rattle.moveledger.specs.Records.{Record, AreRecords};
-ghost use Rattle.mv_ledger.specs.View.{state_of};
+ghost use Rattle.mv_ledger_state.specs.View.{state_of};
 ghost use Rattle.moveledger.specs.Headline.{Headline, IsAccounted};
 ghost use Rattle.moveledger.specs.OneReport.{OneReport};
 ghost use Rattle.moveledger.specs.Outcome.{ReadsAll, Stops, StopsBehind, StopsByLines, StopsReading, StopsWriting};

@@ -13,8 +13,8 @@ use Rattle.mv_move_types.specs.declared.refusal.Refusal.TheVariants.{Phase}
 use Rattle.mv_machine.specs.Lines.{Told}
 use Rattle.mv_ledger.specs.Answering.{Replies}
 use Rattle.mv_lines.specs.LinesView.{ended}
-use Rattle.mv_ledger.specs.Loading.{FailsLoad, IsLoaded}
-use Rattle.mv_ledger.specs.View.{LedgerView, empty_view, state_of}
+use Rattle.mv_ledger_state.specs.Loading.{FailsLoad, IsLoaded}
+use Rattle.mv_ledger_state.specs.View.{LedgerView, empty_view, state_of}
 use Rattle.moveledger.specs.Checking.{IsAccepted, IsRefusedText}
 use Rattle.moveledger.specs.Continuing.{GoesOn, StopsAfter}
 use Rattle.moveledger.specs.Proving.{FailsProof, IsAcceptedBack, IsComplexText, IsProvedBy}

@@ -2,7 +2,7 @@
 use Rattle.std.specs.Prelude.{◌≡◌, ℕ, List, [], Option, Some, None}
 use Rattle.std.specs.Vec.{vec_ptr, vec_len}
 use Rattle.std.specs.Global.{Global, Vec}
-use Rattle.mv_ledger.specs.View.{LedgerView}
+use Rattle.mv_ledger_state.specs.View.{LedgerView}
 use Rattle.std.specs.contracts.vec.Vec as vec
 use Rattle.std.specs.contracts.alloc.Global as heap
 use Rattle.std.specs.contracts.impls.GlobalAllocator.TheImpl.{ghosts}

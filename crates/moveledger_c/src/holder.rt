@@ -1,6 +1,6 @@
 // What holds a ledger for C.
 ghost use Rattle.std.specs.Prelude.{◌≡◌, Option, Some, None, MatchOption};
-ghost use Rattle.mv_ledger.specs.View.{LedgerView};
+ghost use Rattle.mv_ledger_state.specs.View.{LedgerView};
 
 use crate::parts::Parts;
 use mv_ledger::Ledger;

@@ -1,8 +1,8 @@
 // The calls on a ledger.
 ghost use Rattle.std.specs.Prelude.{◌≡◌, ◌⊎◌, ℕ, List, Some, None, Ok, MatchOption, IfOk, OnOk, OnErr, String, string_bytes};
 ghost use Rattle.std.specs.Global.{Global};
-ghost use Rattle.mv_ledger.specs.SavedText.{IsSavedText, Second};
-ghost use Rattle.mv_ledger.specs.View.{state_of};
+ghost use Rattle.mv_ledger_state.specs.SavedText.{IsSavedText, Second};
+ghost use Rattle.mv_ledger_state.specs.View.{state_of};
 ghost use Rattle.moveledger.specs.Continuing.{GoesOn, StopsAfter};
 ghost use Rattle.moveledger_c.specs.Calls.{IsNew, IsLoadedAs, IsApplied, IsOfHeld, IsReported, payload_of};
 ghost use Rattle.moveledger_c.specs.Statuses.{done, memory};

@@ -1,10 +1,10 @@
 -- What a ledger holds stays as it has to where a bundle is published, and where a run was had.
 use Rattle.mv_ledger.proofs.Common.{[], ◌+◌, ◌<◌, ◌≡◌, Err, List, Ok, Result, arith, refl, subst, sym, ℕ, All-nil, All, IfOk, OnErr, OnOk, PublishedModule, Refusal}
 use Rattle.mv_ledger.proofs.Common.{FlatEntry, IsStore, tables_in, IsFineWords, IsSoundLedger, IsAcceptedBy, AddsTallies, IsLedger, IsSmall, LedgerView, PublishedView, all_of, none_published, state_of, view_of, Tally}
-use Rattle.mv_ledger.proofs.Bundles.Joining.{added-small}
-use Rattle.mv_ledger.proofs.Bundles.Sized.{sized_published}
-use Rattle.mv_ledger.proofs.Bundles.Staying.{stays-fine, stored-stays}
-use Rattle.mv_ledger.proofs.Accepted.Sound.{empty_sound}
+use Rattle.mv_ledger_state.proofs.Bundles.Joining.{added-small}
+use Rattle.mv_ledger_state.proofs.Bundles.Sized.{sized_published}
+use Rattle.mv_ledger_state.proofs.Bundles.Staying.{stays-fine, stored-stays}
+use Rattle.mv_ledger_state.proofs.Accepted.Sound.{empty_sound}
 use Rattle.mv_ledger.proofs.Replying.{sound_with}
 
 -- nothing published, stored or run

@@ -1,26 +1,7 @@
--- The proofs of the ledger's calls. The theories, each with an index at its head: Counting (the count holds) and Accepted (a ledger
--- stays sound). The rooms, after what the calls do: Bundles, Runs, Shows, Saves, Loads. Of use in several:
---   Shapes, ShapesOfArguments, Spelling   payloads and texts are read exactly where they have their shape
---   TalliedStores                         what a store with its tallies has, and what keeps it one
---   Phases, Replying, Ledgers             which phase is answered, what is replied, and that what a ledger holds stays as it has to
---   SavedOnce, SavedFails, NeverRefused   one ledger to a text, one reason where there is none, and none against what is saved
-pub mod TallyWords
+-- The proofs of the ledger's calls. The rooms, after what the calls do: Runs, Shows. Of use in several:
+--   Replying, Ledgers   what is replied, and that what a ledger holds stays as it has to
 pub mod Common
-pub mod Lists
-pub mod Spelling
-pub mod TalliedStores
 pub mod Ledgers
-pub mod Phases
 pub mod Replying
-pub mod ShapesOfArguments
-pub mod Shapes
-pub mod Counting
-pub mod Accepted
-pub mod SavedOnce
-pub mod SavedFails
-pub mod Bundles
 pub mod Runs
 pub mod Shows
-pub mod Saves
-pub mod NeverRefused
-pub mod Loads

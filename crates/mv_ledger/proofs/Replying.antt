@@ -6,9 +6,9 @@ use Rattle.mv_ledger.proofs.Common.{IsStore, tables_in, call_of, IsSoundLedger, 
 use Rattle.mv_ledger.proofs.Common.{AllPass, Spells, IsShaped, IsShapeless, IsAdmission, IsAdmitted, IsSettled, AddsTallies, LedgerView, state_of, tallied, view_of, Rejected, BarredRejected, Call}
 use Rattle.mv_ledger.proofs.Common.{Tally}
 use Rattle.mv_ledger.specs.Changes.{IsKept}
-use Rattle.mv_ledger.proofs.Bundles.Verifying.{as-many}
-use Rattle.mv_ledger.proofs.Accepted.Sound.{published_sound, attempted_sound}
-use Rattle.mv_ledger.proofs.Accepted.Records.{asked_fits, answers_record}
+use Rattle.mv_ledger_state.proofs.Bundles.Verifying.{as-many}
+use Rattle.mv_ledger_state.proofs.Accepted.Sound.{published_sound, attempted_sound}
+use Rattle.mv_ledger.proofs.Records.{asked_fits, answers_record}
 
 -- ---- what the machine's ledger answers to a run record: a rejection, or what the admitted call settles
 

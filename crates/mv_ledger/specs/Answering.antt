@@ -14,14 +14,14 @@ use Rattle.mv_machine.specs.declared.Ending.TheVariants.{Returned as HasReturned
 use Rattle.mv_machine.specs.Lines.{Reply as Told, Published as ToldPublished, Refused as ToldRefused, Rejected as ToldRejected}
 use Rattle.mv_machine.specs.Lines.{RanToEnd, RanToAbort, RanOut, Told as ToldLines}
 use Rattle.mv_machine.specs.Ledger.{LedgerState, Request, Answers}
-use Rattle.mv_ledger.specs.View.{LedgerView, state_of}
-use Rattle.mv_ledger.specs.RecordText.{Asks}
+use Rattle.mv_ledger_state.specs.View.{LedgerView, state_of}
+use Rattle.mv_ledger_state.specs.RecordText.{Asks}
 use Rattle.mv_lines.specs.LinesView.{LinesView, ended}
 use Rattle.mv_ledger.specs.Changes.{Leaves}
-use Rattle.mv_ledger.specs.Exact.{IsRightly}
-use Rattle.mv_ledger.specs.Publishing.{Spells}
-use Rattle.mv_ledger.specs.Accepted.SoundLedger.{IsSoundLedger}
-use Rattle.mv_ledger.specs.Counting.Headline.{RunsWell}
+use Rattle.mv_ledger_state.specs.Exact.{IsRightly}
+use Rattle.mv_ledger_state.specs.Publishing.{Spells}
+use Rattle.mv_ledger_state.specs.Accepted.SoundLedger.{IsSoundLedger}
+use Rattle.mv_ledger_state.specs.Counting.Headline.{RunsWell}
 use Rattle.mv_ledger.specs.declared.Reply.{Reply}
 use Rattle.mv_ledger.specs.declared.Reply.TheVariants.{Published, Refused, Rejected, Ran, Memory}
 

@@ -3,7 +3,7 @@ use Rattle.std.specs.Prelude.{◌≢◌, ℕ, List}
 use Rattle.mv_machine.specs.Ledger.{AsText, AsJson, Format as Wanted}
 use Rattle.mv_ledger.specs.declared.format.Format.{Format}
 use Rattle.mv_ledger.specs.declared.format.Format.TheVariants.{Text, Json}
-use Rattle.mv_ledger.specs.RecordText.{format_text}
+use Rattle.mv_ledger_state.specs.RecordText.{format_text}
 
 -- the format that is wanted
 abbrev pub format_of : Format → Wanted

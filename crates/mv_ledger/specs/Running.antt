@@ -14,7 +14,7 @@ use Rattle.mv_ledger.specs.declared.executing.Call.{Call}
 use Rattle.mv_ledger.specs.declared.executing.Barred.{Barred}
 use Rattle.mv_ledger.specs.declared.executing.Barred.TheVariants.{Rejected, Memory}
 use Rattle.mv_machine.specs.declared.Tally.{Tally}
-use Rattle.mv_ledger.specs.View.{state_of, view_of}
+use Rattle.mv_ledger_state.specs.View.{state_of, view_of}
 
 -- the call that is admitted is the machine's, and the reason against one; want of memory stands for neither
 abbrev pub IsAdmission : ℕ → Result FunctionCall ℕ → Result Call Barred → Type 0

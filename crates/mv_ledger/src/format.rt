@@ -1,7 +1,7 @@
 // How a show or an audit is asked for.
 ghost use Rattle.std.specs.Prelude.{◌≡◌, MatchOption};
 ghost use Rattle.mv_ledger.specs.Formats.{IsNoFormat, format_of};
-ghost use Rattle.mv_ledger.specs.RecordText.{format_text};
+ghost use Rattle.mv_ledger_state.specs.RecordText.{format_text};
 
 /// How a report is wanted.
 #[derive(Clone, Copy)]

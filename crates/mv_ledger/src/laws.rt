@@ -1,11 +1,11 @@
 // What holds of each record that is answered, of each run, of what is stored, and of what is saved and loaded.
 
-ghost use Rattle.mv_ledger.specs.Counting.Headline.{EveryCountIsTallied};
-ghost use Rattle.mv_ledger.specs.Counting.Conservation.{EveryRunIsOwnWork, EveryRunConserves};
-ghost use Rattle.mv_ledger.specs.Accepted.Records.{EachRecordIsWell};
+ghost use Rattle.mv_ledger_state.specs.Counting.Headline.{EveryCountIsTallied};
+ghost use Rattle.mv_ledger_state.specs.Counting.Conservation.{EveryRunIsOwnWork, EveryRunConserves};
+ghost use Rattle.mv_ledger_state.specs.Accepted.Records.{EachRecordIsWell};
 ghost use Rattle.mv_lines.specs.Plain.{NoTextIsEscaped};
-ghost use Rattle.mv_ledger.specs.View.{EachTallyIsScarce, state_of};
-ghost use Rattle.mv_ledger.specs.SavedLaws.{EachLedgerHasOneText, EachTextHasOneLedger, EachSaveIsLoaded, EachLoadIsSound, EachLoadIsOne, EachLoadIsSaved, EachSecondFormComesBack, NoLoadFails, NoSaveIsRefused};
+ghost use Rattle.mv_ledger_state.specs.View.{EachTallyIsScarce, state_of};
+ghost use Rattle.mv_ledger_state.specs.SavedLaws.{EachLedgerHasOneText, EachTextHasOneLedger, EachSaveIsLoaded, EachLoadIsSound, EachLoadIsOne, EachLoadIsSaved, EachSecondFormComesBack, NoLoadFails, NoSaveIsRefused};
 
 use crate::Ledger;
 

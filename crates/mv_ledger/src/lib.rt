@@ -18,19 +18,15 @@
 mod executing;
 mod format;
 mod laws;
-mod payload;
-mod published;
-mod publishing;
-mod saved;
-mod tallies;
+mod loading;
 
 ghost use Rattle.std.specs.Prelude.{◌≡◌, is_some, IfOk};
-ghost use Rattle.mv_ledger.specs.View.{empty_view, state_of};
+ghost use Rattle.mv_ledger_state.specs.View.{empty_view, state_of};
 ghost use Rattle.mv_ledger.specs.Answering.{told, told_lines, Replies, RepliesText};
-ghost use Rattle.mv_ledger.specs.RecordText.{format_text};
-ghost use Rattle.mv_ledger.specs.Accepted.SoundLedger.{IsSoundLedger};
-ghost use Rattle.mv_ledger.specs.SavedLaws.{IsSavable};
-ghost use Rattle.mv_ledger.specs.SavedText.{IsSavedText, Second};
+ghost use Rattle.mv_ledger_state.specs.RecordText.{format_text};
+ghost use Rattle.mv_ledger_state.specs.Accepted.SoundLedger.{IsSoundLedger};
+ghost use Rattle.mv_ledger_state.specs.SavedLaws.{IsSavable};
+ghost use Rattle.mv_ledger_state.specs.SavedText.{IsSavedText, Second};
 
 use executing::{Barred, admitted};
 use format::{Format, read_format};
@@ -40,14 +36,13 @@ pub use laws::{
     each_text_has_one_ledger, every_count_is_tallied, every_run_conserves, every_run_is_own_work,
     no_load_fails, no_save_is_refused, no_text_is_escaped,
 };
+pub use loading::migrate;
+pub use mv_ledger_state::LoadError;
+use mv_ledger_state::{Published, read_run, text_of};
 pub use mv_lines::{Lines, Piece, json_of_storage, json_of_tallies};
 use mv_machine::Outcome;
 use mv_move_types::Refusal;
 use mv_storage::Storage;
-use payload::read_run;
-use published::Published;
-pub use saved::loading::{LoadError, migrate};
-use saved::saving::text_of;
 use std::alloc::{AllocError, Global};
 use std::marker::Model;
 
@@ -87,7 +82,7 @@ pub struct Ledger {
 }
 
 impl Model for Ledger {
-    ghost use Rattle.mv_ledger.specs.View.{LedgerView, view_of, IsLedger};
+    ghost use Rattle.mv_ledger_state.specs.View.{LedgerView, view_of, IsLedger};
     ghost use Rattle.mv_machine.specs.Tallies.{all_of};
 
     ghost Value = { LedgerView };

@@ -1,5 +1,4 @@
 -- The proofs of shows and audits: names, numbers and values as text, the lines of JSON, and the lists of both.
---   Named       The names of structs by where they are defined.
 --   Digits      An address as hexadecimal digits.
 --   Fields      The values of fields, and their text, one after the other.
 --   Structs     The value of a struct, by what its fields are made of.
@@ -10,7 +9,6 @@
 --   Pieces      A line of JSON, piece by piece.
 --   Parted      The texts of a stored value, one behind the other.
 --   Audits      The counts of an audit, module by module.
-pub mod Named
 pub mod Digits
 pub mod Fields
 pub mod Structs

@@ -1,4 +1,5 @@
--- The proofs of the store and of phase 13. Of general use are ListTests, Orders, Outcomes and Members (modules among others);
+-- The proofs of the store and of phase 13. Of general use are ListTests, Orders, Outcomes, Members (modules among others) and Named
+-- (structs by where they are defined);
 -- mv_interface has those on one module, and mv_link_rules those on the rules.
 -- Common passes on the words that the proofs speak of all along, and Lemmas the lemmas that most of them cite.
 -- The rooms, each with an index at its head:
@@ -20,4 +21,5 @@ pub mod Cycles
 pub mod StructSizes
 pub mod LinkedCode
 pub mod Kept
+pub mod Named
 pub mod Terms

@@ -2,6 +2,7 @@
 use Rattle.mv_ledger.proofs.Common.{◌+◌, ◌∙◌, ◌≡◌, List, Option, Some, ap, ap₂, arith, map, sym, ℕ, All-weaker, All, Module, PublishedModule, StructTally, Layers, FlatEntry}
 use Rattle.mv_ledger.proofs.Common.{storage_of, LedgerState, settled, Told, Tallied, Aborted, Exhausted, Faulted, Returned, RunOutcome, Storage, HasAborted, HasExhausted, HasReturned}
 use Rattle.mv_ledger.proofs.Common.{tables_in, Agrees, told, told_ending, IsSettled, run_of, tally_after, IsNamed, IsSmall, all_of, state_of, tallied, view_of, Call, Tally}
+use Rattle.mv_ledger.proofs.Common.{unwrap_or, name_at, StructName, Definition, packs_at, unpacks_at, Count, tally_with, packs, unpacks, Event, some-of, nameless, Tallies}
 use Rattle.std.proofs.Common.{refl, subst}
 use Rattle.mv_soundness.specs.Words.{IsFineWords}
 use Rattle.mv_machine.specs.declared.Outcome.{Outcome}
@@ -9,8 +10,41 @@ use Rattle.mv_machine.specs.declared.Ending.{Ending}
 use Rattle.mv_ledger.specs.Changes.{RunsTo}
 use Rattle.mv_ledger.specs.Running.{left_by}
 use Rattle.mv_ledger.specs.declared.Reply.TheVariants.{Ran}
-use Rattle.mv_ledger.proofs.Runs.TalliesAfter.{tallies-after}
-use Rattle.mv_ledger.proofs.Runs.TalliesByModule.{all-map}
+use Rattle.mv_frames.proofs.Tallied.{tallied-packs, tallied-unpacks}
+use Rattle.mv_ledger_state.proofs.Runs.TalliesAfter.{map-where, map-then}
+use Rattle.mv_ledger_state.proofs.Runs.TalliesByModule.{all-map}
+
+module _ (published : List PublishedModule) where
+  -- a struct's tally after a run
+  tally-after : (run : List StructTally) (events : List Event) → Tallies (tables_in published) run events → (t : Tally)
+      → IsNamed (tables_in published) t
+      → tallied (tables_in published) (tally_after run t) ≡ tally_with events (tallied (tables_in published) t)
+  tally-after run events counted t named =
+      let name = some-of (name_at (tables_in published) t.place t.index) named in
+      let d : Definition = record { place = t.place; index = t.index } in
+      let struct : name.0 ≡ unwrap_or (name_at (tables_in published) t.place t.index) nameless = ap (λ (o : Option StructName). unwrap_or o nameless) (sym name.1) in
+      let made : packs_at t.place t.index run ≡ packs (unwrap_or (name_at (tables_in published) t.place t.index) nameless) events =
+      tallied-packs run d (did name.0) (counted.named t.place t.index name.0 name.1) ∙ ap (λ (s : StructName). packs s events) struct in
+      let taken : unpacks_at t.place t.index run ≡ unpacks (unwrap_or (name_at (tables_in published) t.place t.index) nameless) events =
+      tallied-unpacks run d (did name.0) (counted.named t.place t.index name.0 name.1) ∙ ap (λ (s : StructName). unpacks s events) struct in
+      ap₂ (λ (m n : ℕ). grown (unwrap_or (name_at (tables_in published) t.place t.index) nameless) (t.packs + m) (t.unpacks + n)) made taken
+    where
+      did : StructName → Count
+      did s = record { packs = packs s events; unpacks = unpacks s events }
+
+      grown : StructName → ℕ → ℕ → Tallied
+      grown s m n = record { struct = s; packs = m; unpacks = n }
+
+-- the tallies after a run
+tallies-after : (published : List PublishedModule) (run : List StructTally) (events : List Event) (ts : List Tally) → All (IsNamed (tables_in published)) ts
+    → Tallies (tables_in published) run events
+    → map (tallied (tables_in published)) (map (tally_after run) ts) ≡ map (tally_with events) (map (tallied (tables_in published)) ts)
+tallies-after published run events ts named counted =
+    map-then (tally_after run) (tallied (tables_in published)) ts
+    ∙ map-where (IsNamed (tables_in published)) (λ t. tallied (tables_in published) (tally_after run t))
+    (λ t. tally_with events (tallied (tables_in published) t))
+    (tally-after published run events counted) ts named
+    ∙ sym (map-then (tallied (tables_in published)) (tally_with events) ts)
 
 -- tallies that are small after some runs are so after one more
 pub small-kept : (runs : ℕ) (ts : List Tally) → All (IsSmall runs) ts → All (IsSmall (runs + 1)) ts

@@ -8,8 +8,8 @@ use Rattle.mv_ledger.proofs.Common.{Answers, Asks, LedgerState, Publish, Request
 use Rattle.std.specs.Prelude.{IsUtf8}
 use Rattle.mv_lines.specs.LinesView.{ended}
 use Rattle.mv_ledger.specs.Formats.{IsNoFormat}
-use Rattle.mv_ledger.proofs.Accepted.Records.{answers_record}
-use Rattle.mv_ledger.proofs.Counting.Ended.{counts-tallied}
+use Rattle.mv_ledger.proofs.Records.{answers_record}
+use Rattle.mv_ledger_state.proofs.Counting.Ended.{counts-tallied}
 use Rattle.mv_lines.proofs.Shows.Characters.{shown_utf8, audited_utf8}
 
 -- ---- a payload that asks for no format

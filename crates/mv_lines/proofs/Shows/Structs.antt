@@ -5,7 +5,7 @@ use Rattle.mv_lines.proofs.Common.{OfStruct, fields_from, struct_from, value_fro
 use Rattle.mv_lines.proofs.Common.{AreFieldsAt, AreParts, IsMadeOf, IsPart, is_of_value, Part, LeafPart, Nothing, StructPart, PutsText, fields_text, key_value_text, part_from, parts_from}
 use Rattle.mv_lines.specs.ValueParts.{value_at}
 use Rattle.mv_lines.proofs.Shows.Fields.{puts_some}
-use Rattle.mv_lines.proofs.Shows.Named.{defined, named, no_definition}
+use Rattle.mv_linker.proofs.Named.{defined, named, no_definition}
 
 -- ---- its text
 

@@ -4,7 +4,7 @@ use Rattle.mv_binary_format.proofs.Back.{all-are_bytes}
 use Rattle.mv_acquires.specs.Acquires.{AcquiresHold}
 use Rattle.mv_certificate.specs.CertificateText.{IsCertificateText}
 use Rattle.moveledger.specs.Checking.{offer_of}
-use Rattle.mv_ledger.proofs.Phases.{refused_stated, refused_check}
+use Rattle.mv_ledger_state.proofs.Phases.{refused_stated, refused_check}
 use Rattle.moveledger.proofs.Verdicts.{refused-in_module, refused-in_digits, refused-in_certificate}
 use Rattle.moveledger.proofs.checking.check_digits.Goals as goal
 

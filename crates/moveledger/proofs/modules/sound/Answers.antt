@@ -1,9 +1,9 @@
 use Rattle.std.proofs.Common.{Err, sym, ap, arith, subst}
 use Rattle.std.proofs.lemmas.Result.{err_from_is_err_and}
 use Rattle.mv_binary_format.proofs.Back.{all-are_bytes}
-use Rattle.mv_ledger.specs.Publishing.{Spells}
+use Rattle.mv_ledger_state.specs.Publishing.{Spells}
 use Rattle.moveledger.specs.Checking.{offer_of}
-use Rattle.mv_ledger.proofs.Phases.{refused_text, refused_bounds, refused_types}
+use Rattle.mv_ledger_state.proofs.Phases.{refused_text, refused_bounds, refused_types}
 use Rattle.moveledger.proofs.Verdicts.{refused-alone}
 use Rattle.moveledger.proofs.modules.sound.Goals as goal
 

@@ -1,5 +1,5 @@
 use Rattle.std.proofs.Common.{◌≡◌, ◌⊎◌, Result, Err, Ok, inl, inr, refl}
-use Rattle.mv_ledger.specs.View.{state_of}
+use Rattle.mv_ledger_state.specs.View.{state_of}
 use Rattle.moveledger.specs.declared.streaming.EngineError.{EngineError}
 use Rattle.moveledger.specs.declared.streaming.EngineError.TheVariants.{Write}
 use Rattle.moveledger.proofs.HeadlineLemmas.{is_accounted}

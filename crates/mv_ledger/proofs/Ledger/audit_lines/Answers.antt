@@ -1,7 +1,7 @@
 use Rattle.mv_ledger.proofs.Common.{◌^◌, ◌<◌, Global, Tally, Vec, audit_from, counts_json, length-map, map, tables_in, tallied}
 use Rattle.mv_ledger.proofs.Common.{◌≡◌, [], ◌*◌, ◌∙◌, ◌∷◌, ◌≤◌, Some, ap, arith, length, subst, AsJson, AsText, ToldRefused, ToldLines, Replies, LedgerView, all_of, view_of, List, ℕ, sym, format_text}
 use Rattle.mv_ledger.proofs.Ledgers.{held-is, held-sound}
-use Rattle.mv_ledger.proofs.TalliedStores.{tallied-long}
+use Rattle.mv_ledger_state.proofs.TalliedStores.{tallied-long}
 use Rattle.mv_ledger.proofs.Shows.Reports.{unasked_replies, audit_replies, audit-lines, audit-json, few_tallies}
 use Rattle.mv_lines.specs.LinesView.{LinesView}
 use Rattle.mv_ledger.proofs.Ledger.audit_lines.Goals as goal

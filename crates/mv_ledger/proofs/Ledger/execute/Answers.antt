@@ -5,7 +5,7 @@ use Rattle.mv_ledger.proofs.Ledgers.{ledger-run, ledger-kept}
 use Rattle.mv_ledger.proofs.Replying.{bad_run_replies, rejected_replies, had_sound, had_replies, unchanged, untold_replies}
 use Rattle.mv_ledger.proofs.Ledger.execute.Goals as goal
 use Rattle.mv_ledger.proofs.Ledger.execute.Goals.{In-Ok-admitted, then-is_told, else-is_told}
-use Rattle.mv_ledger.proofs.Phases.{phase-no-memory}
+use Rattle.mv_ledger_state.proofs.Phases.{phase-no-memory}
 
 -- the run is admitted to the ledger's modules
 admitted-to : (c : In-Ok-admitted) → IsAdmitted c.self.inside.published.modules c.self.inside.runs (request_of c.in-Ok.asked) (Ok c.in-Ok-admitted.call)

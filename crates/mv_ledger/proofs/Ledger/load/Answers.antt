@@ -1,24 +1,5 @@
-use Rattle.mv_ledger.proofs.Common.{◌∙◌, Err, ap, arith, sym, all-bytes, BeginsWith, head_from, head_of, Head}
-use Rattle.mv_ledger.proofs.Loads.LoadedHead.{head-none}
-use Rattle.mv_ledger.proofs.Loads.Loaded.{refused-as}
+use Rattle.mv_ledger.proofs.Common.{err_from_is_err_and}
 use Rattle.mv_ledger.proofs.Ledger.load.Goals as goal
 
-pub returns-in-Err-clause-refused : goal.returns-in-Err-clause-refused
-returns-in-Err-clause-refused c =
-    refused-as c.args.bytes.now Head c.in-Err.refusal c.because.result c.because.ensures c.in-Err.ensures.errors
-    (λ p. head-none c.args.bytes.now (ap head_from (sym c.new-reader.ensures) ∙ c.in-Err.ensures.refused (ap Err p)))
-
-pub load_after-requires : goal.load_after-requires
-load_after-requires c = (c.args.bytes.now, record { are = all-bytes c.args.bytes.now (λ i. omega (arith, c.type_inv.bytes i)); begins = ap head_from (sym c.new-reader.ensures) ∙ c.in-Ok.ensures.ok })
-
-pub returns-in-Ok-clause-loaded : goal.returns-in-Ok-clause-loaded
-returns-in-Ok-clause-loaded c =
-    let begun : BeginsWith c.args.bytes.now (head_of c.in-Ok.head)
-    c.read_head.new.reader = record { are = all-bytes c.args.bytes.now (λ i. omega (arith, c.type_inv.bytes i)); begins = ap head_from (sym c.new-reader.ensures) ∙ c.in-Ok.ensures.ok } in
-    c.load_after.ensures.loaded c.args.bytes.now begun
-
-pub returns-in-Ok-clause-refused : goal.returns-in-Ok-clause-refused
-returns-in-Ok-clause-refused c =
-    let begun : BeginsWith c.args.bytes.now (head_of c.in-Ok.head)
-    c.read_head.new.reader = record { are = all-bytes c.args.bytes.now (λ i. omega (arith, c.type_inv.bytes i)); begins = ap head_from (sym c.new-reader.ensures) ∙ c.in-Ok.ensures.ok } in
-    c.load_after.ensures.refused c.args.bytes.now begun
+pub invariant_of-result : goal.invariant_of-result
+invariant_of-result c = c.in_ok-loaded.ensures.whole

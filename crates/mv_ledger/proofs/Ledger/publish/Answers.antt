@@ -1,6 +1,6 @@
 use Rattle.mv_ledger.proofs.Common.{ap, subst, Refusal, Replies, told, IsRefusedBy, LedgerView, PublishedView, all_of, view_of}
 use Rattle.mv_ledger.proofs.Ledgers.{ledger-published}
-use Rattle.mv_ledger.proofs.Bundles.Staying.{stored-stays}
+use Rattle.mv_ledger_state.proofs.Bundles.Staying.{stored-stays}
 use Rattle.mv_ledger.proofs.Replying.{published_replies, refused_replies, nothing_replies}
 use Rattle.mv_ledger.proofs.Ledger.publish.Goals as goal
 use Rattle.mv_ledger.proofs.Ledger.publish.Goals.{in-Ok, in-Err-Phase, in-Err-Memory}

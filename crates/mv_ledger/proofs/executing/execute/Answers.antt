@@ -2,8 +2,8 @@ use Rattle.mv_ledger.proofs.Common.{◌+◌, ◌-◌, ◌^◌, ◌∙◌, ◌≡
 use Rattle.mv_ledger.proofs.Common.{IsSmall, IsTalliedStore, PublishedView, all_of, Tally}
 use Rattle.mv_machine.specs.declared.Ending.TheVariants.{Returned}
 use Rattle.mv_ledger.proofs.Runs.StoredRuns.{tallied-after, settled-returned, settled-kept, small-kept, runs-to}
-use Rattle.mv_ledger.proofs.Runs.TalliesAfter.{most-after, small-after}
-use Rattle.mv_ledger.proofs.TalliedStores.{tallied-named}
+use Rattle.mv_ledger_state.proofs.Runs.TalliesAfter.{most-after, small-after}
+use Rattle.mv_ledger_state.proofs.TalliedStores.{tallied-named}
 use Rattle.mv_ledger.proofs.executing.execute.Goals as goal
 use Rattle.mv_ledger.proofs.executing.execute.Goals.{In-Ok, then-eq, else-eq}
 

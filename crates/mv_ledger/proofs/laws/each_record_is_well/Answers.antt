@@ -1,4 +1,4 @@
-use Rattle.mv_ledger.proofs.Accepted.Records.{records_well}
+use Rattle.mv_ledger.proofs.Records.{records_well}
 use Rattle.mv_ledger.proofs.laws.each_record_is_well.Goals as goal
 
 pub returns : goal.returns

@@ -1,4 +1,4 @@
-use Rattle.mv_ledger.proofs.Counting.Conserved.{run-conserves}
+use Rattle.mv_ledger_state.proofs.Counting.Conserved.{run-conserves}
 use Rattle.mv_ledger.proofs.laws.every_run_conserves.Goals as goal
 
 pub returns : goal.returns

@@ -1,5 +1,0 @@
-use Rattle.mv_ledger.proofs.Loads.Offering.{HavePassed}
-use Rattle.mv_ledger.proofs.published.Published.publish_each.Given as goal
-
-abbrev pub invariant-each : goal.invariant-each
-invariant-each l = HavePassed l.offers l.offer-index

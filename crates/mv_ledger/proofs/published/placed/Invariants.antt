@@ -1,5 +1,0 @@
-use Rattle.mv_ledger.proofs.Bundles.Placing.{IsPlacing}
-use Rattle.mv_ledger.proofs.published.placed.Given as goal
-
-abbrev pub invariant-each : goal.invariant-each
-invariant-each l = IsPlacing l.store l.tallies l.news l.new-index l.all.items l.next

@@ -1,5 +1,0 @@
-use Rattle.mv_ledger.proofs.Bundles.Verifying.{IsVerifying}
-use Rattle.mv_ledger.proofs.publishing.all_verified.Given as goal
-
-abbrev pub invariant-each : goal.invariant-each
-invariant-each l = IsVerifying l.offers l.offer-index l.all.items

@@ -1,5 +1,0 @@
-use Rattle.mv_ledger.proofs.Common.{arith, all-bytes}
-use Rattle.mv_ledger.proofs.publishing.are_bytes.Goals as goal
-
-pub returns : goal.returns
-returns c = all-bytes c.args.bytes.now (λ i. omega (arith, c.type_inv.bytes i))

@@ -1,5 +1,0 @@
-use Rattle.mv_ledger.proofs.Loads.BodyReading.{LeavesOn}
-use Rattle.mv_ledger.proofs.saved.loading.values.leaves.Given as goal
-
-abbrev pub invariant-each : goal.invariant-each
-invariant-each l = LeavesOn l.kinds l.kind-index l.initial.reader l.words.items l.reader

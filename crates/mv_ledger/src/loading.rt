@@ -1,0 +1,51 @@
+// Loading a saved ledger, and giving it the second form.
+ghost use Rattle.std.specs.Prelude.{◌≡◌, ℕ, List, IfOk, IfErr};
+ghost use Rattle.mv_machine.specs.Ledger.{LedgerState};
+ghost use Rattle.mv_ledger_state.specs.Loading.{IsLoaded, IsLoadRefusal};
+ghost use Rattle.mv_ledger_state.specs.SavedText.{IsSavedText, Second};
+ghost use Rattle.mv_ledger_state.specs.View.{state_of};
+
+use crate::Ledger;
+use mv_ledger_state::LoadError;
+use std::alloc::Global;
+
+impl Ledger {
+    /// The ledger that these bytes are the text of, in either form.
+    ///
+    /// # Errors
+    ///
+    /// The first reason against them, `Head` to `Tally`; `Memory`, where a growth was refused.
+    pub fn load(alloc: Global, bytes: &[u8]) -> Result<Ledger, LoadError>
+        ensures loaded { IfOk result (λ l. IsLoaded bytes.now (state_of l)) }
+        ensures refused { IfErr result (IsLoadRefusal bytes.now) }
+    {
+        let loaded = mv_ledger_state::load(alloc, bytes)?;
+        Ok(Ledger {
+            alloc,
+            published: loaded.published,
+            storage: loaded.storage,
+            runs: loaded.runs,
+        })
+    }
+}
+
+/// The text of a ledger, in the second form.
+fn second_form(ledger: &Ledger) -> Result<Vec<u8>, LoadError>
+    ensures new { (old : List ℕ) → IsLoaded old (state_of ledger.now) → IfOk result (λ v. (s : LedgerState) × (IsLoaded old s × IsSavedText Second v.items s)) }
+    ensures refused { (old : List ℕ) → IfErr result (IsLoadRefusal old) }
+{
+    Ok(ledger.save()?)
+}
+
+/// The text, in the second form, of the ledger that these bytes are the text of, in either form.
+///
+/// # Errors
+///
+/// The first reason against them, `Head` to `Tally`; `Memory`, where a growth was refused.
+pub fn migrate(alloc: Global, old: &[u8]) -> Result<Vec<u8>, LoadError>
+    ensures new { IfOk result (λ v. (s : LedgerState) × (IsLoaded old.now s × IsSavedText Second v.items s)) }
+    ensures refused { IfErr result (IsLoadRefusal old.now) }
+{
+    let ledger = Ledger::load(alloc, old)?;
+    second_form(&ledger)
+}

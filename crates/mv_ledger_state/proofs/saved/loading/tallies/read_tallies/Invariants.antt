@@ -1,0 +1,8 @@
+use Rattle.mv_ledger_state.proofs.Common.{◌≡◌, length, map, take, ReadsOn, counts_of, form_of, struct_of, tally_from}
+use Rattle.mv_ledger_state.proofs.saved.loading.tallies.read_tallies.Given as goal
+
+abbrev pub invariant-each : goal.invariant-each
+invariant-each l = record {
+  reads : ReadsOn (tally_from (form_of l.form)) (length l.fn.tallies) l.tally-index l.initial.reader (map counts_of (take l.tally-index l.tallies)) l.reader;
+  kept : map struct_of l.tallies ≡ map struct_of l.fn.tallies;
+}

@@ -1,0 +1,16 @@
+pub mod View
+pub mod Asking
+pub mod Tallying
+pub mod RecordText
+pub mod Publishing
+pub mod Exact
+pub mod Payloads
+pub mod Judging
+pub mod Counting
+pub mod Accepted
+pub mod SavedText
+pub mod Loading
+pub mod SavedLaws
+pub mod Layouts
+pub mod Inside
+pub mod Parts

@@ -1,0 +1,58 @@
+// Reading the tallies of a saved ledger.
+ghost use Rattle.std.specs.Prelude.{◌≡◌, None, Some, length, map, OnOk, OnErr, IfErr};
+ghost use Rattle.mv_module_text.specs.Parsing.{entries_from};
+ghost use Rattle.mv_module_text.specs.Reads.{Reads};
+ghost use Rattle.mv_ledger_state.specs.Parts.BodyParts.{form_of, counts_of, struct_of, count_from, tally_from};
+
+use crate::saved::loading::head::SavedForm;
+use mv_machine::Tally;
+use mv_module_text::Reader;
+use mv_move_types::limits::{MOST_RUNS, MOST_STEPS};
+use mv_move_types::{Refusal, Width};
+
+// The most values of a struct that 2^32 runs of 10,000,000 steps each make.
+const MOST_COUNT: u64 = MOST_RUNS * MOST_STEPS;
+
+/// Reads a count of a tally.
+fn count(reader: &mut Reader<'_>, form: SavedForm) -> Result<u128, Refusal>
+    ensures { Reads (count_from (form_of form)) reader.old result reader.new }
+{
+    match form {
+        SavedForm::First => reader.number_of(Width::U128),
+        SavedForm::Second => {
+            let count = reader.number(MOST_COUNT)?;
+            Ok(u128::from(count))
+        }
+    }
+}
+
+/// Reads the counts of a tally in place of those that it has.
+fn read_tally(reader: &mut Reader<'_>, form: SavedForm, tally: &mut Tally) -> Result<(), Refusal>
+    ensures ok { OnOk result (tally_from (form_of form) reader.old ≡ Some (counts_of tally.new, reader.new)) }
+    ensures refused { OnErr result (tally_from (form_of form) reader.old ≡ None) }
+    ensures errors { IfErr result (λ e. e ≡ Refusal.Phase 2) }
+    ensures kept { struct_of tally.new ≡ struct_of tally.old }
+{
+    let packs = count(reader, form)?;
+    let unpacks = count(reader, form)?;
+    tally.packs = packs;
+    tally.unpacks = unpacks;
+    Ok(())
+}
+
+/// Reads the counts of these tallies, one after the other, in place of those that they have.
+pub fn read_tallies(
+    reader: &mut Reader<'_>,
+    form: SavedForm,
+    tallies: &mut [Tally],
+) -> Result<(), Refusal>
+    ensures ok { OnOk result (entries_from (tally_from (form_of form)) (length tallies.old) reader.old ≡ Some (map counts_of tallies.new, reader.new)) }
+    ensures refused { OnErr result (entries_from (tally_from (form_of form)) (length tallies.old) reader.old ≡ None) }
+    ensures errors { IfErr result (λ e. e ≡ Refusal.Phase 2) }
+    ensures kept { map struct_of tallies.new ≡ map struct_of tallies.old }
+{
+    'each: for tally in tallies.iter_mut() {
+        read_tally(reader, form, tally)?;
+    }
+    Ok(())
+}
