@@ -149,7 +149,7 @@ fn are_few(edges: &[Edge]) -> bool
 }
 
 impl<'t, 'm> Domain for BorrowDomain<'t, 'm> {
-    ghost use Rattle.std.specs.Prelude.{◌≡◌, ◌++◌, Option, length, slice_get, false, IfOk, IsErrOf, IsSome, IsTrue};
+    ghost use Rattle.std.specs.Prelude.{◌≡◌, ◌++◌, Option, length, slice_get, false, IsErrOf, IsSome, IsTrue};
     ghost use Rattle.std.specs.Option.{option_map_or};
     ghost use Rattle.mv_edges.specs.Edges.{edges_leq};
     ghost use Rattle.mv_edges.specs.Sorted.{sorted};
@@ -205,7 +205,7 @@ impl<'t, 'm> Domain for BorrowDomain<'t, 'm> {
 
 /// Within a block edges aren't a list, but a graph of how references came about.
 impl<'t, 'm> Passage for BorrowDomain<'t, 'm> {
-    ghost use Rattle.std.specs.Prelude.{◌≡◌, IfOk, IsTrue};
+    ghost use Rattle.std.specs.Prelude.{◌≡◌, IsTrue};
     ghost use Rattle.mv_edges.specs.Ascending.{are_ascending};
 
     type Passing = Graph;

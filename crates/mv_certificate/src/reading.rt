@@ -17,7 +17,7 @@ use mv_cfg::Block;
 use mv_edges::{Edge, Edges, Label};
 use mv_locals_safety::Availabilities;
 use mv_module_text::Reader;
-use mv_move_types::limits::{MOST_EDGES, MOST_POSITIONS};
+use mv_move_types::limits::{MOST_EDGES, MOST_FIELDS, MOST_POSITIONS};
 use mv_move_types::{Availability, Node, Refusal};
 use mv_type_states::Typed;
 use std::alloc::Global;
@@ -26,7 +26,7 @@ use std::alloc::Global;
 const MALFORMED: Refusal = Refusal::Phase(2);
 
 // The greatest field position.
-const LAST_POSITION: u64 = 31;
+const LAST_POSITION: u64 = MOST_FIELDS - 1;
 
 /// Reads an availability.
 fn read_availability(reader: &mut Reader<'_>) -> Result<Availability, Refusal>

@@ -15,6 +15,7 @@ ghost use Rattle.mv_certificate.specs.Shape.{edge_fits};
 use mv_binary_format::{FunctionDefinition, Module};
 use mv_cfg::Cfg;
 use mv_edges::Edge;
+use mv_move_types::limits::{MOST_FIELDS, MOST_POSITIONS};
 use mv_move_types::{Node, Token};
 use mv_type_states::Typed;
 
@@ -145,7 +146,7 @@ fn may_lead_to(m: &Module<'_>, d: &FunctionDefinition, node: Node) -> bool
 fn are_small(path: &[u8]) -> bool
     ensures { result ≡ list_all (λ i. nat_lt i 32) path.now }
 {
-    path.iter().all(|position| *position < 32)
+    path.iter().all(|position| u64::from(*position) < MOST_FIELDS)
 }
 
 /// Whether an edge leads from where it may to where it may, and its list is short.
@@ -156,5 +157,5 @@ pub fn fits(m: &Module<'_>, d: &FunctionDefinition, e: &Edge) -> bool
         && may_lead_to(m, d, e.to())
         && !e.starts_at(e.to())
         && are_small(e.label().path())
-        && e.label().path().len() <= 8
+        && e.label().path().len() <= MOST_POSITIONS
 }

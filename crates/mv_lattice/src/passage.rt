@@ -1,5 +1,5 @@
 // How states go through the blocks of a function.
-ghost use Rattle.std.specs.Prelude.{◌≡◌, ℕ, ◌<◌, ◌↔◌, Option, IsTrue, IfOk, IsErrOf};
+ghost use Rattle.std.specs.Prelude.{◌≡◌, ◌<◌, ◌↔◌, Option, IsTrue, IfOk, IsErrOf};
 
 use crate::{Domain, StepError};
 use std::alloc::{AllocError, Global};

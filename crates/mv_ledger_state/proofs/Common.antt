@@ -181,7 +181,7 @@ pub use Rattle.mv_ledger_state.specs.SavedText.{leaves_of_fields, leaves_text, s
 pub use Rattle.mv_ledger_state.specs.Tallying.{AddsTallies, AreInOrder, ArePlacedFor, HasRoomFor, HasRoomLeft, IsRoomFor, fresh_tally, is_published, place_for, tallies_at, tally_after}
 pub use Rattle.mv_ledger_state.proofs.TallyWords.{AreWithin, IsNamed, with_placed}
 pub use Rattle.mv_ledger_state.specs.View.{ArePlaced, AreScarce, AreSized, IsLedger, IsSmall, IsTalliedStore, LedgerView, PublishedView, scarce_indices, state_of, view_of}
-pub use Rattle.mv_machine.specs.Tallies.{all_of, tallied}
+pub use Rattle.mv_machine.specs.Tallies.{all_of, lists_of, tallied}
 pub use Rattle.mv_ledger_state.specs.declared.saved.loading.LoadError.TheVariants.{Body, Head, Link, Link as NoLink, Module as BadModule, Module as NoModule}
 pub use Rattle.mv_ledger_state.specs.declared.payload.Offered.{Offered}
 pub use Rattle.mv_ledger_state.specs.declared.saved.saving.Section.{Section}

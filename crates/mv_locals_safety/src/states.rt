@@ -1,5 +1,5 @@
 // The availabilities of a function's locals.
-ghost use Rattle.std.specs.Prelude.{◌≡◌, ◌<◌, length, slice_get, slice_set, zip, false, IfOk, OnOk};
+ghost use Rattle.std.specs.Prelude.{◌≡◌, ◌<◌, length, slice_get, slice_set, zip, false, IfOk};
 ghost use Rattle.mv_move_types.specs.declared.borrow.Availability.TheVariants.{Available};
 ghost use Rattle.std.specs.List.{list_all};
 ghost use Rattle.std.specs.Option.{option_map_or};

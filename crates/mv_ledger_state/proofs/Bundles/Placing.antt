@@ -1,12 +1,11 @@
 -- The modules of a bundle are placed one after the other.
-use Rattle.mv_ledger_state.proofs.Common.{[], ◌++◌, ◌+◌, ◌<◌, ◌∙◌, ◌∷◌, ◌≡◌, ◌≤◌, Bool, Bor, List, None, Option, Some, ap, append_assoc, ap₂, arith, cond, drop, false, get_or, length, map, refl, subst}
+use Rattle.mv_ledger_state.proofs.Common.{[], ◌++◌, ◌+◌, ◌<◌, ◌∙◌, ◌∷◌, ◌≡◌, ◌≤◌, Bool, Bor, List, None, Option, Some, ap, append_assoc, ap₂, arith, cond, drop, false, get_or, length, map, refl, subst, lists_of}
 use Rattle.mv_ledger_state.proofs.Common.{suc, sym, take, true, zero, zero-add, ℕ, nat_tests, length-map, map-append, map-set, map_more, All, is_none, is_some, nat_lt, not, option_and_then, slice_get}
 use Rattle.mv_ledger_state.proofs.Common.{slice_set, unwrap_or, Global, Vec, Module, own_name, module_place, PublishedModule, tables_in, published_of, published_one, with_at, New, ArePlacedFor}
 use Rattle.mv_ledger_state.proofs.Common.{AreWithin, fresh_tally, is_published, place_for, tallies_at, with_placed, ArePlaced, scarce_indices, Placed, Tally}
 use Rattle.mv_linker.proofs.Kept.WithAt.{set-with_at, push-with_at, length-with_at}
 use Rattle.mv_ledger_state.proofs.Bundles.Places.{place-found, is_there, spot, spot-below}
 use Rattle.mv_ledger_state.proofs.Bundles.Places.{had}
-use Rattle.mv_ledger_state.proofs.Loads.BodyTallies.{lists}
 
 -- the next place after these
 abbrev pub next_after : List Module → ℕ → List Module → ℕ
@@ -35,12 +34,12 @@ none-so o b e = grind arith
 -- ---- lists of tallies by place
 
 -- those of a place that is there are set, and those of any other come last
-pub set-there : (vs : List (Vec Tally Global)) (place : ℕ) (w : Vec Tally Global) → place < length vs → lists (slice_set vs place w) ≡ with_at place w.items (lists vs)
-set-there vs place w lt = map-set (λ v. v.items) vs place w ∙ set-with_at (lists vs) place w.items (omega (arith, lt, length-map vs (λ (v : Vec Tally Global). v.items)))
+pub set-there : (vs : List (Vec Tally Global)) (place : ℕ) (w : Vec Tally Global) → place < length vs → lists_of (slice_set vs place w) ≡ with_at place w.items (lists_of vs)
+set-there vs place w lt = map-set (λ v. v.items) vs place w ∙ set-with_at (lists_of vs) place w.items (omega (arith, lt, length-map vs (λ (v : Vec Tally Global). v.items)))
 
-pub push-last : (vs us : List (Vec Tally Global)) (place : ℕ) (w : Vec Tally Global) → length vs ≤ place → us ≡ vs ++ w ∷ [] → lists us ≡ with_at place w.items (lists vs)
+pub push-last : (vs us : List (Vec Tally Global)) (place : ℕ) (w : Vec Tally Global) → length vs ≤ place → us ≡ vs ++ w ∷ [] → lists_of us ≡ with_at place w.items (lists_of vs)
 push-last vs us place w le is =
-    ap lists is ∙ map-append (λ (v : Vec Tally Global). v.items) vs (w ∷ []) ∙ push-with_at (lists vs) place w.items (omega (arith, le, length-map vs (λ (v : Vec Tally Global). v.items)))
+    ap lists_of is ∙ map-append (λ (v : Vec Tally Global). v.items) vs (w ∷ []) ∙ push-with_at (lists_of vs) place w.items (omega (arith, le, length-map vs (λ (v : Vec Tally Global). v.items)))
 
 length-put : (place : ℕ) (ts : List Tally) (tss : List (List Tally)) → place ≤ length tss → cond (nat_lt place (length tss)) (length tss) (length tss + 1) ≡ length (with_at place ts tss)
 length-put place ts tss le = grind (arith, nat_tests, length-with_at tss place ts le)

@@ -1,5 +1,5 @@
 -- Reading the tallies of all modules: how far it has come, and what stays.
-use Rattle.mv_ledger_state.proofs.Common.{[], ◌++◌, ◌+◌, ◌<◌, ◌∙◌, ◌∷◌, ◌≡◌, ◌≤◌, List, None, Some, ap, append-nil, append_assoc, arith, drop, get_or, length, length-append, map, option_map, refl, subst}
+use Rattle.mv_ledger_state.proofs.Common.{[], ◌++◌, ◌+◌, ◌<◌, ◌∙◌, ◌∷◌, ◌≡◌, ◌≤◌, List, None, Some, ap, append-nil, append_assoc, arith, drop, get_or, length, length-append, map, option_map, refl, subst, lists_of}
 use Rattle.mv_ledger_state.proofs.Common.{suc, sym, take, zero, zero-add, ℕ, map-set_same, drop-set-lt, drop_all, drop_more, get_or-map, length-map, map-append, map-set, take_all, take_more_set}
 use Rattle.mv_ledger_state.proofs.Common.{with_items_is, All-cons, All-head, All-nil, All-tail, All, slice_set, with_items, Global, Vec, ◌>>=◌, Definition, after, Read, entries_from, counts_of}
 use Rattle.mv_ledger_state.proofs.Common.{struct_of, ArePlaced, all_of, Tally}
@@ -98,10 +98,6 @@ TalliesOn-end each n i start tss cur le g =
 
 -- ---- what stays
 
--- the lists of vectors
-abbrev pub lists : List (Vec Tally Global) → List (List Tally)
-lists vs = map (λ v. v.items) vs
-
 -- which struct each tally is of
 abbrev pub structs_in : List (List Tally) → List (List Definition)
 structs_in tss = map (map struct_of) tss
@@ -137,34 +133,34 @@ placed-kept place _ _ e placed = absurd cc
 -- a vector with the tallies that were read
 module _ (vs : List (Vec Tally Global)) (i : ℕ) (v : Vec Tally Global) (before ts : List Tally) (short : i < length vs) (value : before ≡ (get_or vs i v).items)
     (len : length before ≡ (get_or vs i v).len) (kept : map struct_of ts ≡ map struct_of before) where
-  pub lists-set : lists (slice_set vs i (with_items (get_or vs i v) ts)) ≡ slice_set (lists vs) i ts
-  lists-set = map-set (λ v. v.items) vs i (with_items (get_or vs i v) ts) ∙ ap (λ z. slice_set (lists vs) i z) (with_items_is (get_or vs i v) ts (kept-length ts before kept ∙ len))
+  pub lists-set : lists_of (slice_set vs i (with_items (get_or vs i v) ts)) ≡ slice_set (lists_of vs) i ts
+  lists-set = map-set (λ v. v.items) vs i (with_items (get_or vs i v) ts) ∙ ap (λ z. slice_set (lists_of vs) i z) (with_items_is (get_or vs i v) ts (kept-length ts before kept ∙ len))
 
-  here-is : get_or (lists vs) i [] ≡ before
+  here-is : get_or (lists_of vs) i [] ≡ before
   here-is = get_or-map (λ v. v.items) vs i v [] short ∙ sym value
 
-  pub short-lists : i < length (lists vs)
+  pub short-lists : i < length (lists_of vs)
   short-lists = omega (arith, length-map vs (λ v. v.items))
 
-  pub structs-set : (start : List (List Tally)) → structs_in (lists vs) ≡ structs_in start → structs_in (lists (slice_set vs i (with_items (get_or vs i v) ts))) ≡ structs_in start
-  structs-set start e = ap structs_in lists-set ∙ kept-set (lists vs) start i ts [] (kept ∙ ap (map struct_of) (sym here-is)) e
+  pub structs-set : (start : List (List Tally)) → structs_in (lists_of vs) ≡ structs_in start → structs_in (lists_of (slice_set vs i (with_items (get_or vs i v) ts))) ≡ structs_in start
+  structs-set start e = ap structs_in lists-set ∙ kept-set (lists_of vs) start i ts [] (kept ∙ ap (map struct_of) (sym here-is)) e
 
-  pub reads-next : (each : List ℕ → Read (ℕ × ℕ)) (n : ℕ) (start cur next : List ℕ) → entries_from each (length before) cur ≡ Some (map counts_of ts, next) → TalliesOn each n i start (lists vs) cur
-      → TalliesOn each n (i + 1) start (lists (slice_set vs i (with_items (get_or vs i v) ts))) next
+  pub reads-next : (each : List ℕ → Read (ℕ × ℕ)) (n : ℕ) (start cur next : List ℕ) → entries_from each (length before) cur ≡ Some (map counts_of ts, next) → TalliesOn each n i start (lists_of vs) cur
+      → TalliesOn each n (i + 1) start (lists_of (slice_set vs i (with_items (get_or vs i v) ts))) next
   reads-next each n start cur next e g =
       subst (λ z. TalliesOn each n (i + 1) start z next) (sym lists-set)
-      (TalliesOn-next each n i start (lists vs) cur next [] ts short-lists (ap (λ z. entries_from each (length z) cur) here-is ∙ e) g)
+      (TalliesOn-next each n i start (lists_of vs) cur next [] ts short-lists (ap (λ z. entries_from each (length z) cur) here-is ∙ e) g)
 
-  pub reads-stop : (each : List ℕ → Read (ℕ × ℕ)) (n : ℕ) (start cur : List ℕ) → entries_from each (length before) cur ≡ None → TalliesOn each n i start (lists vs) cur
+  pub reads-stop : (each : List ℕ → Read (ℕ × ℕ)) (n : ℕ) (start cur : List ℕ) → entries_from each (length before) cur ≡ None → TalliesOn each n i start (lists_of vs) cur
       → entries_from each n start ≡ None
-  reads-stop each n start cur e g = TalliesOn-stops each n i start (lists vs) cur [] short-lists (ap (λ z. entries_from each (length z) cur) here-is ∙ e) g
+  reads-stop each n start cur e g = TalliesOn-stops each n i start (lists_of vs) cur [] short-lists (ap (λ z. entries_from each (length z) cur) here-is ∙ e) g
 
 -- whatever counts were read, they stand with their modules
-pub whole-placed : (own : Vec (Vec Tally Global) Global) (vs : List (Vec Tally Global)) (start : List (List Tally)) → length vs ≡ own.len → structs_in (lists vs) ≡ structs_in start → ArePlaced 0 start
-    → ArePlaced 0 (lists (with_items own vs).items)
-whole-placed own vs start len kept placed = subst (λ (xs : List (Vec Tally Global)). ArePlaced 0 (lists xs)) (sym (with_items_is own vs len)) (placed-kept 0 (lists vs) start kept placed)
+pub whole-placed : (own : Vec (Vec Tally Global) Global) (vs : List (Vec Tally Global)) (start : List (List Tally)) → length vs ≡ own.len → structs_in (lists_of vs) ≡ structs_in start → ArePlaced 0 start
+    → ArePlaced 0 (lists_of (with_items own vs).items)
+whole-placed own vs start len kept placed = subst (λ (xs : List (Vec Tally Global)). ArePlaced 0 (lists_of xs)) (sym (with_items_is own vs len)) (placed-kept 0 (lists_of vs) start kept placed)
 
 -- and are of the structs that they were
-pub whole-kept : (own : Vec (Vec Tally Global) Global) (vs : List (Vec Tally Global)) (start : List (List Tally)) → length vs ≡ own.len → structs_in (lists vs) ≡ structs_in start
-    → structs_in (lists (with_items own vs).items) ≡ structs_in start
-whole-kept own vs start len kept = ap (λ xs. structs_in (lists xs)) (with_items_is own vs len) ∙ kept
+pub whole-kept : (own : Vec (Vec Tally Global) Global) (vs : List (Vec Tally Global)) (start : List (List Tally)) → length vs ≡ own.len → structs_in (lists_of vs) ≡ structs_in start
+    → structs_in (lists_of (with_items own vs).items) ≡ structs_in start
+whole-kept own vs start len kept = ap (λ xs. structs_in (lists_of xs)) (with_items_is own vs len) ∙ kept

@@ -1,12 +1,11 @@
 -- A run's tally as it is added, entry by entry, each to the tallies of its module alone.
-use Rattle.mv_ledger_state.proofs.Common.{[], ◌++◌, ◌+◌, ◌-◌, ◌<◌, ◌^◌, ◌∙◌, ◌∷◌, ◌≡◌, ◌≤◌, List, ap, ap₂, arith, cond, false, get_or, length, map, refl, subst, suc, sym, take, true, zero, zero-add, ℕ}
+use Rattle.mv_ledger_state.proofs.Common.{[], ◌++◌, ◌+◌, ◌-◌, ◌<◌, ◌^◌, ◌∙◌, ◌∷◌, ◌≡◌, ◌≤◌, List, ap, ap₂, arith, cond, false, get_or, length, map, refl, subst, suc, sym, take, true, zero, zero-add, ℕ, lists_of}
 use Rattle.mv_ledger_state.proofs.Common.{eqb-true, get_or-map, length-map, map-append, map-set, with_items_is, All-head, All-map, All-tail, All-weaker, sum_by-cons, sum_by_more}
 use Rattle.mv_ledger_state.proofs.Common.{sum_by_more_le_part, sum_by, IsStrictlyIncreasing, All, slice_set, with_items, Global, Vec, is_tally_at, StructTally, AtMost, AreInOrder, HasRoomFor}
 use Rattle.mv_ledger_state.proofs.Common.{HasRoomLeft, IsRoomFor, tally_after, ArePlaced, all_of, Tally}
 use Rattle.mv_ledger_state.proofs.Runs.TalliesAfter.{map-then}
 use Rattle.mv_ledger_state.proofs.Runs.TalliesFound.{tally-other, with_counts}
 use Rattle.mv_bounds.proofs.Entries.{All-first, All-second}
-use Rattle.mv_ledger_state.proofs.Loads.BodyTallies.{lists}
 
 -- ---- an entry has room
 
@@ -124,45 +123,45 @@ written e v before after after_is before_is len =
     with_items_is v after (ap length after_is ∙ length-map before (tally_after (e ∷ [])) ∙ len) ∙ after_is ∙ ap (map (tally_after (e ∷ []))) before_is
 
 module _ (run : List StructTally) (i : ℕ) (d e : StructTally) (old : List (List Tally)) (vs : List (Vec Tally Global)) (h : i < length run) (e_is : e ≡ get_or run i d) (placed : ArePlaced 0 old)
-    (is : lists vs ≡ map (map (tally_after (take i run))) old) where
-  placed-so : ArePlaced 0 (lists vs)
+    (is : lists_of vs ≡ map (map (tally_after (take i run))) old) where
+  placed-so : ArePlaced 0 (lists_of vs)
   placed-so = subst (λ (tss : List (List Tally)). ArePlaced 0 tss) (sym is) (placed-after (take i run) 0 old placed)
 
-  next-is : map (map (tally_after (e ∷ []))) (lists vs) ≡ map (map (tally_after (take (i + 1) run))) old
+  next-is : map (map (tally_after (e ∷ []))) (lists_of vs) ≡ map (map (tally_after (take (i + 1) run))) old
   next-is = ap₂ (λ (u : StructTally) (tss : List (List Tally)). map (map (tally_after (u ∷ []))) tss) e_is is ∙ after-more run i d old h
 
   -- an entry of a place after all modules changes nothing
-  pub step-after : length vs ≤ e.place → lists vs ≡ map (map (tally_after (take (i + 1) run))) old
+  pub step-after : length vs ≤ e.place → lists_of vs ≡ map (map (tally_after (take (i + 1) run))) old
   step-after far =
-      let following : 0 + length (lists vs) ≤ e.place = omega (arith, far, length-map vs (λ v. v.items)) in
-      sym (entry-after e 0 (lists vs) placed-so following) ∙ next-is
+      let following : 0 + length (lists_of vs) ≤ e.place = omega (arith, far, length-map vs (λ v. v.items)) in
+      sym (entry-after e 0 (lists_of vs) placed-so following) ∙ next-is
 
   -- any other changes the tallies of its module
   pub step-at : (v w : Vec Tally Global) → e.place < length vs → v ≡ get_or vs e.place v → w.items ≡ map (tally_after (e ∷ [])) v.items
-      → lists (slice_set vs e.place w) ≡ map (map (tally_after (take (i + 1) run))) old
+      → lists_of (slice_set vs e.place w) ≡ map (map (tally_after (take (i + 1) run))) old
   step-at v w near v_is w_is =
-      let short : e.place < length (lists vs) = omega (arith, near, length-map vs (λ v. v.items)) in
-      let here : v.items ≡ get_or (lists vs) e.place [] = ap (λ v. v.items) v_is ∙ sym (get_or-map (λ v. v.items) vs e.place v [] near) in
+      let short : e.place < length (lists_of vs) = omega (arith, near, length-map vs (λ v. v.items)) in
+      let here : v.items ≡ get_or (lists_of vs) e.place [] = ap (λ v. v.items) v_is ∙ sym (get_or-map (λ v. v.items) vs e.place v [] near) in
       map-set (λ v. v.items) vs e.place w
-      ∙ ap (λ ts. slice_set (lists vs) e.place ts) (w_is ∙ ap (map (tally_after (e ∷ []))) here)
-      ∙ sym (entry-at e 0 e.place (lists vs) [] placed-so short (omega arith))
+      ∙ ap (λ ts. slice_set (lists_of vs) e.place ts) (w_is ∙ ap (map (tally_after (e ∷ []))) here)
+      ∙ sym (entry-at e 0 e.place (lists_of vs) [] placed-so short (omega arith))
       ∙ next-is
 
   -- which are of its place
-  here-is : (v : Vec Tally Global) → e.place < length vs → v ≡ get_or vs e.place v → v.items ≡ get_or (lists vs) e.place []
+  here-is : (v : Vec Tally Global) → e.place < length vs → v ≡ get_or vs e.place v → v.items ≡ get_or (lists_of vs) e.place []
   here-is v near v_is = ap (λ v. v.items) v_is ∙ sym (get_or-map (λ v. v.items) vs e.place v [] near)
 
-  short-is : e.place < length vs → e.place < length (lists vs)
+  short-is : e.place < length vs → e.place < length (lists_of vs)
   short-is near = omega (arith, near, length-map vs (λ v. v.items))
 
   pub placed-at : (v : Vec Tally Global) → e.place < length vs → v ≡ get_or vs e.place v → All (λ t. t.place ≡ e.place) v.items
   placed-at v near v_is = subst (λ (ts : List Tally). All (λ t. t.place ≡ e.place) ts) (sym (here-is v near v_is))
-      (subst (λ (p : ℕ). All (λ t. t.place ≡ p) (get_or (lists vs) e.place [])) (zero-add e.place) (placed-there 0 (lists vs) e.place [] placed-so (short-is near)))
+      (subst (λ (p : ℕ). All (λ t. t.place ≡ p) (get_or (lists_of vs) e.place [])) (zero-add e.place) (placed-there 0 (lists_of vs) e.place [] placed-so (short-is near)))
 
   -- stand by ascending index
   pub ordered-at : All AreInOrder old → (v : Vec Tally Global) → e.place < length vs → v ≡ get_or vs e.place v → AreInOrder v.items
   ordered-at ordered v near v_is =
-      let all : All AreInOrder (lists vs) = subst (λ (tss : List (List Tally)). All AreInOrder tss) (sym is)
+      let all : All AreInOrder (lists_of vs) = subst (λ (tss : List (List Tally)). All AreInOrder tss) (sym is)
       (All-map AreInOrder (map (tally_after (take i run))) old (All-weaker AreInOrder (λ ts. AreInOrder (map (tally_after (take i run)) ts)) one old ordered)) in
       subst AreInOrder (sym (here-is v near v_is)) (all e.place [] (short-is near))
     where
@@ -175,5 +174,5 @@ module _ (run : List StructTally) (i : ℕ) (d e : StructTally) (old : List (Lis
       let each : All (IsRoomFor e) (map (tally_after (take i run)) (all_of old)) =
       All-map (IsRoomFor e) (tally_after (take i run)) (all_of old)
       (All-weaker HasRoomLeft (λ t. IsRoomFor e (tally_after (take i run) t)) (λ t left own. entry-fits run i d e t h e_is few left own) (all_of old) room) in
-      let whole : All (IsRoomFor e) (all_of (lists vs)) = subst (λ (ts : List Tally). All (IsRoomFor e) ts) (sym (ap all_of is ∙ all-map (tally_after (take i run)) old)) each in
-      subst (λ (ts : List Tally). All (IsRoomFor e) ts) (sym (here-is v near v_is)) (all-at (IsRoomFor e) (lists vs) e.place [] whole (short-is near))
+      let whole : All (IsRoomFor e) (all_of (lists_of vs)) = subst (λ (ts : List Tally). All (IsRoomFor e) ts) (sym (ap all_of is ∙ all-map (tally_after (take i run)) old)) each in
+      subst (λ (ts : List Tally). All (IsRoomFor e) ts) (sym (here-is v near v_is)) (all-at (IsRoomFor e) (lists_of vs) e.place [] whole (short-is near))

@@ -5,6 +5,7 @@ ghost use Rattle.mv_ledger_state.specs.Parts.BodyParts.{form_of, counts_of, stru
 ghost use Rattle.mv_ledger_state.specs.Parts.LoadedParts.{body_from, IsNoBody};
 ghost use Rattle.mv_machine.specs.Tallies.{all_of};
 
+use crate::payload::MALFORMED;
 use crate::saved::layouts::Layouts;
 use crate::saved::loading::head::SavedForm;
 use crate::saved::loading::values::read_storage;
@@ -14,9 +15,6 @@ use mv_module_text::Reader;
 use mv_move_types::Refusal;
 use mv_storage::Storage;
 use std::alloc::Global;
-
-// What the reader refuses malformed bytes with. So does the function here.
-const MALFORMED: Refusal = Refusal::Phase(2);
 
 /// Reads the counts of the tallies in place of those that they have, and the stored values, after which no byte is left.
 ///

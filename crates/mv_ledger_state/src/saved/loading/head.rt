@@ -4,14 +4,11 @@ ghost use Rattle.mv_module_text.specs.Reads.{ReadsAs, Marks};
 ghost use Rattle.mv_ledger_state.specs.Parts.BodyParts.{form_of};
 ghost use Rattle.mv_ledger_state.specs.Parts.LoadedParts.{form_from, head_from, head_of, marks_from};
 
-use crate::payload::{Offered, offers};
+use crate::payload::{MALFORMED, Offered, offers};
 use mv_module_text::Reader;
 use mv_move_types::Refusal;
 use mv_move_types::limits::{MOST_MODULES, MOST_RUNS};
 use std::alloc::Global;
-
-// What the reader refuses malformed bytes with. So do the functions here.
-const MALFORMED: Refusal = Refusal::Phase(2);
 
 /// The form of a saved ledger's text.
 #[derive(Clone, Copy)]

@@ -3,7 +3,7 @@ ghost use Rattle.std.specs.Prelude.{◌≡◌, ◌⊎◌, [], None, Some, Err, I
 ghost use Rattle.mv_storage.specs.FlatStorage.{words_under, with_words};
 ghost use Rattle.mv_ledger_state.specs.Parts.BodyParts.{form_of, leaves_from, struct_from, entry_from, is_after, group_into, groups_into, storage_into};
 
-use crate::payload::leaf;
+use crate::payload::{MALFORMED, leaf};
 use crate::saved::layouts::Layouts;
 use crate::saved::loading::head::SavedForm;
 use mv_module_text::Reader;
@@ -13,9 +13,6 @@ use std::alloc::{AllocError, Global};
 
 // After how many values those that were put are kept, so that the room for what is noted of each stays small.
 const KEPT_AFTER: u64 = 4096;
-
-// What the reader refuses malformed bytes with. So do the functions here.
-const MALFORMED: Refusal = Refusal::Phase(2);
 
 /// A value that is to be stored, with its key.
 #[derive(Drop)]

@@ -1,8 +1,7 @@
-use Rattle.mv_ledger_state.proofs.Common.{◌∙◌, ◌≡◌, ◌≤◌, List, ap, ap₂, arith, inr, length, refl, subst, sym, length-map, err_from_is_err_and, PublishedModule, with_modules, IsStore, tables_in, published_of, published_one}
+use Rattle.mv_ledger_state.proofs.Common.{◌∙◌, ◌≡◌, ◌≤◌, List, ap, ap₂, arith, inr, length, refl, subst, sym, length-map, err_from_is_err_and, PublishedModule, with_modules, IsStore, tables_in, published_of, published_one, lists_of}
 use Rattle.mv_ledger_state.proofs.Common.{New, Phase, AddsTallies, ArePlacedFor, AreWithin, IsKeptOut, MayFollow, with_placed, ArePlaced, PublishedView, all_of, Placed, Tally}
 use Rattle.mv_ledger_state.proofs.Bundles.Joining.{IsPlacedBundle, joined-within, placed-length, room-for, no-room-for, after-held, after-tallied, unlinked}
 use Rattle.mv_ledger_state.proofs.Bundles.Placing.{joining-room, joining-next, joining-done}
-use Rattle.mv_ledger_state.proofs.Loads.BodyTallies.{lists}
 use Rattle.mv_ledger_state.proofs.TalliedStores.{tallied-long}
 use Rattle.mv_ledger_state.proofs.published.Published.join.Goals as goal
 use Rattle.mv_ledger_state.proofs.published.Published.join.Goals.{In_ok-linked, In-None}
@@ -32,13 +31,13 @@ pub loop-one-init : goal.loop-one-init
 loop-one-init c =
     let made = c.in_ok-reserve.ensures in
     let gives = c.into_iter-one-iterator.ensures.into_iter_gives in
-    let here : lists c.reserve.new.self.items ≡ c.self.inside.tallies = ap lists made.items ∙ c.tallies.view_is in
+    let here : lists_of c.reserve.new.self.items ≡ c.self.inside.tallies = ap lists_of made.items ∙ c.tallies.view_is in
     record {
       whole_is = refl;
       within =
-          subst (λ (ps : List Placed). AreWithin (length (lists c.reserve.new.self.items)) ps) (sym gives.0)
+          subst (λ (ps : List Placed). AreWithin (length (lists_of c.reserve.new.self.items)) ps) (sym gives.0)
           (subst (λ (tss : List (List Tally)). AreWithin (length tss) c.in_ok-placed.placed.items) (sym here) (joined-within _ _ _ _ _ (bundle-of (goal.at.loop-one-init c).In_ok-linked)));
-      placed = subst (λ (tss : List (List Tally)). ArePlaced 0 tss) (sym (ap lists made.items)) c.tallies.invariant;
+      placed = subst (λ (tss : List (List Tally)). ArePlaced 0 tss) (sym (ap lists_of made.items)) c.tallies.invariant;
       fits = omega (arith, ap length gives.0, c.len-2.ensures, made.ok, made.len);
     }
 
@@ -46,16 +45,16 @@ pub put-requires : goal.put-requires
 put-requires c = joining-room _ _ _ _ _ _ _ c.loop-one.invariant c.in-Some.ensures.steps.0
 
 pub loop-one-preserved : goal.loop-one-preserved
-loop-one-preserved c = joining-next _ _ _ _ _ _ _ _ _ _ c.loop-one.invariant c.in-Some.ensures.steps.0 c.put.ensures.lists c.put.ensures.len c.put.ensures.capacity
+loop-one-preserved c = joining-next _ _ _ _ _ _ _ _ _ _ c.loop-one.invariant c.in-Some.ensures.steps.0 c.put.ensures.lists_of c.put.ensures.len c.put.ensures.capacity
 
 -- what the store and the tallies are then
 store-of : (c : In-None) → c.add.new.s ≡ with_modules c.self.inside.store (published_of c.args.news.items)
 store-of c = c.in_ok-add.ensures.ok ∙ ap (with_modules c.self.inside.store) c.in_ok-linked.ensures.ok
 
-lists-of : (c : In-None) → lists c.loop-one.tallies-inside.modules.items ≡ with_placed c.self.inside.tallies c.in_ok-placed.placed.items
+lists-of : (c : In-None) → lists_of c.loop-one.tallies-inside.modules.items ≡ with_placed c.self.inside.tallies c.in_ok-placed.placed.items
 lists-of c =
     joining-done _ _ _ _ _ c.loop-one.invariant (sym c.loop-one.one-iterator.rest.ok.0 ∙ c.in-None.ensures.steps.0)
-    ∙ ap₂ with_placed (ap lists c.in_ok-reserve.ensures.items ∙ c.tallies.view_is) c.into_iter-one-iterator.ensures.into_iter_gives.0
+    ∙ ap₂ with_placed (ap lists_of c.in_ok-reserve.ensures.items ∙ c.tallies.view_is) c.into_iter-one-iterator.ensures.into_iter_gives.0
 
 room-of : (c : In-None) → IsPlacedBundle c.self.inside.store (published_of c.args.news.items) c.self.inside.tallies c.in_ok-placed.placed.items c.args.sender
     → length (with_modules c.self.inside.store (published_of c.args.news.items)) ≤ 4096
@@ -80,7 +79,7 @@ returns-clause-modules c = store-of (goal.at.returns-clause-modules c).In-None �
 pub returns-clause-tallied : goal.returns-clause-tallied
 returns-clause-tallied c =
     let here = (goal.at.returns-clause-tallied c).In-None in
-    subst (λ (p : PublishedView). AddsTallies p.modules c.add.new.s (all_of p.tallies) (all_of (lists c.loop-one.tallies-inside.modules.items))) c.self.view_is
+    subst (λ (p : PublishedView). AddsTallies p.modules c.add.new.s (all_of p.tallies) (all_of (lists_of c.loop-one.tallies-inside.modules.items))) c.self.view_is
     (after-tallied _ _ _ _ _ (bundle-of (goal.at.returns-clause-tallied c).In_ok-linked) _ _ (store-of here) (lists-of here))
 
 pub returns-clause-held : goal.returns-clause-held

@@ -1,15 +1,15 @@
-use Rattle.mv_ledger_state.proofs.Common.{◌∙◌, ◌≡◌, List, ap, arith, length, subst, sym, length-set, form_of, tally_from, ArePlaced, all_of, Tally}
+use Rattle.mv_ledger_state.proofs.Common.{◌∙◌, ◌≡◌, List, ap, arith, length, subst, sym, length-set, form_of, tally_from, ArePlaced, all_of, Tally, lists_of}
 use Rattle.mv_ledger_state.proofs.Loads.BodyReading.{OnErr-any}
-use Rattle.mv_ledger_state.proofs.Loads.BodyTallies.{TalliesOn, TalliesOn-start, lists, structs_in, whole-placed, whole-kept, structs-set, reads-next, reads-stop}
+use Rattle.mv_ledger_state.proofs.Loads.BodyTallies.{TalliesOn, TalliesOn-start, structs_in, whole-placed, whole-kept, structs-set, reads-next, reads-stop}
 use Rattle.mv_ledger_state.proofs.tallies.Tallies.read.Goals as goal
 
 pub each-init : goal.each-init
 each-init c =
-    let own : c.args.self.now ≡ lists c.deref_mut-tallies-items.result.now = sym (ap lists c.deref_mut-tallies-items.ensures.value ∙ c.self.view_is) in
+    let own : c.args.self.now ≡ lists_of c.deref_mut-tallies-items.result.now = sym (ap lists_of c.deref_mut-tallies-items.ensures.value ∙ c.self.view_is) in
     record {
-      reads = subst (λ (tss : List (List Tally)). TalliesOn (tally_from (form_of c.args.form)) (length (all_of tss)) 0 c.args.reader.now (lists c.deref_mut-tallies-items.result.now) c.args.reader.now)
+      reads = subst (λ (tss : List (List Tally)). TalliesOn (tally_from (form_of c.args.form)) (length (all_of tss)) 0 c.args.reader.now (lists_of c.deref_mut-tallies-items.result.now) c.args.reader.now)
           (sym own)
-          (TalliesOn-start (tally_from (form_of c.args.form)) c.args.reader.now (lists c.deref_mut-tallies-items.result.now));
+          (TalliesOn-start (tally_from (form_of c.args.form)) c.args.reader.now (lists_of c.deref_mut-tallies-items.result.now));
       kept = ap structs_in (sym own);
     }
 
