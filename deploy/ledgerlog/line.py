@@ -2,6 +2,7 @@
 
 import os
 import re
+import subprocess
 import sys
 from typing import Callable, Dict, List, NoReturn, Optional, TypeVar
 
@@ -17,13 +18,12 @@ from .log import Log  # noqa: E402
 # What this module has of the tools for those that import it, beside what it uses.
 __all__ = ["DONE", "REFUSED", "Argument", "WordsError", "read_input", "understood_or_exit"]
 
-BUILT = os.path.join(TOP, "crates", "moveledger_program", "out", "moveledger_program")
 # Beside the program's and the tools' own: a replica stops until a person has looked.
 LOOK = 4
 LOG = Option("--log", "ADDRESSES", "The log's nodes, as HOST:PORT,..; those that deploy/node starts if it isn't given")
 LEDGER = Option("--ledger", "NAME", "The ledger, of several in one log: letters, digits and -; `moveledger` if it isn't given")
-MOVELEDGER = Option("--moveledger", "PROGRAM", "The program; MOVELEDGER of the environment, or what this repository has "
-                    "built, if it isn't given")
+MOVELEDGER = Option("--moveledger", "PROGRAM", "The program; MOVELEDGER of the environment, or this repository's own, "
+                    "if it isn't given")
 CA = Option("--ca", "AUTHORITY", "A file with the authority's certificate that vouches for the nodes: TLS is spoken with them")
 CERTIFICATE = Option("--certificate", "CERTIFICATE", "A file with this side's own certificate")
 KEY = Option("--key", "KEY", "A file with that certificate's key")
@@ -115,10 +115,20 @@ def log_of(line: CommandLine, given: Given, patience: float) -> Log:
     return Log(etcd, value_of(line, given, LEDGER, "moveledger", name))
 
 
+def own_program() -> Optional[str]:
+    """The program of this repository's sources: the one that was built here, otherwise that of `dist/`. None is built."""
+    words = [os.path.join(TOP, "scripts", "program"), "--here"]
+    try:
+        return subprocess.run(words, stdout=subprocess.PIPE, encoding="utf-8").stdout.strip() or None
+    except OSError:
+        return None
+
+
 def program_of(line: CommandLine, given: Given) -> str:
     """The program that is to answer. Ends where there is none: nothing is built here."""
-    found = given[MOVELEDGER.value] or os.environ.get("MOVELEDGER") or BUILT
-    if not os.access(found, os.X_OK):
-        sys.stderr.write(f"{line.name}: there is no program {found}: build it (./moveledger does), or name one by --moveledger\n")
+    found = given[MOVELEDGER.value] or os.environ.get("MOVELEDGER") or own_program()
+    if not found or not os.access(found, os.X_OK):
+        there_is = f"there is no program {found}" if found else "this repository has no program of its sources"
+        sys.stderr.write(f"{line.name}: {there_is}: build it (./moveledger does), or name one by --moveledger\n")
         sys.exit(FAULT)
     return found

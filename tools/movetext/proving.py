@@ -11,9 +11,6 @@ from .model import known
 from .source_names import ModuleNames
 from .writer import write_certificate
 
-TOP = os.path.dirname(os.path.dirname(os.path.dirname(os.path.realpath(__file__))))
-BUILT = os.path.join(TOP, "crates/moveledger_program/out/moveledger_program")
-
 
 class NotProved(Exception):
     """Why a module has no certificate. The failure has the place and the rule; there is none where the program and the rules
