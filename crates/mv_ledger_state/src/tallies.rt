@@ -109,7 +109,7 @@ impl Model for Tallies {
 
 impl Tallies {
     /// The tallies of no module.
-    pub fn new(alloc: Global) -> Self
+    pub(crate) fn new(alloc: Global) -> Self
         ensures { result ≡ [] }
     {
         Tallies {
@@ -118,7 +118,7 @@ impl Tallies {
     }
 
     /// How many modules there are.
-    pub fn len(&self) -> usize
+    pub(crate) fn len(&self) -> usize
         ensures count { result ≡ length self.now }
         ensures placed { ArePlaced 0 self.now }
     {
@@ -133,7 +133,7 @@ impl Tallies {
     }
 
     /// The tallies of the module at a place; none, if no module is there.
-    pub fn at(&self, place: usize) -> &[Tally]
+    pub(crate) fn at(&self, place: usize) -> &[Tally]
         ensures { result.now ≡ unwrap_or (slice_get self.now place) [] }
     {
         match self.modules.get(place) {
@@ -144,7 +144,7 @@ impl Tallies {
 
     /// The tallies of the module at a place, and after them empty ones for those of these structs, by their indices, that it
     /// doesn't have yet.
-    pub fn extended(
+    pub(crate) fn extended(
         &self,
         alloc: Global,
         place: usize,
@@ -162,7 +162,7 @@ impl Tallies {
     }
 
     /// Reads the counts of all tallies, module by module, in place of those that they have.
-    pub fn read(&mut self, reader: &mut Reader<'_>, form: SavedForm) -> Result<(), Refusal>
+    pub(crate) fn read(&mut self, reader: &mut Reader<'_>, form: SavedForm) -> Result<(), Refusal>
         ensures ok { OnOk result (entries_from (tally_from (form_of form)) (length (all_of self.old)) reader.old ≡ Some (map counts_of (all_of self.new), reader.new)) }
         ensures refused { OnErr result (entries_from (tally_from (form_of form)) (length (all_of self.old)) reader.old ≡ None) }
         ensures errors { IfErr result (λ e. e ≡ Refusal.Phase 2) }
@@ -175,7 +175,7 @@ impl Tallies {
     }
 
     /// Adds what a run did to each tally.
-    pub fn add_run(&mut self, run: &[StructTally])
+    pub(crate) fn add_run(&mut self, run: &[StructTally])
         requires room { All HasRoomLeft (all_of self.old) }
         requires ordered { All AreInOrder self.old }
         requires few { AtMost (2 ^ 64 - 1) run.now }

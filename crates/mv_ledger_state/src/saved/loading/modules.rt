@@ -40,7 +40,7 @@ impl Published {
     ///
     /// `Module`, where one of them fails one of phases 2 to 12; else `Link`, where they are not linked; `Memory`, where a growth
     /// was refused.
-    pub fn of_offers(alloc: Global, offers: &[Offered<'_>]) -> Result<Self, LoadError>
+    pub(crate) fn of_offers(alloc: Global, offers: &[Offered<'_>]) -> Result<Self, LoadError>
         requires { length offers.now ≤ most_modules }
         ensures passed { IfOk result (λ p. AllPass (offers_of offers.now) p.modules) }
         ensures refused { IfErr result (AreNotJoined (offers_of offers.now)) }

@@ -212,7 +212,7 @@ impl Published {
     /// # Errors
     ///
     /// `Module`, where one of them fails one of phases 2 to 12; `Memory`, where a growth was refused.
-    pub fn of_offers_singly(
+    pub(crate) fn of_offers_singly(
         alloc: Global,
         offers: &[Offered<'_>],
     ) -> Result<Option<Self>, LoadError>
