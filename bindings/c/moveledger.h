@@ -19,7 +19,7 @@ enum moveledger_status {
     MOVELEDGER_DONE = 0,           /* the call did what it was asked for */
     MOVELEDGER_REFUSED = 1,        /* a module or certificate is refused: *why is the phase */
     MOVELEDGER_LOAD_REFUSED = 2,   /* bytes are no saved ledger: *why is the reason */
-    MOVELEDGER_TOO_COMPLEX = 3,    /* no certificate is looked for any longer */
+    MOVELEDGER_TOO_COMPLEX = 3,    /* the search for a certificate reached its limits */
     MOVELEDGER_MEMORY = 4,         /* an allocation failed */
     MOVELEDGER_ARGUMENTS = 5       /* a null pointer where none is allowed, a `moveledger` that holds no ledger, an unknown form,
                                       or a length above PTRDIFF_MAX; nothing was done */
@@ -62,7 +62,7 @@ int32_t moveledger_show(moveledger *ledger, uint32_t form, moveledger_bytes *lin
 int32_t moveledger_audit(moveledger *ledger, uint32_t form, moveledger_bytes *lines);
 
 /* Without a ledger. prove: the certificate's hexadecimal, as the command prints it, without a line end.
- * check: DONE where the module passes with the certificate of that text. migrate: a saved ledger in today's form. */
+ * check: DONE where the module passes with the certificate of that text. migrate: a saved ledger in the current form. */
 int32_t moveledger_prove(const uint8_t *module, size_t length, moveledger_bytes *certificate, uint8_t *why);
 int32_t moveledger_check(const uint8_t *module, size_t length, const uint8_t *certificate, size_t certificate_length, uint8_t *why);
 int32_t moveledger_migrate(const uint8_t *saved, size_t length, moveledger_bytes *migrated, uint8_t *why);

@@ -41,7 +41,7 @@ class LoadRefused(LedgerError):
 
 
 class TooComplex(LedgerError):
-    """No certificate of the module is looked for any longer."""
+    """The search for a certificate of the module reached its limits."""
 
     def __init__(self) -> None:
         super().__init__("the module is too complex for a certificate")

@@ -12,7 +12,7 @@ pub enum Error {
     Refused(u8),
     /// The bytes aren't a saved ledger's: this reason of 5 is the first against them (docs/FORMATS.md, "Saved ledger").
     LoadRefused(u8),
-    /// No certificate of the module is looked for any longer.
+    /// The search for a certificate of the module reached its limits.
     TooComplex,
     /// There was no memory for an answer. Nothing has changed, but for [`Ledger::apply_into`](crate::Ledger::apply_into).
     Memory,
