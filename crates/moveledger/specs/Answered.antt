@@ -1,7 +1,7 @@
 -- What answers a whole record.
 --   Writes n lines held holds                 a writer took these lines, each with the record's number; WritesPart: a prefix of them
 --   WritesWholeLines n lines held holds       whole lines, so many of the first of them
---   WritesReply, WritesReplyPart              the same of the lines of a reply, or of no reply; so is WritesReplyWholeLines
+--   WritesReply, WritesReplyPart              the same for the lines of a reply, or of no reply; likewise WritesReplyWholeLines
 --   IsAnswered n kind payload old new ..      the record was answered, and all its lines were written
 --   IsBegun n kind payload old new ..         the record was answered, and a prefix of its lines was written
 --   IsBegunByLines n kind payload old new ..  the same, and whole lines were; or the record asks for JSON

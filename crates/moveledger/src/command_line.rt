@@ -16,16 +16,16 @@ pub enum Task<'a> {
     Apply {
         /// The file.
         file: &'a str,
-        /// Where the ledger to begin with is kept; else it is an empty one.
+        /// The file of the ledger to begin with; None for an empty ledger.
         load: Option<&'a str>,
-        /// Where the ledger is to be kept in the end.
+        /// The file to keep the ledger in at the end.
         save: Option<&'a str>,
     },
     /// Print a certificate for the module of this file.
     Prove(&'a str),
-    /// Check the module of the first file with the certificate whose text the second one has.
+    /// Check the module of the first file with the text of a certificate in the second.
     Check(&'a str, &'a str),
-    /// Write the ledger that the first file keeps, in the form of today, to the second one.
+    /// Convert the ledger of the first file to the current form, and write it to the second.
     Migrate(&'a str, &'a str),
 }
 
@@ -223,6 +223,10 @@ pub fn not_text(alloc: Global) -> LineError
 }
 
 /// The task that a command line asks for.
+///
+/// # Errors
+///
+/// `Words` if the words aren't understood, or ask for help; `Memory` if an allocation failed.
 pub fn command<'a>(alloc: Global, words: &'a [&'a str]) -> Result<Task<'a>, LineError>
     ensures task { IfOk result (λ task. seen task ≡ task_in (subcommand_of moveledger (map (λ w. w.now) words.entry.now))) }
     // There is one only where the definition finds no fault in the words.

@@ -8,12 +8,12 @@ use crate::streaming::EngineError;
 use mv_ledger::{Ledger, Reply};
 use std::io::{Read, Write};
 
-/// Answers the records of an input as `engine` does, but numbers them on from so many that were answered before, and counts
-/// each as it is answered. A cut record at the end is the last one, as at the end of a stream.
+/// Answers the records of an input as `engine` does, but numbers the first one `answered + 1`, and counts each there as
+/// it is answered. A cut record at the end is the last one, as at the end of a stream.
 ///
 /// # Errors
 ///
-/// As with `engine`. The count is then that of the records whose lines were all written; the ledger may be as the next one left
+/// As `engine`. The count is then that of the records whose lines were all written; the ledger may be as the next record left
 /// it.
 pub fn answer_on<R: Read, W: Write>(
     reader: &mut R,

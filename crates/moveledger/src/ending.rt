@@ -33,8 +33,7 @@ pub enum End {
     TooComplex,
 }
 
-/// The end after the engine's. Where its report couldn't be written out to the last byte, that is a failed write, whatever
-/// the engine returned.
+/// How the program ends after the engine. If the report couldn't be flushed, the end is `Write`, whatever the engine returned.
 pub fn end_of(answered: Result<u64, EngineError>, is_flushed: bool) -> End
     ensures { result ≡ end_after answered is_flushed }
 {
@@ -129,8 +128,8 @@ fn say_fault<W: Write>(errors: &mut W, end: &End) -> Result<(), EngineError>
     }
 }
 
-/// Says on standard error which fault there was, and gives the status that the program ends with. Where standard error takes no
-/// line, the status tells it alone.
+/// Writes the line of a fault to standard error, and returns the exit status. If standard error takes no line, only the status
+/// shows the fault.
 pub fn ended<W: Write>(errors: &mut W, end: &End) -> u8
     ensures { EndsSo end.now (W.contents errors.old) (W.contents errors.new) result }
 {

@@ -9,12 +9,12 @@ use std::rt::Files;
 
 /// An open file that one program at a time may hold.
 pub trait Hold {
-    /// Holds the file until its last handle is closed, and says whether it does: not where another program holds it. It never
-    /// waits.
+    /// Tries to hold the file until its last handle is closed, and returns whether it does: false if another program holds it. It
+    /// never waits.
     ///
     /// # Errors
     ///
-    /// Where the file's system has no such locks.
+    /// If the file can't be locked for another reason, as on a file system without locks.
     fn try_hold(&self) -> io::Result<bool>;
 }
 
@@ -36,7 +36,7 @@ pub struct Place {
 }
 
 impl Place {
-    /// Where a file lies of which this is known.
+    /// The place of the file with this metadata.
     pub fn of(found: &Metadata) -> Self {
         Place {
             device: found.dev(),
@@ -44,7 +44,7 @@ impl Place {
         }
     }
 
-    /// Where the file lies to which a name leads, if it leads to one.
+    /// The place of the file that a name leads to, if it leads to one.
     pub fn of_name<R: Files>(rt: &R, path: Path<'_>) -> Option<Self> {
         match fs::metadata(rt, path) {
             Ok(found) => Some(Place::of(&found)),
@@ -53,7 +53,7 @@ impl Place {
     }
 }
 
-/// Whether the other name is of the same file.
+/// Whether the other place is known, and is the same one.
 pub fn is_one(place: Place, other: Option<Place>) -> bool
     ensures { IsTrue result ↔ (other ≡ Some place) }
 {
@@ -70,7 +70,7 @@ pub struct Seen {
 }
 
 impl Seen {
-    /// What a file is by now of which this is known.
+    /// What this metadata shows of a file.
     pub fn of(found: &Metadata) -> Self {
         Seen {
             place: Place::of(found),
@@ -91,9 +91,9 @@ impl Seen {
 /// What was seen before a text is kept.
 #[derive(Clone, Copy, Debug, PartialEq, Eq)]
 pub struct Before {
-    /// Which file standard output is. It is to be asked before any file is opened, which may get the number of a closed one.
+    /// Which file standard output is. Ask before any file is opened: if standard output is closed, a file may get its number.
     pub output: Option<Place>,
-    /// What was loaded from where the text goes, if it was.
+    /// What was loaded from the place that the text goes to, if anything was.
     pub loaded: Option<Seen>,
 }
 

@@ -9,11 +9,11 @@ use crate::ending::End;
 use std::alloc::Global;
 use std::io::{self, ErrorKind, Read};
 
-/// How many bytes the mark has that a saved ledger begins with.
+/// The length in bytes of the mark that a saved ledger begins with.
 pub const MARK: usize = 4;
 
-/// No saved ledger has so many bytes behind its mark: 4,096 modules with their certificates and tallies have less than 2^34, and
-/// 2^32 stored values, each of at most 256 leaves of 16 bytes with its key, less than 2^45.
+/// The most bytes of a saved ledger that are read: 32 TiB. The format has no such limit. But a ledger is held in memory, so that a
+/// longer text is answered as a failed allocation. 4,096 modules with their certificates and tallies take less than 2^34.
 const MOST_BYTES: u64 = 1 << 45;
 
 /// The end where a read failed.
@@ -95,7 +95,7 @@ pub fn is_mark(bytes: &[u8]) -> bool
 ///
 /// # Errors
 ///
-/// `Read` if a read failed; `Memory` if an allocation failed, or if more bytes come than any saved ledger has.
+/// `Read` if a read failed; `Memory` if an allocation failed, or if there are more than 2^45 bytes.
 pub fn ledger_bytes<R: Read + Drop>(
     alloc: Global,
     mut reader: R,

@@ -50,20 +50,20 @@ struct Target {
     previous: Option<String>,
 }
 
-/// Puts a text into the place of the file of this name, or makes one: at any moment there is the old file, or the new one
-/// whole, also where the machine stops. What a symbolic link leads to is replaced, and the link stays. The mode of a file that
-/// stood there stays, and its owner and group where the program may set them. What is no regular file, or is standard output
-/// itself, is written to as it is.
+/// Atomically replaces the file of this name by a text, or makes it. At any moment the old file is there, or the new one whole,
+/// even if the machine stops. A symbolic link stays, and what it leads to is replaced. The old file's mode is kept, and so are its
+/// owner and group if the program may set them. Anything that isn't a regular file, and standard output itself, is written to as
+/// it is.
 ///
-/// What stands there is replaced if it is what was loaded, or is empty. Any other ledger stays beside the new one, by a name
-/// that is then given.
+/// What stands there is replaced if it is what was loaded, or is empty. Any other ledger stays beside the new one, and the name
+/// by which it stays is returned.
 ///
 /// # Errors
 ///
-/// `NoLedger` if what stands there isn't what was loaded, isn't empty and is no saved ledger, `InUse` if another program holds
-/// it, `Write` if it can't be replaced for another reason; `Memory` if an allocation failed. A regular file that stood there is
-/// as it was, unless the last step failed, by which its folder's new entry reaches the disk. No other file is left, but maybe
-/// the name by which a ledger was to stay.
+/// `NoLedger` if what stands there isn't what was loaded, isn't empty and isn't a saved ledger; `InUse` if another program holds
+/// it; `Write` if it can't be replaced for another reason; `Memory` if an allocation failed. A regular file that stood there is
+/// as it was, unless only the last step failed, which syncs the folder after the file was replaced. No other file is left, except
+/// perhaps the name by which a ledger was to stay.
 pub fn keep<R: Files + AllocGlobal + Clone + Drop>(
     rt: &R,
     path: &str,
@@ -82,8 +82,8 @@ where
     }
 }
 
-/// Whether a text can be put into the place of the file of this name, as far as that shows before there is one. A pipe isn't
-/// opened for it, and no file that stays changes.
+/// Tests whether `keep` can replace the file of this name, as far as that shows before there is a text. It opens no pipe, and
+/// changes no file that stays.
 ///
 /// # Errors
 ///
@@ -261,8 +261,8 @@ fn mode_without_group(mode: u32) -> u32 {
     mode & (OWNER_BITS | OTHER_BITS | (mode & OTHER_BITS) << 3)
 }
 
-/// Gives a file that is whole the name of the old one, which gets another name before, if it has to stay. The folder is synced
-/// between, so that one which can't be is found while the old file still has its name.
+/// Gives a new file that is whole the name of the old one. If the old one has to stay, it gets another name first. The folder is
+/// synced before the renaming, so that a folder that can't be synced is found while the old file still has its name.
 fn placed<R: Files>(
     rt: &R,
     folder: &R::File,

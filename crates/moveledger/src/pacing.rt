@@ -7,17 +7,17 @@ ghost use Rattle.moveledger.specs.declared.streaming.EngineError.{EngineError};
 use crate::streaming::EngineError;
 use std::io::{BufWriter, Write};
 
-/// What is done when a record is answered, before the next one is read.
+/// What is to be done after each record is answered, before the next one is read.
 pub trait AfterRecord<R, W: Write> {
-    /// What is done: with the record of this number, the reader, what does it and the writer before, how it ends, and both after
-    /// it.
+    /// What is done, as a relation between the record's number, the reader, `self` and the writer before, the result, and `self`
+    /// and the writer after.
     ghost does: { ℕ → R → Self → W → Result (Unit {0}) EngineError → Self → W → Type 0 } = { λ _ _ _ _ _ _ _. ⊤ };
 
-    /// The record of this number is answered: its lines are with the writer. Nothing more is written.
+    /// Is called when the record of this number has been answered and its lines are with the writer. It adds nothing to them.
     ///
     /// # Errors
     ///
-    /// `Write`, if what the writer held couldn't be written out.
+    /// `Write` if what the writer held couldn't be written out.
     fn answered(&mut self, number: u64, reader: &R, writer: &mut W) -> Result<(), EngineError>
         ensures kept { Keeps (W.contents writer.old) (W.contents writer.new) }
         ensures err { IfErr result (λ e. e ≡ EngineError.Write) }

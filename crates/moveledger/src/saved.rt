@@ -62,8 +62,13 @@ impl From<io::Error> for KeepError {
     }
 }
 
-/// The ledger that a reader gives, of which so many bytes are expected. No more than its first four bytes are read where these
-/// are no mark of a saved ledger. Where it isn't loaded, what there is to say of it is printed, and how that ended is the error.
+/// Loads the ledger whose text a reader gives. `expected` is the expected number of bytes. If the first four bytes aren't the mark
+/// of a saved ledger, no more are read.
+///
+/// # Errors
+///
+/// `Read` if a read failed; `LoadRefused` if the bytes aren't loaded, after the reason is printed; `Write` if it couldn't be
+/// printed; `Memory` if an allocation failed.
 pub fn loaded<R: Read + Drop, W: Write>(
     alloc: Global,
     text: R,
@@ -84,11 +89,11 @@ pub fn loaded<R: Read + Drop, W: Write>(
     }
 }
 
-/// The text that is kept of a ledger after its records, which ended so.
+/// The text that is to be kept of a ledger, given how its records ended.
 ///
 /// # Errors
 ///
-/// That end, if it isn't a good one: nothing is kept then. `Memory` if an allocation failed.
+/// That end, if it isn't `Done`: nothing is kept then. `Memory` if an allocation failed.
 pub fn text_to_keep(end: End, ledger: &Ledger) -> Result<Vec<u8>, End>
     ensures kept { IfOk result (λ text. (end ≡ End.Done) × IsSavedText Second text.items (state_of ledger.now)) }
     ensures fault { IfErr result (λ e. ((end ≢ End.Done) × (e ≡ end)) ⊎ ((end ≡ End.Done) × (e ≡ End.Memory))) }
@@ -102,8 +107,8 @@ pub fn text_to_keep(end: End, ledger: &Ledger) -> Result<Vec<u8>, End>
     }
 }
 
-/// The end once a text is to take the place of a file: that of what keeps it, which is called with that text alone, and where
-/// there is no text isn't called.
+/// How the program ends after a text was to be kept. `keep` is called with the text, and its end counts. If there is no text, it
+/// isn't called.
 pub fn end_of_text<F: FnOnce(&[u8]) -> Result<(), KeepError>>(
     text: Result<Vec<u8>, End>,
     keep: F,
@@ -119,8 +124,11 @@ pub fn end_of_text<F: FnOnce(&[u8]) -> Result<(), KeepError>>(
     }
 }
 
-/// The text of today of the ledger that a reader gives, of which so many bytes are expected. Where it isn't loaded, it is as
-/// with `loaded`.
+/// Converts the ledger whose text a reader gives to the current form. `expected` is the expected number of bytes.
+///
+/// # Errors
+///
+/// As `loaded`.
 pub fn migrated<R: Read + Drop, W: Write>(
     alloc: Global,
     old: R,

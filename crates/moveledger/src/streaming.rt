@@ -40,13 +40,13 @@ impl From<AllocError> for EngineError {
     }
 }
 
-/// Answers the records of an input, each before the next is read, and says how many they were. Its lines are handed to the
-/// writer before the next record is read, too: a writer that keeps them for later has to be flushed afterwards.
+/// Answers the records of an input, each before the next is read, and returns their number. A record's lines, too, are handed to
+/// the writer before the next record is read. A writer that buffers them has to be flushed afterwards.
 ///
 /// # Errors
 ///
-/// `Read` if a read failed; `Write` if a write failed or took nothing; `Memory` if an allocation failed. Reader, writer and
-/// ledger stand as the clauses say. No read and no write is tried again.
+/// `Read` if a read failed; `Write` if a write failed or took nothing; `Memory` if an allocation failed. The clauses say how
+/// reader, writer and ledger stand then. No read or write is tried again.
 pub fn engine<R: Read, W: Write>(
     reader: &mut R,
     writer: &mut W,
@@ -80,8 +80,11 @@ pub fn engine<R: Read, W: Write>(
     answered
 }
 
-/// As `engine`, and does what is wanted after each whole record, before the next is read. Where that fails, it ends with
-/// `Write`.
+/// As `engine`, and calls `after` after each whole record, before the next is read.
+///
+/// # Errors
+///
+/// As `engine`; and `Write` if `after` fails.
 pub fn answer_all<R: Read, W: Write, A: AfterRecord<R, W>>(
     reader: &mut R,
     writer: &mut W,

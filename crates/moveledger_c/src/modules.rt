@@ -58,7 +58,7 @@ pub extern "C" fn moveledger_check(
     }
 }
 
-/// The text of today of a saved ledger, or why the bytes are none.
+/// Converts a saved ledger to the current form, or gives the reason why the bytes aren't one.
 #[unsafe(no_mangle)]
 pub extern "C" fn moveledger_migrate(
     alloc: Global,

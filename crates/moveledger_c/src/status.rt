@@ -3,17 +3,17 @@
 /// The call did what it was asked for.
 pub const DONE: i32 = 0;
 
-/// A module or a certificate is refused, in a phase that is told beside it.
+/// A module or a certificate is refused; `why` has the phase.
 pub const REFUSED: i32 = 1;
 
-/// Bytes are no saved ledger, for a reason that is told beside it.
+/// Bytes are not a saved ledger; `why` has the reason.
 pub const LOAD_REFUSED: i32 = 2;
 
-/// No certificate is looked for any longer.
+/// The search for a certificate reached its limits.
 pub const TOO_COMPLEX: i32 = 3;
 
 /// An allocation failed.
 pub const MEMORY: i32 = 4;
 
-/// An argument is not as it has to be, and nothing was done.
+/// An argument is invalid, and nothing was done.
 pub const ARGUMENTS: i32 = 5;

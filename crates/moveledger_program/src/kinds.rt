@@ -21,7 +21,7 @@ const MODULE: [u8; 4] = [0xA1, 0x1C, 0xEB, 0x0B];
 /// What a saved ledger of either form begins with.
 const LEDGER: [u8; 3] = *b"MVL";
 
-/// Whether a byte may stand in a text: one of UTF-8 that is no control character, a tab or a line end.
+/// Whether a byte may stand in a text: a tab, a line end, or any byte that isn't an ASCII control character.
 fn is_of_text(byte: u8) -> bool {
     matches!(byte, b'\t' | b'\n' | b'\r' | 0x20..=0x7E | 0x80..=0xFF)
 }

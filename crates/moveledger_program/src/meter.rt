@@ -92,7 +92,7 @@ impl<'a> Screen<'a> {
         }
     }
 
-    /// Shows this line in the place of the one before, which is no longer.
+    /// Shows this line in the place of the one before, which is no longer than this one.
     fn show(&self, line: &str) {
         let _ = self.rt.eprint(line);
         self.is_shown.set(true);

@@ -16,8 +16,8 @@ use std::io::{self, BufReader, BufWriter, ErrorKind, IsTerminal, Read, Write};
 use std::path::Path;
 use std::{env, mem};
 
-/// Runs the program, and gives the status that it ends with. A fault has its line on standard error, and behind it stands which
-/// file it was about, and why.
+/// Runs the program, and returns its exit status. A fault has its line on standard error; the line after it says which file it was
+/// about, and why.
 pub fn run(rt: &HostRuntime) -> u8 {
     let told = asked(rt);
     let status = ended(&mut rt.stderr(), &told.end);
@@ -191,8 +191,8 @@ fn told_of_keeping(rt: &HostRuntime, end: End, keeping: Keeping<'_>) -> Told
     }
 }
 
-/// What there is to tell before the first record is answered, where a ledger is to be kept: that the records can't be read, and
-/// behind that, that it can't be kept.
+/// What stops the program before the first record is answered, if a ledger is to be kept: that the records can't be read, or
+/// otherwise that the ledger can't be kept.
 fn told_before(rt: &HostRuntime, path: &str, keeping: Option<Keeping<'_>>) -> Option<Told> {
     let keeping = keeping?;
     if let Some(why) = why_not_read(rt, path) {
@@ -241,8 +241,9 @@ fn advised(rt: &HostRuntime, told: Told, path: &str, wanted: Kind) -> Told {
     }
 }
 
-/// Answers the records of a file by a ledger that is kept in another, or by an empty one, and writes the report to standard
-/// output. Where that ends well, the ledger is put into the place of a file. What was loaded from there is held to the end.
+/// Answers the records of a file with a ledger that is loaded from another file, or with an empty one, and writes the report to
+/// standard output. If that ends well and a file is given to keep the ledger in, the ledger replaces it. If the ledger was loaded
+/// from that file, the file is held to the end.
 fn apply(rt: &HostRuntime, path: &str, load: Option<&str>, save: Option<&str>) -> Told {
     let output = standard_output(rt);
     let source = match load {
@@ -365,7 +366,7 @@ fn put(rt: &HostRuntime, keeping: Keeping<'_>, text: &[u8]) -> Result<(), KeepEr
     Ok(())
 }
 
-/// Puts the ledger that one file keeps, in the form of today, into the place of another.
+/// Converts the ledger of one file to the current form, and replaces another file by it.
 fn migrate(rt: &HostRuntime, old: &str, new: &str) -> Told {
     let output = standard_output(rt);
     let source = match open_ledger(rt, old, Some(new)) {
@@ -456,9 +457,9 @@ fn regular_size(metadata: io::Result<Metadata>) -> Option<u64>
     }
 }
 
-/// Answers the records that a source gives. Of a regular file, of this size, many lines are written at a time, and where
-/// standard error is a terminal it shows how far a long run is. Of anything else each record's lines are written before the
-/// next record is waited for.
+/// Answers the records that a source gives. For a regular file, of this size, many lines are written at a time, and if standard
+/// error is a terminal, it shows how far a long run is. For anything else, each record's lines are written before the next
+/// record is waited for.
 fn apply_to<R: Read + Drop>(
     rt: &HostRuntime,
     source: R,

@@ -1,7 +1,7 @@
 -- The abilities of types, and that fields have what their structs need.
 --   value_type_abilities, token_abilities m t   the abilities of a type, without references and with them
 --   field_is_able m s f                         a field has what its struct's abilities ask for: store for a struct with store or key
---   struct_is_able m d                          each field of a struct has
+--   struct_is_able m d                          each field of a struct has what they ask for
 --   AbilitiesHold m                             phase 6: this holds of every struct
 -- implies is a part of these.
 use Rattle.std.specs.Prelude.{Option, Some, slice_get, Bool, not, ◌||◌, false, ◌&&◌, IsTrue}

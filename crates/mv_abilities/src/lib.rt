@@ -27,11 +27,11 @@ use mv_binary_format::StructDefinition;
 use mv_bounds::Bounded;
 use mv_move_types::{Abilities, Field, LeafKind, Refusal, Token, ValueType};
 
-/// Accepts exactly the modules whose rules of phase 6 hold.
+/// Accepts exactly the modules for which the rules of phase 6 hold.
 ///
 /// # Errors
 ///
-/// `Phase(6)`, where one of them fails.
+/// `Phase(6)` if one of them fails.
 pub fn check(m: &Bounded<'_>) -> Result<(), Refusal>
     ensures ok { OnOk result (AbilitiesHold m.now) }
     ensures refused { IfErr result (IsRefusedIn 6 (AbilitiesHold m.now)) }

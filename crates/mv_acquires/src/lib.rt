@@ -28,11 +28,11 @@ use mv_bounds::Bounded;
 use mv_move_types::{Instruction, Refusal};
 use std::alloc::{AllocError, Global};
 
-/// Accepts exactly the modules whose rules of phase 12 hold.
+/// Accepts exactly the modules for which the rules of phase 12 hold.
 ///
 /// # Errors
 ///
-/// `Phase(12)`, where one of them fails. `Memory` if an allocation failed.
+/// `Phase(12)` if one of them fails; `Memory` if an allocation failed.
 pub fn check(alloc: Global, m: &Bounded<'_>) -> Result<(), Refusal>
     ensures ok { OnOk result (AcquiresHold m.now) }
     ensures refused { IfErr result (IsRefusedIn 12 (AcquiresHold m.now)) }

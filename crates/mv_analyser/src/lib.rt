@@ -1,4 +1,4 @@
-//! Certificates made: for a module that some certificate passes with, one that passes.
+//! Finds certificates: for a module that passes with some certificate, one with which it passes.
 //!
 //! ```
 //! use mv_analyser::ProveError;
@@ -99,11 +99,11 @@ fn find(alloc: Global, m: &Typed<'_>) -> Result<Cert, ProveError>
 /// one: in each function its states are below those of everything that fits the function and holds.
 ///
 /// # Errors
-/// `Refused` with the first of phases 10, 11 and 12 that no certificate passes. `TooComplex` where the search for some function's
-/// edges reaches its limits: it would visit a block a 257th time, or would state for a block more than 1,024 edges or a label of
-/// more than 8 positions. In a module without a local of reference type, parameters included, it never does. Of the functions
-/// in order the first whose edges are too complex or fail is answered, after all availabilities and before the acquires lists.
-/// `Memory` if an allocation failed.
+/// `Refused` with the first of phases 10, 11 and 12 that no certificate passes. `TooComplex` if the search for some function's
+/// edges reaches its limits: it would visit a block for the 257th time, or would state for a block more than 1,024 edges or a
+/// label of more than 8 positions. In a module without a local of reference type, parameters included, it never does. The
+/// availabilities of all functions come first, then the edges, then the acquires lists; of the functions in order, the first
+/// whose edges are too complex or fail decides the error. `Memory` if an allocation failed.
 pub fn prove(alloc: Global, m: &Typed<'_>) -> Result<Cert, ProveError>
     ensures shape { IfOk result (λ c. AllStatedFit m.now m.now.functions c) }
     ensures passes { IfOk result (PassesCheck m.now) }

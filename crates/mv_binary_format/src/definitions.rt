@@ -113,7 +113,7 @@ impl FunctionDefinition {
         &self.acquires
     }
 
-    /// The signature of its locals beside the parameters.
+    /// The signature of its locals other than the parameters.
     pub fn locals(&self) -> u16
         ensures { result ≡ self.now.locals }
     {

@@ -12,7 +12,7 @@ pub fn modules_are_read_by_text()
     mv_module_text::tables_stand_as_texts();
 }
 
-/// No text is of two modules.
+/// No bytes are texts of two modules.
 pub fn texts_are_of_one_module()
     ensures { IsOfOneModule }
 {

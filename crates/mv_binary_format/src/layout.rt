@@ -134,8 +134,8 @@ fn write(alloc: Global, m: &Module<'_>) -> Result<Vec<u8>, AllocError>
     Ok(out)
 }
 
-/// The text of a module whose headers and tables stand in ascending order of kind; tables without entries are left out.
-/// `decode` reads it again as the same module.
+/// Writes the text of a module, its headers and tables in ascending order of kind; tables without entries are left out.
+/// `decode` reads it back as the same module.
 ///
 /// # Errors
 /// If an allocation failed.

@@ -5,7 +5,8 @@
 //! use mv_move_types::Refusal;
 //! use std::alloc::Global;
 //!
-//! /// Whether a module without functions was read, and is written as the bytes that it was read from: the latter always holds.
+//! /// Whether a module has no functions and is written as the bytes that it was read from. The latter holds exactly if their
+//! /// headers and tables stand in ascending order of kind.
 //! fn example(alloc: Global, bytes: &[u8]) -> Result<bool, Refusal> {
 //!     let module = decode(alloc, bytes)?;
 //!     let text = encode(alloc, &module)?;
@@ -40,10 +41,10 @@ use mv_module_text::Reader;
 use mv_move_types::Refusal;
 use std::alloc::Global;
 
-/// Reads the module that the bytes are a text of; its names and its constants' bytes stay slices of them.
+/// Reads the module that the bytes are a text of; its names and the bytes of its constants remain slices of these bytes.
 ///
 /// # Errors
-/// [`Refusal::Phase`] with 2 if the bytes are no module's text; [`Refusal::Memory`] if an allocation failed.
+/// [`Refusal::Phase`] with 2 if the bytes aren't the text of a module; [`Refusal::Memory`] if an allocation failed.
 pub fn decode<'a>(alloc: Global, bytes: &'a [u8]) -> Result<Module<'a>, Refusal>
     ensures ok { IfOk result (λ m. module_of bytes.entry.now ≡ Some m) }
     ensures text { IfOk result (λ m. IsModuleText bytes.entry.now m) }

@@ -39,9 +39,9 @@ pub(crate) struct Parts<'a> {
     own: u16,
 }
 
-/// A module that `decode` returned. Names and the bytes of constants are slices of its bytes; its model is the record of
-/// its tables, each part of which has a text. Its parts lie in memory of their own, so that it is handed from phase to phase
-/// without them: the one element of a vector, since a box isn't shortened to another lifetime.
+/// A module that `decode` returned. Names and the bytes of constants are slices of its bytes. Its model is the record of its
+/// tables, each part of which has a text. Its parts are allocated separately, so that handing the module from phase to phase
+/// doesn't move them. They are the one element of a vector, since a box can't be given a shorter lifetime.
 #[derive(Drop)]
 pub struct Module<'a> {
     parts: Vec<Parts<'a>>,

@@ -1,5 +1,6 @@
--- What the search for certificates rests on (edges_lawful): the order of edges is one, the union of two is the least above both, a step is defined on each state below one on which
--- it is, with a result below, it leaves ascending edges, and a block that goes on leads to a state with which a block may begin.
+-- What the search for certificates rests on (edges_lawful): the order of edges is a preorder; the union of two is a least state
+-- above both; a step that is defined on a state is defined on each state below, with a result below; it leaves ascending edges;
+-- and a block that goes on leads to a state with which a block may begin.
 --
 -- The laws' proofs stand in Laws/. They stay below specs/, since a trait's laws may cite nothing of their own crate but its specs/.
 -- In this order each is read after what it cites:

@@ -102,8 +102,8 @@ impl<'t, 'm> BorrowDomain<'t, 'm> {
         at < self.stacks.len()
     }
 
-    /// Makes of the edges what the instruction at a place does. Memory is wanted only where no need fails, of an instruction
-    /// that puts a reference where none stood.
+    /// Changes the edges as the instruction at a place does. `Memory` is answered only if no need fails and the instruction puts a
+    /// reference where none stood.
     #[tactic(auto, using(crate::proofs::Stacks::step_ok, crate::proofs::Stacks::step_need, crate::proofs::Stacks::step_meets, crate::proofs::Stacks::step_memory, crate::proofs::Stacks::step_unknown))]
     fn change(&self, alloc: Global, s: &mut Graph, at: usize) -> Result<(), StepError>
         requires { IsTrue (are_ascending s.old) }

@@ -6,7 +6,7 @@
 //! use mv_type_states::Typed;
 //! use std::alloc::Global;
 //!
-//! /// Whether the borrows of a function can be told safe by some certificate. The function has to be there.
+//! /// Whether the search finds edges that show the borrows of a function to be safe. The function has to be there.
 //! fn example(alloc: Global, m: &Typed<'_>, f: usize) -> bool {
 //!     let domain = BorrowDomain::of_function(m, f);
 //!     match solve_by_passage(alloc, &domain, m.graph(f), &domain.start(alloc)) {

@@ -14,12 +14,12 @@ use std::marker::Model;
 /// How many acquired globals are looked through one by one. Where there are more, each global is looked up among marks.
 const FEW_GLOBALS: usize = 4;
 
-/// Of how many globals there are marks. A module's 64 KB have no room for more structs; if there were one, the list would be looked
-/// through for it.
+/// How many globals have marks. A module's 64 KB have no room for more structs; if there were one, the list would be searched for
+/// it.
 const MARKED_GLOBALS: usize = 8_192;
 
 /// The nodes out of which no edge may lead where a function is called: its mutable arguments, which stand on the stack from a
-/// place on, and the globals that it acquires. Of the first globals it may be marked which those are.
+/// place on, and the globals that it acquires. Marks may say which of the first globals those are.
 #[derive(Drop)]
 struct NeededFree<'a> {
     place: usize,

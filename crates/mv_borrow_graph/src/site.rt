@@ -155,11 +155,11 @@ impl<'d, 'm> Site<'d, 'm> {
         !self.leads_to_mutable(node, s)
     }
 
-    /// Makes of the edges what an instruction here does.
+    /// Changes the edges as an instruction here does.
     ///
     /// # Errors
-    /// `Need` where a need of the instruction fails. Else `Memory` if an allocation failed: an instruction that puts no
-    /// reference where none stood takes no memory. Nothing is said of the edges then.
+    /// `Need` if a need of the instruction fails. Otherwise `Memory` if an allocation failed; an instruction that doesn't put a
+    /// reference where none stood allocates nothing. In either case nothing is known of the edges afterwards.
     #[tactic(auto, using(crate::proofs::Rows::kept_order), unfolding(crate::specs::BorrowRules::edges_after))]
     pub fn step(
         &self,

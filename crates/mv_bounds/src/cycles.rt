@@ -92,8 +92,8 @@ fn can_be_emptied(alloc: Global, graph: &[Vec<usize>]) -> Result<bool, AllocErro
     Ok(all_marked(&removed))
 }
 
-/// Whether no node of a graph, which is given by each node's successors, leads to itself. A successor that is no node
-/// leads nowhere. The work grows with the nodes and edges.
+/// Whether no node of a graph, given by each node's successors, leads to itself. A successor that isn't a node leads
+/// nowhere. The time is linear in the number of nodes and edges.
 ///
 /// # Errors
 ///

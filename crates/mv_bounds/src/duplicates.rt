@@ -1,4 +1,4 @@
-// Phase 4: no entry stands twice, and what is the module's own is defined once.
+// Phase 4: no entry occurs twice, and the module defines each of its own structs and functions once.
 ghost use Rattle.std.specs.Prelude.{◌≡◌, ◌↔◌, ◌==◌, ◌&&◌, ◌<◌, List, ℕ, length, nat_lt, IsTrue, IfOk, map, count_by, slice_index, vec_len};
 ghost use Rattle.std.specs.List.{list_all, list_any};
 ghost use Rattle.std.specs.Str.{bytes_eq};
@@ -275,7 +275,7 @@ fn counts(alloc: Global, n: usize, items: &[u16]) -> Result<Vec<usize>, AllocErr
     Ok(counts)
 }
 
-/// Whether each handle of the own module, and no other handle, has exactly one definition.
+/// Whether each handle of the module itself has exactly one definition, and every other handle none.
 fn defined_once(alloc: Global, homes: &[u16], own: u16, defined: &[u16]) -> Result<bool, AllocError>
     ensures { IfOk result (λ b. b ≡ defined_once (λ h. slice_index homes.now h) own (length homes.now) defined.now) }
 {
@@ -354,7 +354,7 @@ fn contents_differ(alloc: Global, m: &Module) -> Result<bool, AllocError>
     )
 }
 
-/// Whether what is a module's own is defined once, and its structs have fields of different names.
+/// Whether a module defines each of its own structs and functions once, and each struct has fields, all of different names.
 fn definitions_hold(alloc: Global, m: &Module) -> Result<bool, AllocError>
     ensures { IfOk result (λ b. IsTrue b ↔ (IsTrue (defined_once (struct_home m.now) m.now.own (length m.now.struct_handles) (map (λ (d : StructTable). d.handle) m.now.structs))
         × IsTrue (defined_once (function_home m.now) m.now.own (length m.now.function_handles) (map (λ (d : FunctionTable). d.handle) m.now.functions))
@@ -369,7 +369,7 @@ fn definitions_hold(alloc: Global, m: &Module) -> Result<bool, AllocError>
     )
 }
 
-/// Whether no entry of a module stands twice, and what is its own is defined once, by structs that are finite.
+/// Whether no entry of a module occurs twice, it defines each of its own structs and functions once, and its structs are finite.
 pub fn well_defined(alloc: Global, m: &Module) -> Result<bool, AllocError>
     requires { InBounds m.now }
     ensures { IfOk result (λ b. IsTrue b ↔ WellDefined m.now) }

@@ -48,7 +48,7 @@ impl<'a> Bounded<'a> {
         self.signature(handle.results)
     }
 
-    /// The types of the locals of function `f` beside its parameters.
+    /// The types of the locals of function `f` other than its parameters.
     pub fn other_locals(&self, f: usize) -> &[Token]
         requires { f < length self.now.functions }
         ensures { IfSome (slice_get self.now.functions f) (λ d. slice_get self.now.signatures d.locals ≡ Some result.now) }

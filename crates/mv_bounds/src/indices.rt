@@ -184,7 +184,7 @@ fn local_count(m: &Module, d: &FunctionDefinition) -> usize
     parameters.len() + others.len()
 }
 
-/// Whether an index is in its table, a local one of so many, a target one of so many instructions.
+/// Whether an immediate is in bounds: a local is below `locals`, a target below `size`, any other index in its table.
 fn immediate_in(m: &Module, locals: usize, size: usize, i: Immediate) -> bool
     ensures { result ≡ immediate_in m.now locals size i }
 {
@@ -199,7 +199,7 @@ fn immediate_in(m: &Module, locals: usize, size: usize, i: Immediate) -> bool
     }
 }
 
-/// Whether the indices of these instructions are in their tables, the locals so many.
+/// Whether the immediates of these instructions are in bounds, in a function with `locals` locals.
 fn code_in(m: &Module, locals: usize, code: &[Instruction]) -> bool
     ensures { result ≡ list_all (instruction_in m.now locals (length code.now)) code.now }
 {

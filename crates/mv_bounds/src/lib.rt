@@ -1,5 +1,5 @@
-//! Phases 3 and 4 of publishing: every index is in bounds, nothing stands twice, and what is the module's own is defined once,
-//! by structs that are finite.
+//! Phases 3 and 4 of publishing: every index is in bounds, no entry occurs twice, the module defines each of its own structs
+//! and functions once, and its structs are finite.
 //!
 //! ```
 //! use mv_move_types::Refusal;
@@ -82,9 +82,9 @@ impl<'a> Bounded<'a> {
 ///
 /// # Errors
 ///
-/// `Phase(3)`, where an index is not below the length of its table; else `Phase(4)`, where an entry stands twice, or a
-/// handle of the module's own is not defined exactly once, or another's is, or a struct has no fields, two of one name or
-/// itself among what it holds; `Memory`, where an allocation failed.
+/// `Phase(3)` if an index is not below the length of its table. Otherwise `Phase(4)` if an entry occurs twice, a handle of
+/// the module itself is not defined exactly once, a handle of another module is defined, or a struct has no fields, has two
+/// fields of the same name, or contains itself. `Memory` if an allocation failed.
 pub fn check<'a>(alloc: Global, m: Module<'a>) -> Result<Bounded<'a>, Refusal>
     ensures ok { IfOk result (λ b. b ≡ m.entry) }
     ensures refused { IfErr result (IsRefusedByBounds m.entry) }

@@ -20,7 +20,7 @@ pub fn defined_functions(alloc: Global, m: &Module) -> Result<Vec<u16>, AllocErr
     m.functions().iter().map(|d| d.handle()).collect(alloc)
 }
 
-/// For each of so many handles, the first of the definitions of these handles that is its own, if there is one.
+/// For each of `handles` handles, its first definition, if there is one; `defined` lists the definitions' handles.
 fn places(alloc: Global, handles: usize, defined: &[u16]) -> Result<Vec<Option<usize>>, AllocError>
     ensures { IfOk result (λ v. ArePlaces defined.now handles v.items) }
 {

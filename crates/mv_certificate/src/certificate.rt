@@ -78,7 +78,7 @@ impl Stated {
         Ok(Stated { locals, edges })
     }
 
-    /// Of how many blocks something or nothing is stated.
+    /// How many blocks there are, with something or nothing stated of each.
     pub fn len(&self) -> usize
         ensures { result ≡ length self.now }
     {

@@ -95,8 +95,8 @@ pub fn decode(alloc: Global, m: &Typed<'_>, bytes: &[u8]) -> Result<Cert, Refusa
     }
 }
 
-/// The text of a certificate. Of bytes that it wrote, `decode` gives back the certificate: for a module of whose shape that
-/// is, the bytes are a text of it and of no other.
+/// The text of a certificate. `decode` reads it back as that certificate: for a module of the certificate's shape, the bytes
+/// are a text of this certificate and of no other.
 pub fn encode(alloc: Global, c: &Cert) -> Result<Vec<u8>, AllocError>
     ensures text { IfOk result (λ text. text.items ≡ certificate_text c.now) }
     ensures back { IfOk result (λ text. IsReadBackAs text.items c.now) }
@@ -121,8 +121,8 @@ fn try_phases(alloc: Global, m: &Typed<'_>, c: &Cert) -> Result<(), Refusal>
     checking::check_acquires(alloc, m)
 }
 
-/// Tries phases 10, 11 and 12 with a certificate of the module's shape: the module, where they hold; else the first that
-/// fails.
+/// Tries phases 10, 11 and 12 with a certificate of the module's shape: returns the module if they hold, otherwise the first
+/// phase that fails.
 pub fn check<'a>(alloc: Global, m: Typed<'a>, c: &Cert) -> Result<Verified<'a>, Refusal>
     requires shape { AllStatedFit m m.functions c.now }
     ensures ok { IfOk result (λ v. v ≡ m.entry) }

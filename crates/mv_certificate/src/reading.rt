@@ -159,7 +159,7 @@ fn read_edges(
     Ok(edges)
 }
 
-/// Reads what is stated of a block: of one that is reached, an availability for each local, and the edges; else nothing.
+/// Reads what is stated of a block: an availability for each local and the edges if it is reached, otherwise nothing.
 fn read_block(
     alloc: Global,
     reader: &mut Reader<'_>,

@@ -52,7 +52,7 @@ pub fn graph_of<'t>(m: &'t Typed<'_>, f: usize, function: &FunctionDefinition) -
     m.graph(f)
 }
 
-/// What is known where function `f` begins is there: its locals have types.
+/// There is a state with which function `f` begins: its locals have types.
 pub fn has_start(m: &Typed<'_>, f: usize, function: &FunctionDefinition)
     requires inside { f < length m.now.functions }
     requires known { slice_get m.now.functions f ≡ Some function.now }
@@ -146,10 +146,11 @@ fn may_lead_to(m: &Module<'_>, d: &FunctionDefinition, node: Node) -> bool
 fn are_small(path: &[u8]) -> bool
     ensures { result ≡ list_all (λ i. nat_lt i 32) path.now }
 {
-    path.iter().all(|position| u64::from(*position) < MOST_FIELDS)
+    path.iter()
+        .all(|position| u64::from(*position) < MOST_FIELDS)
 }
 
-/// Whether an edge leads from where it may to where it may, and its list is short.
+/// Whether an edge leads from and to nodes that it may, but not to its own start, and its positions are few and small.
 pub fn fits(m: &Module<'_>, d: &FunctionDefinition, e: &Edge) -> bool
     ensures { result ≡ edge_fits m.now d.now e.now }
 {

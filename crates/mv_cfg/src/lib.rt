@@ -47,7 +47,7 @@ pub struct Cfg {
     pub blocks: Vec<Block>,
 }
 
-/// Whether control never simply goes on to the next instruction by this exit.
+/// Whether this exit does anything but fall through to the next instruction.
 fn ends_block(exit: Exit) -> bool
     ensures { result ≡ exit_ends_block exit }
 {

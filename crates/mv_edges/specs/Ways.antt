@@ -101,7 +101,7 @@ is_known count (Returned ways) = true
 abbrev pub is_whole : WayGraph → Bool
 is_whole g = are_earlier 0 g.ways && (are_below (length g.ways) g.references && list_all (is_known (length g.sources)) g.ways)
 
--- how many ways there are at most: a block begins with at most 64 references, and each of its 4,096 instructions makes two ways at most
+-- a bound on the number of ways: a block begins with at most 64 references, and each of its 4,096 instructions makes at most two ways
 abbrev pub most_ways : ℕ
 most_ways = 8320
 

@@ -25,7 +25,7 @@ pub(crate) fn renamed(at: Node, old: Node, new: Node) -> Node
     if is_same(at, old) { new } else { at }
 }
 
-/// What the second node refers to lies at the label from what the first one is or refers to.
+/// An edge: its label leads from what the first node is or refers to, to what the second node refers to.
 #[derive(Drop, Debug)]
 pub struct Edge {
     from: Node,

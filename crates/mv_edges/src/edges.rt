@@ -155,7 +155,7 @@ impl Edges {
         }
     }
 
-    /// Adds an edge at the end where the edges still ascend, and says whether they do.
+    /// Adds an edge at the end if the edges then still ascend, and returns whether they do.
     #[tactic(auto, using(crate::proofs::Lengths::longest_push))]
     pub fn push_last(&mut self, e: Edge) -> Result<bool, AllocError>
         ensures answer { IfOk result (λ pushed. pushed ≡ are_ascending (self.old ++ e ∷ [])) }
@@ -188,10 +188,10 @@ impl Edges {
         }
     }
 
-    /// Adds the edges of another list, in one pass over both, or over the others alone where all of them go behind the last one.
+    /// Adds the edges of another list, in one pass over both, or over the others alone if all of them come after the last one.
     ///
     /// # Errors
-    /// If an allocation failed; the edges are as they were then.
+    /// If an allocation failed; then the edges are unchanged.
     pub fn add_all(&mut self, others: Edges) -> Result<(), AllocError>
         ensures ok { OnOk result (self.new ≡ sorted (self.old ++ others)) }
         ensures err { OnErr result (self.new ≡ self.old) }

@@ -13,7 +13,7 @@ use mv_move_types::Node;
 use std::alloc::{AllocError, Global};
 use std::marker::Model;
 
-/// A node that takes over what leads into others, opened.
+/// A node that takes over the edges that lead into others, with their labels opened.
 #[derive(Drop)]
 pub struct Heir<'a> {
     node: Node,
@@ -43,7 +43,7 @@ impl<'a> Heir<'a> {
         self.node
     }
 
-    /// The nodes of which it takes over.
+    /// The nodes that it takes over from.
     pub(crate) fn givers(&self) -> &'a [Node]
         ensures { result.now ≡ self.now.givers }
     {
@@ -51,8 +51,8 @@ impl<'a> Heir<'a> {
     }
 }
 
-/// The edges of a borrow graph on their way through a block. What is known of them is a list in its order. They aren't held as one: of
-/// each reference it is held how it came about, so that no change takes longer than there are nodes.
+/// The edges of a borrow graph on its way through a block. Its model is the list of the edges in their order. It doesn't store that
+/// list: it records for each reference how it came about, so that a change costs the same however many edges there are.
 #[derive(Drop, Debug)]
 pub struct Graph {
     ways: WayGraph,
@@ -127,7 +127,7 @@ impl Graph {
         self.ways.share(old, new)
     }
 
-    /// Makes of a reference one to a field: the edges that lead into it lead one position further, and none leads out of it.
+    /// Turns a reference into one to a field: the edges that lead into it lead one position further, and none leads out of it.
     #[tactic(auto, using(crate::proofs::Held::held_extended))]
     pub fn extend(&mut self, alloc: Global, position: u8, n: Node) -> Result<(), AllocError>
         ensures { OnOk result (self.new ≡ sorted (without n self.old ++ inherited (extended position) n n self.old)) }
@@ -135,7 +135,7 @@ impl Graph {
         self.ways.extend(alloc, position, n)
     }
 
-    /// Takes some nodes, and lets heirs take over what leads into their givers, opened.
+    /// Removes the `taken` nodes, and lets each heir take over what leads into its givers, with labels opened.
     #[tactic(auto, using(crate::proofs::Held::held_tied))]
     pub fn tie(
         &mut self,

@@ -8,7 +8,7 @@ use super::path::Path;
 use std::alloc::{AllocError, Global};
 use std::marker::Model;
 
-/// A list of field positions: exactly these, or, of an open label, these and any more.
+/// A list of field positions: exactly these or, if the label is open, these followed by any others.
 ///
 /// A position fits a byte, since a struct has at most 32 fields (this project's own rule). Up to 8 positions lie in the label itself,
 /// so that such a label is made, copied and changed with no allocation.
@@ -100,7 +100,7 @@ impl Label {
         Ok(Label { path, is_open })
     }
 
-    /// Whether the label is the other, or the other is open and its positions begin this one's.
+    /// Whether the labels are equal, or the other is open and its positions are a prefix of this one's.
     #[tactic(auto, using(crate::proofs::Comparisons::starts_with_begins))]
     pub fn is_below(&self, other: &Label) -> bool
         ensures { result ≡ label_leq self.now other.now }
@@ -154,7 +154,7 @@ impl Label {
         })
     }
 
-    /// The label of two edges, one behind the other; what lies below an open one stays there.
+    /// The label of two edges, one after the other; if the first label is open, it stays as it is.
     pub(crate) fn followed_by(&self, alloc: Global, next: &Label) -> Result<Self, AllocError>
         ensures { IfOk result (λ l. l ≡ composed self.now next.now) }
     {

@@ -1,4 +1,4 @@
-// A search by halves, and the order of edges.
+// Binary search, and the order of edges.
 ghost use Rattle.std.specs.Prelude.{◌≡◌, ◌+◌, ◌*◌, ◌<◌, ◌≤◌, min, Some, length, take, drop, slice_get, IfOk, IfErr, IsTrue};
 ghost use Rattle.std.specs.List.{list_all, list_any};
 ghost use Rattle.mv_move_types.specs.Limits.{most_edges, most_positions};
@@ -104,9 +104,9 @@ impl Edges {
 /// Whether each edge of `a` is below one of `b`. Each comparison of two edges adds one to the count, which stops at
 /// `u64::MAX`.
 ///
-/// Where `b` has at most 1,024 edges and lists of at most 8 positions, that is at most 110 for each edge of `a`: 10
-/// searches of at most 11 comparisons. Where `b` has an edge, it is at least one for each edge of `a` that is looked up: for
-/// all of them, where each is below one of `b`.
+/// If `b` has at most 1,024 edges, with at most 8 positions each, at most 110 are added for each edge of `a`: 10 searches of
+/// at most 11 comparisons. If `b` has an edge, at least one is added for each edge of `a` that is looked up; all of them are
+/// looked up if each is below one of `b`.
 pub fn leq_counted(a: &Edges, b: &Edges, comparisons: &mut u64) -> bool
     ensures value { result ≡ edges_leq a.now b.now }
     ensures each { IsTrue result → 0 < length b.now → counted (length a.now) comparisons.old ≤ comparisons.new }

@@ -53,7 +53,7 @@ fn follow(items: &[Edge], more: &[Edge]) -> bool
     last.is_before(first)
 }
 
-/// Adds edges to others, all of them in their order, each once: behind the others where they go there, and else in one pass over both.
+/// Adds edges to others, in order, each once: behind the others if they belong there, otherwise in one pass over both.
 #[tactic(auto, using(crate::proofs::Sorting::sorted_behind))]
 pub(crate) fn add_in_order(items: &mut Vec<Edge>, mut more: Vec<Edge>) -> Result<(), AllocError>
     requires items { IsTrue (are_ascending items.old.items) }

@@ -17,7 +17,8 @@ use super::Label;
 use mv_move_types::Node;
 use std::marker::Model;
 
-/// How many ways there are at most. A block begins with at most 64 references, and each of its 4,096 instructions makes two ways at most.
+/// The most ways of a graph. A block can't make more: it begins with at most 64 references, and each of its 4,096 instructions
+/// makes at most two ways.
 const MOST_WAYS: usize = 8_320;
 
 /// Where an edge comes from, by the source's number, and its label.
@@ -60,7 +61,7 @@ pub(crate) enum Way {
     Lent { source: usize, over: Option<usize> },
     /// It leads to a field of what the other leads to.
     Field { over: usize, position: u8 },
-    /// A function returned it, who had references to these.
+    /// A function returned it, having been given references with these ways.
     Returned(Vec<usize>),
 }
 
@@ -87,8 +88,8 @@ impl Reference {
     }
 }
 
-/// The edges of a borrow graph on their way through a block. No list is made of them: of each reference it is held how it came about,
-/// over what ways, and of each node that lends where it is now.
+/// The edges of a borrow graph on its way through a block. They aren't stored as a list: it records for each reference how it came
+/// about, over which ways, and for each node that lends where it is now.
 #[derive(Drop, Debug)]
 pub(crate) struct WayGraph {
     /// Where each source is, if it is still there.

@@ -186,8 +186,11 @@ impl Counters {
         }
     }
 
-    /// Counts one value of a struct more, made or taken apart. It takes memory only where nothing is counted of the struct
-    /// yet.
+    /// Counts one more value of a struct, made or taken apart. It takes memory only for the first value of a struct.
+    ///
+    /// # Errors
+    ///
+    /// `Memory` if an allocation failed.
     #[inline]
     pub fn count(&mut self, is_pack: bool, d: Definition) -> Result<(), Halt>
         requires { AreBelow (2 ^ 64 - 1) (counts_in self.old) }

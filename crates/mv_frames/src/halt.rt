@@ -5,15 +5,15 @@ use std::alloc::AllocError;
 /// Why a step does not go on.
 #[derive(Clone, Copy)]
 pub enum Halt {
-    /// A growth was refused.
+    /// An allocation failed.
     Memory,
     /// The step is not one of linked code of accepted modules.
     Stuck,
-    /// The run is given up, for this reason and with this number.
+    /// The run aborts, for this reason and with this number.
     Aborted(Kind, u64),
     /// The run returns.
     Returned,
-    /// The step enters a frame too many.
+    /// The step would enter one frame too many.
     Frames,
 }
 

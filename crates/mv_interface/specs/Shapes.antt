@@ -1,4 +1,4 @@
--- Of what the structs of a module are made.
+-- What the structs of a module are made of.
 --   IsPart modules m t part       a field of a type is made of this
 --   AreParts modules m fields parts  fields are made of these
 --   AreFieldsAt modules d parts   those of the struct at a place and an index are; or there is no such struct

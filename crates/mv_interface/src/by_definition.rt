@@ -59,7 +59,7 @@ fn are_types(structs: &[Definition], tokens: &[Token], kept: &[LinkedType]) -> b
     }
 }
 
-/// Whether the types of a signature, if it is there, are kept ones.
+/// Whether a signature is there and its types equal the kept ones, in order.
 pub fn is_signature(m: &Module<'_>, i: u16, structs: &[Definition], kept: &[LinkedType]) -> bool
     ensures { result ≡ option_map_or (λ ts. are_types structs.now ts kept.now) (slice_get m.now.signatures i) false }
 {

@@ -15,24 +15,24 @@ use mv_binary_format::{FunctionDefinition, Module};
 use mv_move_types::{Definition, Token};
 use std::alloc::{AllocError, Global};
 
-/// A type of a module in which a struct stands as where it is defined, so that types of two modules can be compared.
+/// A type of a module, with each struct given by where it is defined, so that types of two modules can be compared.
 #[derive(Clone, Copy)]
 pub enum LinkedType {
-    /// Of a value.
+    /// The type of a value.
     Plain(Part),
-    /// Of a reference to one.
+    /// An immutable reference to a value.
     Reference(Part),
-    /// Of a reference through which it may be written.
+    /// A mutable reference to a value.
     MutableReference(Part),
 }
 
-/// What is kept of a module beside its text and its code: all that is asked of it where others name it or run it, so that nothing
-/// reads its bytes again. Each list is in the order of the definitions.
+/// What is kept of a module besides its text and its code, so that nothing reads its bytes again. It answers all that is asked of
+/// the module when others name it or run it. Each list is in the order of the definitions.
 #[derive(Drop)]
 pub struct Interface {
     /// What others can name of it.
     pub outline: Outline,
-    /// Of what the fields of each struct are made.
+    /// What the fields of each struct are made of.
     pub parts: Lists<Part>,
     /// The types of each function's parameters.
     pub parameters: Lists<LinkedType>,
@@ -158,7 +158,11 @@ fn types_of(
 }
 
 impl Interface {
-    /// That of a module, with its outline; `structs` has where the struct of each of its struct handles is defined.
+    /// The interface of a module with this outline. `structs` says where the struct of each struct handle is defined.
+    ///
+    /// # Errors
+    ///
+    /// If an allocation failed.
     pub fn of(
         alloc: Global,
         outline: Outline,

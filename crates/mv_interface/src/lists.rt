@@ -54,7 +54,11 @@ impl<T: Copy> Lists<T> {
         }
     }
 
-    /// No lists, with room for so many of so many elements in all.
+    /// No lists, with room for `lists` lists of `elements` elements in all.
+    ///
+    /// # Errors
+    ///
+    /// If an allocation failed.
     pub fn with_capacity(alloc: Global, lists: usize, elements: usize) -> Result<Self, AllocError>
         ensures { IfOk result (λ l. l ≡ []) }
     {
@@ -79,7 +83,11 @@ impl<T: Copy> Lists<T> {
         Some(&self.all[span.first as usize..span.last as usize])
     }
 
-    /// Puts a list of at most 128 elements at the end.
+    /// Appends a list of at most 128 elements.
+    ///
+    /// # Errors
+    ///
+    /// If an allocation failed. Nothing is appended then.
     pub fn push(&mut self, one: &[T]) -> Result<(), AllocError>
         requires few { length self.old < 65536 }
         requires short { length one.now ≤ 128 }

@@ -28,7 +28,7 @@ impl<'a> Model for StructName<'a> {
 }
 
 impl<'a> StructName<'a> {
-    /// The struct of an identifier in the module of an address and an identifier.
+    /// The name of the struct `identifier` of the module `home` at `address`.
     pub fn new(address: Address, home: &'a [u8], identifier: &'a [u8]) -> Self
         ensures { result ≡ record { home = record { address = address; name = home.entry.now }; name = identifier.entry.now } }
     {
@@ -69,7 +69,7 @@ impl<'a> StructName<'a> {
             && self.identifier == other.identifier
     }
 
-    /// Whether two names have one identifier, whatever the modules.
+    /// Whether two structs have the same identifier, whatever their modules.
     pub fn has_identifier_of(&self, other: &StructName<'_>) -> bool
         ensures { result ≡ bytes_eq self.now.name other.now.name }
     {

@@ -271,7 +271,11 @@ impl Outline {
         }
     }
 
-    /// That of a module.
+    /// The outline of a module.
+    ///
+    /// # Errors
+    ///
+    /// If an allocation failed.
     pub fn of(alloc: Global, m: &Module<'_>) -> Result<Self, AllocError>
         ensures { IfOk result (λ o. InBounds m.now → IsOutline m.now o) }
     {

@@ -1,6 +1,6 @@
--- The search for the least closed flow. Blocks, which have their numbers in the order of the code, are visited one by one, of those that wait always the
--- one with the least number: the state that is stated of it is carried through it, and what comes out flows into its successors. A block whose stated
--- state rises waits again.
+-- The search for the least closed flow. Blocks are numbered in the order of the code. The waiting block with the least number is
+-- visited next: its stated state is carried through it, and the result flows into its successors. A block whose stated state rises
+-- waits again.
 -- First where a search stands, then a visit of a block, then whole searches from a start state, and how they end.
 --   Search, IsNext x k            what is stated and which blocks wait; and the block that is visited next
 --   Raises t old new              a state raises what is stated of a block

@@ -8,7 +8,7 @@ use crate::{Domain, Passage, StepError};
 use mv_cfg::{Block, Cfg};
 use std::alloc::Global;
 
-/// Carries what goes for a state through the instructions from `first` to `last`.
+/// Carries the passing form of a state through the instructions from `first` to `last`.
 pub(crate) fn pass_through<D: Passage>(
     alloc: Global,
     d: &D,
@@ -30,7 +30,7 @@ pub(crate) fn pass_through<D: Passage>(
     Ok(p)
 }
 
-/// Whether what goes for a state says that it is below each one that is stated for one of the blocks.
+/// Whether the state that `p` represents is below each state that is stated for one of the blocks.
 fn is_below_each<D: Passage>(
     d: &D,
     p: &D::Passing,
@@ -79,11 +79,11 @@ fn check_block<D: Passage>(
 }
 
 /// Accepts exactly the closed flows: the state that is stated for block 0 is above the start state, and each stated state
-/// is carried through its block, every need met, to a state that is below each one stated for a successor. States go through blocks in the form
-/// of their own.
+/// is carried through its block, every need met, to a state that is below each one stated for a successor. Within a block states
+/// are in their `Passing` form.
 ///
 /// # Errors
-/// `Need` for each other flow; `Memory` if an allocation failed.
+/// `Need` for any other flow; `Memory` if an allocation failed.
 pub fn check_flow_by_passage<D: Passage>(
     alloc: Global,
     d: &D,

@@ -4,21 +4,21 @@ ghost use Rattle.std.specs.Prelude.{◌≡◌, ◌<◌, ◌↔◌, Option, IsTru
 use crate::{Domain, StepError};
 use std::alloc::{AllocError, Global};
 
-/// A domain whose states go through a block in a form of their own, in which a step is cheap. What a flow is, and which one a search
-/// finds, is said by `Domain` alone.
+/// A domain whose states go through a block in a form of their own, in which a step is cheap. `Domain` alone determines what a flow
+/// is, and which one a search finds.
 pub trait Passage: Domain {
     /// A state on its way through a block.
     type Passing: Drop;
 
-    /// What is on its way goes for the state.
+    /// The passing form represents the state.
     ghost goes_for: { Self → Self.Passing → Self.State → Type 0 };
 
-    /// What goes for the state where its block begins.
+    /// The passing form of a state where its block begins.
     fn enter(&self, alloc: Global, s: &Self::State) -> Result<Self::Passing, AllocError>
         requires { Self.is_state self.now s.now }
         ensures { IfOk result (λ p. goes_for self.now p s.now) };
 
-    /// What the instruction at `at` makes of what goes for a state: it goes for what the instruction makes of that state.
+    /// Carries a passing form through the instruction at `at`: the result represents what the instruction makes of the state.
     ///
     /// # Errors
     /// `Need` where a need of the instruction fails of the state; `Memory` if an allocation failed.
@@ -29,13 +29,13 @@ pub trait Passage: Domain {
             → (t : Self.State) × ((Self.steps self.now at s ≡ Option.Some t) × goes_for self.now q t)) }
         ensures need { IsErrOf result StepError.Need → (s : Self.State) → Self.is_state self.now s → goes_for self.now p s → Self.steps self.now at s ≡ Option.None };
 
-    /// Whether what goes for a state says that the state is below another.
+    /// Whether the state that `p` represents is below `u`.
     fn is_under(&self, p: &Self::Passing, u: &Self::State) -> bool
         requires passing { (s : Self.State) × (Self.is_state self.now s × goes_for self.now p.now s) }
         requires state { Self.is_state self.now u.now }
         ensures { (s : Self.State) → Self.is_state self.now s → goes_for self.now p.now s → (IsTrue result ↔ Self.below self.now s u.now) };
 
-    /// The state for which this goes.
+    /// The state that the passing form represents.
     fn leave(&self, alloc: Global, p: Self::Passing) -> Result<Self::State, AllocError>
         requires { (s : Self.State) × (Self.is_state self.now s × goes_for self.now p s) }
         ensures { IfOk result (λ t. (s : Self.State) → Self.is_state self.now s → goes_for self.now p s → t ≡ s) };

@@ -319,14 +319,14 @@ pub fn solve_by_passage<D: Passage>(
     Ok(states)
 }
 
-/// The flow with which this search ends, which is the least closed flow above the start state (`search_is_least`). The start
-/// state is stated of block 0, which waits. Of the blocks that wait always the one with the least first instruction is
-/// visited, and waits no more; its state is carried through it. A successor's state that is not above what comes out is replaced
-/// by its join with that, and where none is stated what comes out is; then the successor waits.
+/// The flow with which this search ends: the least closed flow above the start state (`search_is_least`). The search begins with
+/// the start state stated for block 0, which waits. Of the blocks that wait, it always visits the one with the least first
+/// instruction, which then waits no more, and carries its state through it. If a successor's state is not above what comes out,
+/// it is replaced by their join; if a successor has no state, what comes out is stated for it. Then the successor waits.
 ///
 /// # Errors
-/// `Need` where the search comes to a block in which a need fails. `TooComplex` where it would visit a block a 257th time, or
-/// would state a state that does not meet `fits`, and not where what comes out is below a stated state, however large it is.
+/// `Need` if the search comes to a block in which a need fails. `TooComplex` if it would visit a block for the 257th time, or
+/// would state a state that does not meet `fits`; what comes out of a block may be of any size if it is below the stated state.
 /// `Memory` if an allocation failed.
 pub fn solve<D: Domain>(
     alloc: Global,
@@ -345,9 +345,9 @@ pub fn solve<D: Domain>(
     solve_by_passage(alloc, &Stepwise::of(d), g, start)
 }
 
-/// What a search ends with. Its flow is closed, of states that are small and with which a block may begin, and below every
-/// closed flow. Where a need ends it there is no closed flow. Where a limit does, some state with which a block may begin is too
-/// large, or 257 of them rise one after the other.
+/// How a search ends. Its flow is closed, and below every closed flow; its states are small, and a block may begin with each. If a
+/// need ends the search, there is no closed flow. If a limit ends it, some state with which a block may begin is too large, or 257
+/// of these states form an ascending chain.
 pub fn search_is_least<D: Domain>(d: &D, g: &Cfg, start: &D::State)
     requires graph { IsGraph g.now (D.size d.now) }
     requires same { D.is_graph d.now g.now }

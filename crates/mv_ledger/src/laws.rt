@@ -23,7 +23,8 @@ pub fn every_run_is_own_work()
     ensures { EveryRunIsOwnWork }
 {}
 
-/// In a run that returns, what is stored and unpacked after it is what was stored before and packed in it.
+/// A run that returns conserves the values of each struct with neither copy nor drop: those stored before and those packed are as
+/// many as those stored after and those unpacked.
 pub fn every_run_conserves()
     ensures { EveryRunConserves }
 {}
@@ -77,7 +78,7 @@ pub fn each_load_is_one()
     mv_binary_format::modules_are_read_by_text();
 }
 
-/// Whatever is loaded is, saved again, loaded as what it was.
+/// A loaded ledger, saved and loaded again, is the same ledger.
 pub fn each_load_is_saved()
     ensures { EachLoadIsSaved }
 {}
@@ -98,7 +99,7 @@ pub fn no_load_fails()
     mv_binary_format::modules_are_read_by_text();
 }
 
-/// What is saved of a ledger is never refused: loading it answers the ledger, or want of memory.
+/// The saved text of a ledger is never refused: loading it gives that ledger, unless an allocation fails.
 pub fn no_save_is_refused(ledger: &Ledger)
     ensures { NoSaveIsRefused (state_of ledger.now) }
 {

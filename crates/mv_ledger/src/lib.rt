@@ -49,15 +49,15 @@ use std::marker::Model;
 /// What the ledger answers to a record.
 #[derive(Clone, Copy)]
 pub enum Reply {
-    /// So many modules were published.
+    /// This many modules were published.
     Published(u64),
     /// The bundle fails this phase, and nothing changed.
     Refused(u8),
     /// The run was not begun, for this reason, and nothing changed.
     Rejected(u8),
-    /// A run was had, and ended so.
+    /// The run was executed, with this outcome.
     Ran(Outcome),
-    /// A growth was refused, and nothing changed.
+    /// An allocation failed, and nothing changed.
     Memory,
 }
 
@@ -70,9 +70,9 @@ impl Reply {
     }
 }
 
-/// The published modules, the stored values, the tallies of the structs with neither copy nor drop, and the number of runs
-/// had. Its model is what it holds, with values as their words; `state_of` is the state of the machine's ledger that it stands
-/// for, which is sound.
+/// The published modules, the stored values, the tallies of the structs with neither copy nor drop, and the number of runs so
+/// far. Its model is what it holds, with values as their words. `state_of` gives the machine's ledger that it stands for, which
+/// is sound.
 #[derive(Drop)]
 pub struct Ledger {
     alloc: Global,
@@ -162,11 +162,12 @@ impl Ledger {
         }
     }
 
-    /// Answers a show record with this payload: all that is stored, by ascending key. The text has a line for each, or all in one
-    /// line of JSON, each with a line end and without the record's number.
+    /// Answers a show record with this payload: all that is stored, by ascending key. The text has a line for each value and a last
+    /// line with their number, or one line of JSON. Each line has its line end, and none has the record's number.
     ///
     /// # Errors
-    /// `Phase(1)`, where the payload asks for no format; `Memory`, where an allocation failed.
+    ///
+    /// `Phase(1)` if the payload names no format; `Memory` if an allocation failed.
     pub fn show(&self, payload: &[u8]) -> Result<String, Refusal>
         ensures { RepliesText 3 payload.now result self.now }
     {
@@ -187,6 +188,10 @@ impl Ledger {
     }
 
     /// As `show`, but piece by piece: each is made when it is asked for.
+    ///
+    /// # Errors
+    ///
+    /// `Phase(1)` if the payload names no format.
     pub fn show_lines(&self, payload: &[u8]) -> Result<Lines<'_>, Refusal>
         ensures replies { Replies 3 payload.now (told_lines result) self.now self.now }
         // They are told in the format that the payload asks for.
@@ -203,8 +208,12 @@ impl Ledger {
         }
     }
 
-    /// As `audit`, but piece by piece: each is made when it is asked for. What is stored of a struct is known from its tally,
-    /// without a walk.
+    /// As `audit`, but piece by piece: each is made when it is asked for. How many values of a struct are stored is computed from
+    /// its tally, without a walk over the storage.
+    ///
+    /// # Errors
+    ///
+    /// `Phase(1)` if the payload names no format.
     pub fn audit_lines(&self, payload: &[u8]) -> Result<Lines<'_>, Refusal>
         ensures replies { Replies 4 payload.now (told_lines result) self.now self.now }
         // They are told in the format that the payload asks for.

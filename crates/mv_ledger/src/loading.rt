@@ -10,11 +10,11 @@ use mv_ledger_state::LoadError;
 use std::alloc::Global;
 
 impl Ledger {
-    /// The ledger that these bytes are the text of, in either form.
+    /// Loads a ledger from its text, in either form.
     ///
     /// # Errors
     ///
-    /// The first reason against them, `Head` to `Tally`; `Memory`, where a growth was refused.
+    /// The first reason against the bytes, `Head` to `Tally`; `Memory` if an allocation failed.
     pub fn load(alloc: Global, bytes: &[u8]) -> Result<Ledger, LoadError>
         ensures loaded { IfOk result (λ l. IsLoaded bytes.now (state_of l)) }
         ensures refused { IfErr result (IsLoadRefusal bytes.now) }
@@ -37,11 +37,11 @@ fn second_form(ledger: &Ledger) -> Result<Vec<u8>, LoadError>
     Ok(ledger.save()?)
 }
 
-/// The text, in the second form, of the ledger that these bytes are the text of, in either form.
+/// Converts the text of a ledger, in either form, to the second form.
 ///
 /// # Errors
 ///
-/// The first reason against them, `Head` to `Tally`; `Memory`, where a growth was refused.
+/// The first reason against the bytes, `Head` to `Tally`; `Memory` if an allocation failed.
 pub fn migrate(alloc: Global, old: &[u8]) -> Result<Vec<u8>, LoadError>
     ensures new { IfOk result (λ v. (s : LedgerState) × (IsLoaded old.now s × IsSavedText Second v.items s)) }
     ensures refused { IfErr result (IsLoadRefusal old.now) }

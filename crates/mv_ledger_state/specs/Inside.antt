@@ -1,7 +1,7 @@
--- How many values of a struct a value of another one is and has.
---   structs_within depth modules s name     how many of the struct s a value of the struct name has, itself included
+-- How many values of one struct a value of another contains, itself included.
+--   structs_within depth modules s name     how many values of the struct s a value of the struct name contains, itself included
 --   structs_under depth modules s d         the same of the struct at a place and an index
---   structs_in_parts depth modules s parts  how many the fields have that are made of these parts
+--   structs_in_parts depth modules s parts  how many the fields that are made of these parts contain
 use Rattle.std.specs.Prelude.{ℕ, zero, suc, ◌+◌, cond, List, [], ◌∷◌}
 use Rattle.std.specs.Option.{option_map_or}
 use Rattle.mv_move_types.specs.declared.tables.Definition.{Definition}

@@ -197,11 +197,11 @@ fn next_run<'a>(alloc: Global, reader: &mut Reader<'a>) -> Result<RunRecord<'a>,
     })
 }
 
-/// Reads the payload of a run record: a run that is asked for, and nothing after it.
+/// Reads the payload of a run record: the run that it asks for, and nothing after it.
 ///
 /// # Errors
 ///
-/// The phase of malformed bytes, where the payload is no such record's; `Memory`, where a growth was refused.
+/// `Phase(2)`, that of malformed bytes, if the payload isn't that of a run record; `Memory` if an allocation failed.
 pub fn read_run<'a>(alloc: Global, payload: &'a [u8]) -> Result<RunRecord<'a>, Refusal>
     ensures ok { IfOk result (λ r. IsShaped 2 payload.entry.now (Run (request_of r))) }
     ensures refused { result ≡ Err (Refusal.Phase 2) → IsShapeless 2 payload.entry.now }

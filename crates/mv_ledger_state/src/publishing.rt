@@ -115,13 +115,13 @@ fn asked_bundle<'a>(alloc: Global, payload: &'a [u8]) -> Result<Bundle<'a>, Refu
 }
 
 impl Published {
-    /// Publishes the bundle that a payload has, and says how many modules it has: they join those that are there, and each of their
-    /// structs with neither copy nor drop has the tally that it had, or an empty one.
+    /// Publishes the bundle in a payload, and returns how many modules it has. They join the published ones. Each of their structs
+    /// with neither copy nor drop keeps the tally that it had, or gets an empty one.
     ///
     /// # Errors
     ///
-    /// `Phase(1)`, where the payload is none of a publish record; else the first phase that fails; `Memory`, where a growth
-    /// was refused. Nothing changes then.
+    /// `Phase(1)` if the payload isn't that of a publish record; otherwise the first phase that fails; `Memory` if an allocation
+    /// failed. Nothing has changed in any of these cases.
     pub fn publish(&mut self, alloc: Global, payload: &[u8]) -> Result<u64, Refusal>
         ensures accepted { IfOk result (λ n. IsAcceptedBy n self.old.modules payload.now self.new.modules) }
         ensures tallied { OnOk result (AddsTallies self.old.modules self.new.modules (all_of self.old.tallies) (all_of self.new.tallies)) }

@@ -192,7 +192,11 @@ fn in_line(mut json: Vec<u8>) -> Result<Vec<u8>, AllocError>
     Ok(json)
 }
 
-/// A show of all that is stored.
+/// A show of all that is stored, as a line of JSON.
+///
+/// # Errors
+///
+/// If an allocation failed.
 pub fn json_of_storage(
     alloc: Global,
     store: &Store,
@@ -213,7 +217,11 @@ pub fn json_of_storage(
     }
 }
 
-/// An audit by these tallies, which stand module by module as the store's modules do.
+/// An audit of these tallies, one list for each module of the store in order, as a line of JSON.
+///
+/// # Errors
+///
+/// If an allocation failed.
 pub fn json_of_tallies(
     alloc: Global,
     store: &Store,

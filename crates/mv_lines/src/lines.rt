@@ -153,9 +153,9 @@ impl<'a> Left<'a> {
     }
 }
 
-/// The lines that a show or an audit has yet to tell, without their number and line end. They are told piece by piece, and each
-/// piece is made when it is asked for: a line of text is one piece, a line of JSON has one for each entry. Of the first line some
-/// pieces may be told already; the model then has the rest of it, and the format in which they are told.
+/// The lines that a show or an audit has yet to give, without their number and line end. They come piece by piece, and each
+/// piece is made when it is asked for: a line of text is one piece, and a line of JSON is its opening, one piece for each entry,
+/// and its end. Some pieces of the first line may have been given already. The model has the format, and what is left.
 #[derive(Drop)]
 pub struct Lines<'a> {
     alloc: Global,
@@ -224,7 +224,11 @@ impl<'a> Lines<'a> {
         }
     }
 
-    /// The next piece of the first line; none where all lines were told. Where an allocation failed, the same is left as before.
+    /// The next piece of the first line; None once all lines have been given.
+    ///
+    /// # Errors
+    ///
+    /// If an allocation failed. The same lines are left then.
     pub fn next_piece(&mut self) -> Result<Option<Piece>, AllocError>
         ensures piece { IfOk result (λ piece. MatchOption piece ((self.old.left ≡ []) × (self.new.left ≡ [])) (λ p. TakesPiece p.is_last p.text.items self.old.left self.new.left)) }
         // A line of text is one piece.
@@ -235,7 +239,11 @@ impl<'a> Lines<'a> {
         self.left.next(self.alloc)
     }
 
-    /// All lines as one text, each with its end.
+    /// All lines as one text, each with its line end.
+    ///
+    /// # Errors
+    ///
+    /// If an allocation failed.
     pub fn into_text(mut self) -> Result<String, AllocError>
         requires { IsUtf8 (ended self.left) }
         ensures { IfOk result (λ text. string_bytes text ≡ ended self.entry.left) }

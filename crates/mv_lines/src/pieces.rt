@@ -36,7 +36,11 @@ impl Piece {
         }
     }
 
-    /// Appends its bytes and, where the line ends behind it, a line end.
+    /// Appends its bytes and, if the line ends with it, a line end.
+    ///
+    /// # Errors
+    ///
+    /// If an allocation failed.
     pub fn put(&self, text: &mut Vec<u8>) -> Result<(), AllocError>
         ensures { OnOk result (text.new.items ≡ text.old.items ++ piece_text self.now.is_last self.now.text.items) }
     {

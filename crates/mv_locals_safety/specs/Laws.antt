@@ -1,4 +1,4 @@
--- The order is one, joins are least above both, and a step leaves one availability a local, and keeps the order.
+-- The order is a preorder, a join is a least state above both, and a step leaves one availability per local and keeps the order.
 -- It stands in specs/, since a trait's laws may cite nothing of their own crate but its specs/.
 use Rattle.std.specs.Prelude.{⊤, ◌≡◌, ℕ, List, [], ◌∷◌, Bool, true, false, IsTrue, Option, Some, None, length, slice_get, slice_set}
 use Rattle.std.specs.Bool.{then_some}

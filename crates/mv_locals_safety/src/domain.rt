@@ -158,7 +158,7 @@ impl<'t, 'm> LocalsDomain<'t, 'm> {
         self.code.get(at).copied()
     }
 
-    /// Makes of the availabilities what an instruction does.
+    /// Changes the availabilities as an instruction does.
     #[tactic(auto, unfolding(crate::specs::LocalsRules::locals_after))]
     fn apply(&self, instruction: Instruction, s: &mut Availabilities) -> Result<(), StepError>
         ensures { Follows result s.new (locals_after (point_at self.now.home self.now.function []) instruction s.old) }
@@ -174,7 +174,7 @@ impl<'t, 'm> LocalsDomain<'t, 'm> {
         }
     }
 
-    /// Makes of the availabilities what the instruction at a place does.
+    /// Changes the availabilities as the instruction at a place does.
     fn change(&self, s: &mut Availabilities, at: usize) -> Result<(), StepError>
         ensures ok { OnOk result (locals_step self.now.home self.now.function at s.old ≡ Option.Some s.new) }
         ensures need { IsErrOf result StepError.Need → locals_step self.now.home self.now.function at s.old ≡ Option.None }

@@ -13,8 +13,8 @@
 
 use mv_move_types::LeafKind;
 
-/// An argument of a run: a leaf, as its kind and its number. A bool is 0 or 1, an address the number that its 16 bytes
-/// are, the highest first; the signer of an entry function has the sender's address.
+/// An argument of a run: a leaf, as its kind and its number. A bool is 0 or 1, and an address is the number that its 16 bytes
+/// are in big-endian order. The signer of an entry function has the sender's address.
 #[derive(Clone, Copy, PartialEq, Eq, Debug)]
 pub struct Arg {
     pub kind: LeafKind,

@@ -1,4 +1,4 @@
--- What it is that entries are read exactly where their texts stand.
+-- What it means that entries are read exactly where their texts stand.
 use Rattle.std.specs.Prelude.{◌≡◌, ℕ, ◌≤◌, List, ◌++◌, length, flat_map, Bool, IsTrue, Some, ◌↔◌}
 use Rattle.std.specs.List.{list_all}
 use Rattle.mv_module_text.specs.Fits.{is_byte}

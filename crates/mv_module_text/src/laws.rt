@@ -13,7 +13,7 @@ ghost use Rattle.mv_module_text.specs.Parsing.{function_handle_from, field_handl
 ghost use Rattle.mv_module_text.specs.Parsing.{struct_definition_from, function_definition_from};
 ghost use Rattle.mv_module_text.specs.Laws.{StandsByText, StandAsTexts};
 
-/// An entry is read at the front of bytes, in each version, exactly where its text stands there and it may be written.
+/// In each version, an entry is read at the front of bytes exactly if its text stands there and the entry may be written.
 pub fn entries_stand_by_text()
     ensures indices { StandsByText index_from uleb is_index }
     ensures tokens { (version : ℕ) → StandsByText (token_from version) token_text (token_fits version) }
@@ -31,8 +31,8 @@ pub fn entries_stand_by_text()
     ensures functions { (version : ℕ) → StandsByText (function_definition_from version) function_definition_text (function_definition_fits version) }
 {}
 
-/// Bytes are read as a table's entries up to their end, in each version, exactly where they are the entries' texts and
-/// each may be written.
+/// In each version, bytes are read to their end as a table's entries exactly if they are the entries' texts and each entry
+/// may be written.
 pub fn tables_stand_as_texts()
     ensures module_handles { StandAsTexts module_handle_from module_handle_text module_handle_fits }
     ensures struct_handles { StandAsTexts struct_handle_from struct_handle_text struct_handle_fits }

@@ -62,7 +62,7 @@ impl<'a> Reader<'a> {
     /// Reads a ULEB128 number that is at most `max`.
     ///
     /// # Errors
-    /// [`Refusal::Phase`] with 2 if no such number is at the front, as each function here has it of what it reads. Then
+    /// [`Refusal::Phase`] with 2 if no such number is at the front; the other functions here refuse in the same way. Then
     /// nothing is known of what is left.
     #[inline(always)]
     pub fn number(&mut self, max: u64) -> Result<u64, Refusal>

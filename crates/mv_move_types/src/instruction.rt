@@ -64,7 +64,7 @@ pub enum Instruction {
     BitOr,
     /// The bits that both have.
     BitAnd,
-    /// The bits that one of them has.
+    /// The bits that exactly one of them has.
     Xor,
     /// Whether either is true.
     Or,
@@ -145,7 +145,7 @@ pub enum Immediate {
     Literal(Width, u128),
 }
 
-/// How control leaves an instruction that doesn't end the run.
+/// How control leaves an instruction, unless the run ends there.
 #[derive(Clone, Copy, PartialEq, Eq, Debug)]
 pub enum Exit {
     /// To the next instruction.

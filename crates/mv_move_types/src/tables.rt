@@ -14,7 +14,7 @@ pub struct ModuleHandle {
     pub name: u16,
 }
 
-/// A struct, by its module's handle and an identifier, and the abilities that it is said to have.
+/// A struct, by its module's handle and an identifier, with its declared abilities.
 #[derive(Clone, Copy, PartialEq, Eq, Debug)]
 pub struct StructHandle {
     pub module: u16,
@@ -22,7 +22,7 @@ pub struct StructHandle {
     pub abilities: super::Abilities,
 }
 
-/// A function, by its module's handle and an identifier, and the signatures that it is said to have.
+/// A function, by its module's handle and an identifier, with its declared signatures.
 #[derive(Clone, Copy, PartialEq, Eq, Debug)]
 pub struct FunctionHandle {
     pub module: u16,
@@ -52,7 +52,7 @@ pub struct Definition {
     pub index: u16,
 }
 
-/// An account's address: the number that its 16 bytes are, the highest first.
+/// An account's address: its 16 bytes as a big-endian number.
 pub type Address = u128;
 
 /// Where a value is stored: an address, and the struct by its module's place and its definition's index.

@@ -1,4 +1,4 @@
--- Fields, signatures, locals, constants and entry functions are as they may be.
+-- What fields, signatures, locals, constants and entry functions may be.
 --   may_be_field t            a field is no reference and no signer
 --   handle_is_small m h       at most 16 parameters and 8 results
 --   is_constant c             a constant is a leaf of exactly its length

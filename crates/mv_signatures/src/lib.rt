@@ -1,4 +1,4 @@
-//! Phase 5 of publishing: fields, signatures, numbers of locals, constants and entry functions are as they may be.
+//! Phase 5 of publishing: which fields, signatures, numbers of locals, constants and entry functions are allowed.
 //!
 //! ```
 //! use mv_move_types::Refusal;
@@ -28,11 +28,11 @@ use mv_bounds::Bounded;
 use mv_move_types::limits::{MOST_LOCALS, MOST_PARAMETERS, MOST_RESULTS};
 use mv_move_types::{FunctionHandle, LeafKind, Refusal, Token, ValueType, Width};
 
-/// Accepts exactly the modules whose rules of phase 5 hold.
+/// Accepts exactly the modules for which the rules of phase 5 hold.
 ///
 /// # Errors
 ///
-/// `Phase(5)`, where one of them fails.
+/// `Phase(5)` if one of them fails.
 pub fn check(m: &Bounded<'_>) -> Result<(), Refusal>
     ensures ok { OnOk result (WellSigned m.now) }
     ensures refused { IfErr result (IsRefusedIn 5 (WellSigned m.now)) }

@@ -2,8 +2,8 @@
 
 ghost use Rattle.mv_soundness.specs.Guided.Published.{RunsAreFaultless, StatesHold};
 
-/// Over a store of accepted modules and a typed storage no run of a typed call meets a fault, in any budget, and the
-/// storage that it returns is typed again.
+/// Over a store of accepted modules and a typed storage, no run of a typed call meets a fault, whatever its budget, and the
+/// storage that it returns is again typed.
 pub fn runs_are_faultless()
     ensures { RunsAreFaultless }
 {}

@@ -3,7 +3,7 @@
 //! Over accepted modules a typed state stays typed, and no step meets a fault of types or of links (`every_step_is_typed`).
 //! In every frame the edges of its certificate cover the live references, so what the rules on borrows call free is free.
 //! So no run meets a fault (`runs_are_faultless`), and each state that it comes to is as the certificates say (`states_hold`).
-//! A typed storage and its words give each other. That linked code over words does the same, `mv_interpreter` proves.
+//! A typed storage and its words determine each other. `mv_interpreter` proves that linked code over words does the same.
 //!
 //! ```
 //! use mv_soundness::runs_are_faultless;

@@ -59,12 +59,12 @@ impl StackEffect {
     }
 }
 
-/// Accepts function `f` exactly where in each of its blocks the stack is empty at the start and at the end, never has
-/// less than an instruction takes, and never more than 128 operands. `g` is the function's flow graph.
+/// Accepts function `f` exactly if, in each of its blocks, the stack is empty at the start and at the end, never holds fewer
+/// operands than an instruction takes, and never more than 128. `g` is the function's flow graph.
 ///
 /// # Errors
 ///
-/// `Phase(8)`, where one of these fails.
+/// `Phase(8)` if one of these fails.
 pub fn check(m: &Bounded<'_>, f: usize, g: &Cfg) -> Result<(), Refusal>
     requires function { f < length m.now.functions }
     requires graph { IfSome (slice_get m.now.functions f) (λ d. IsFlowGraph d.code g.now) }

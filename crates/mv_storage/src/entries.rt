@@ -28,7 +28,7 @@ impl<'a> Model for Entries<'a> {
 }
 
 impl<'a> Entries<'a> {
-    /// The words of the next value with its key; none where all were had.
+    /// The next value's key and words; None at the end.
     pub fn next(&mut self) -> Option<(Key, &'a [u128])>
         ensures { MatchOption result ((self.old ≡ []) × (self.new ≡ [])) (λ e. self.old ≡ record { key = e.0; words = e.1.now } ∷ self.new) }
     {

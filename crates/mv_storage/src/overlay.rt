@@ -13,9 +13,9 @@ use crate::{Storage, Value};
 use mv_move_types::Key;
 use std::alloc::{AllocError, Global};
 
-/// Storage that is lent to a run, which changes it. A contract sees what is committed, `storage.now.committed`, which the
-/// storage holds once the overlay is gone, and what the run has made of it by now, `storage.now.current`. What a call costs
-/// grows with the storage only as a search in it does, and the key that was looked up last needs no search.
+/// Storage that is lent to a run, which changes it. A contract sees `storage.now.committed`, which the storage holds once the
+/// overlay is gone, and `storage.now.current`, what the run has made of it so far. The cost of a call grows with the storage
+/// only as a search does, and the key that was looked up last needs no search.
 pub struct Overlay<'a> {
     pub(crate) storage: &'a mut Storage,
 }
@@ -52,7 +52,7 @@ impl Overlay<'_> {
         self.storage.allocator()
     }
 
-    /// Whether the run sees a value under a key. Where it is stands remembered, so that what follows with this key needs no
+    /// Whether the run sees a value under a key. The overlay remembers where it is, so that the next call with this key needs no
     /// search. Nothing else changes.
     #[inline(always)]
     pub fn recall(&mut self, key: &Key) -> bool
@@ -62,8 +62,8 @@ impl Overlay<'_> {
         self.storage.recall(key)
     }
 
-    /// The word at a place among those that the run sees under a key, if there is one. Where the value is stands remembered, so
-    /// that what follows with this key needs no search. Nothing else changes.
+    /// The word at a place among those that the run sees under a key, if there is one. The overlay remembers where the value is,
+    /// so that the next call with this key needs no search. Nothing else changes.
     #[inline(always)]
     pub fn word(&mut self, key: &Key, at: usize) -> Option<u128>
         ensures word { result ≡ option_and_then (λ words. slice_get words at) (words_under self.old.storage.now.current key.now) }
@@ -126,9 +126,13 @@ impl Overlay<'_> {
         storage.open(key, from, width, stored, lent)
     }
 
-    /// So many words from a place on, of those that the run sees under a key, to be read and written in place; None where nothing
-    /// is stored there. Once the loan is over, what the run sees is what it was with these words in their place. The first edit
-    /// of a committed value copies it. It fails only where memory runs out, and nothing changes then.
+    /// Lends `width` words from `offset` on, of those that the run sees under a key, to be read and written in place; None if
+    /// nothing is stored there. Once the loan is over, the run sees the value with the lent words as they are then. The first
+    /// edit of a committed value copies it.
+    ///
+    /// # Errors
+    ///
+    /// If an allocation failed. Nothing has changed then.
     pub fn edit(
         &mut self,
         key: &Key,
@@ -148,9 +152,12 @@ impl Overlay<'_> {
         refused(stored)
     }
 
-    /// Puts words in place of as many from a place on, of those that the run sees under a key, and says whether so many were
-    /// there; nothing changes where they were not. The first edit of a committed value copies it. It fails only where memory
-    /// runs out, and nothing changes then.
+    /// Overwrites the words from `from` on, of those that the run sees under a key, and returns whether it did. If there are too
+    /// few, or none, nothing changes. The first edit of a committed value copies it.
+    ///
+    /// # Errors
+    ///
+    /// If an allocation failed. Nothing has changed then.
     #[inline(always)]
     pub fn write(&mut self, key: &Key, from: usize, new: &[u128]) -> Result<bool, AllocError>
         ensures done { IfOk result (λ done. done ≡ is_some (option_and_then (spliced from new.now) (words_under self.old.storage.now.current key.now))) }
@@ -184,9 +191,12 @@ impl Overlay<'_> {
         self.storage.put(key, value)
     }
 
-    /// Puts a value under a key where the run sees none, and says whether it did; nothing changes where it did not. It is one
-    /// search, where a question whether anything is stored and a put are two. It fails only where memory runs out, and nothing
-    /// changes then.
+    /// Puts a value under a key if the run sees none there, and returns whether it did. Otherwise nothing changes. It takes one
+    /// search, where `exists` and `put` take two.
+    ///
+    /// # Errors
+    ///
+    /// If an allocation failed. Nothing has changed then.
     pub fn put_new(&mut self, key: Key, value: Value) -> Result<bool, AllocError>
         ensures done { IfOk result (λ done. done ≡ not (is_some (words_under self.old.storage.now.current key))) }
         ensures current { IfOk result (λ done. self.new.storage.now.current ≡ cond done (with_words self.old.storage.now.current key value) self.old.storage.now.current) }
@@ -197,8 +207,11 @@ impl Overlay<'_> {
         self.storage.put_new(key, value)
     }
 
-    /// Keeps what the run has made so far, and goes on from there. It takes no memory, so it doesn't fail. Where it failed,
-    /// overlay and storage would be as they were.
+    /// Commits what the run has made so far; the run goes on from there.
+    ///
+    /// # Errors
+    ///
+    /// None: it takes no memory and never fails. An error would leave overlay and storage as they were.
     pub fn commit(&mut self) -> Result<(), AllocError>
         ensures done { IsOk result }
         ensures committed { OnOk result (self.new.storage.now.committed ≡ self.old.storage.now.current) }

@@ -90,8 +90,7 @@ impl Places {
         }
     }
 
-    // The same by a search. The key is given in its parts, since a whole one would be put into memory on the way that is gone
-    // most.
+    // The same by a search. The key is passed in its parts, since a whole one would be spilled to memory on the common path.
     #[cold]
     #[inline(never)]
     fn search(

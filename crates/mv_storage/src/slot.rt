@@ -72,8 +72,9 @@ impl Versions {
     }
 }
 
-// No key's, with the next free place; of a key that the run has put and taken again; a committed value that the run has left
-// alone, with one leaf in place; one that the run has put where nothing was; or both versions of one that it has changed.
+// What a place holds. `Vacant`: no key, and the next free place. `Empty`: a key whose value the run has put and taken out again.
+// `One`, `Many`: a committed value that the run has left alone. `AddedOne`, `AddedMany`: a value that the run has put where none
+// was. `Changed`: both versions of a value that the run has changed. `One` and `AddedOne` have their single leaf in place.
 #[derive(Drop)]
 pub(crate) enum Slot {
     Vacant(usize),

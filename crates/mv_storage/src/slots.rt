@@ -35,7 +35,7 @@ fn note(
     note_any(slot, touched, *key, place)
 }
 
-// The same of any slot, apart from the way that is gone most.
+// The same for any slot, kept out of the common path.
 #[cold]
 #[inline(never)]
 fn note_any(
@@ -116,8 +116,8 @@ pub(crate) fn edit_in(
     )
 }
 
-// The same of any slot, apart from the way that is gone most, on which nothing is then left over from this one. The key is
-// given in its parts, since a whole one would be put into memory on that way.
+// The same for any slot, kept out of the common path, which then pays nothing for it. The key is passed in its parts, since a
+// whole one would be spilled to memory on that path.
 #[cold]
 #[inline(never)]
 fn edit_any(

@@ -114,8 +114,8 @@ fn flow_graphs(alloc: Global, m: &Bounded<'_>) -> Result<Vec<Cfg>, Refusal>
     Ok(graphs)
 }
 
-/// Accepts exactly the modules whose functions are well typed: the types before the instructions of each. The graphs are
-/// those of its functions.
+/// Accepts exactly the modules whose functions are well typed, and returns the types before the instructions of each. `graphs`
+/// are the functions' flow graphs.
 fn check_functions(
     alloc: Global,
     m: &Bounded<'_>,

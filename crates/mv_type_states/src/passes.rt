@@ -61,8 +61,8 @@ fn check_blocks(
     Ok(all)
 }
 
-/// Accepts function `f` exactly where each instruction of each block finds the types that it needs, and each block
-/// begins and ends with none: the types of the whole stack before each. `g` is the function's flow graph.
+/// Accepts function `f` exactly if each instruction of each block finds the types that it needs, and each block begins and
+/// ends with none; returns the types of the whole stack before each instruction. `g` is the function's flow graph.
 pub fn check_function(
     alloc: Global,
     m: &Bounded<'_>,

@@ -109,7 +109,7 @@ fn is_type(found: Token, wanted: Token) -> bool
     found == wanted
 }
 
-/// Puts a type in place of the topmost one, which has to be this one.
+/// Replaces the topmost type, which has to be `wanted`, with `given`.
 #[inline(always)]
 pub fn exchange(stack: &mut Vec<Token>, wanted: Token, given: Token) -> Result<(), Refusal>
     ensures types { Follows result (takes_gives (wanted ∷ []) (given ∷ []) (reverse stack.old.items)) (reverse stack.new.items) }
@@ -124,7 +124,7 @@ pub fn exchange(stack: &mut Vec<Token>, wanted: Token, given: Token) -> Result<(
     }
 }
 
-/// Puts a type in place of the two topmost ones, which both have to be this one.
+/// Replaces the two topmost types, which both have to be `wanted`, with `given`.
 #[inline(always)]
 pub fn exchange_two(stack: &mut Vec<Token>, wanted: Token, given: Token) -> Result<(), Refusal>
     ensures types { Follows result (takes_gives (wanted ∷ wanted ∷ []) (given ∷ []) (reverse stack.old.items)) (reverse stack.new.items) }

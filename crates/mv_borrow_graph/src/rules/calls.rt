@@ -23,7 +23,7 @@ use mv_move_types::{FunctionHandle, Node, Token};
 use std::alloc::{AllocError, Global};
 use std::marker::Model;
 
-/// Adds the heir at a place, if its type is a reference: a mutable one takes over of the mutable arguments, and another of all.
+/// Adds the heir at a place, if its type is a reference: a mutable one takes over from the mutable arguments, any other from all.
 fn push_heir<'a>(
     heirs: &mut Vec<Heir<'a>>,
     mutable: &'a [Node],

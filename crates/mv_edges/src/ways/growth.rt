@@ -70,7 +70,7 @@ impl WayGraph {
         }
     }
 
-    /// Adds a way, and says its place. More than there may be are as many as memory has no room for.
+    /// Adds a way, and returns its place. Beyond `MOST_WAYS` it fails as if an allocation had failed.
     pub(super) fn push_way(&mut self, way: Way) -> Result<usize, AllocError>
         requires below { IsTrue (goes_below (length self.old.ways) way) }
         requires known { IsTrue (is_known (length self.old.sources) way) }

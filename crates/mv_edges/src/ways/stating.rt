@@ -1,5 +1,5 @@
-// The odd cases, which no typed function meets: something that goes leads to what heirs take over. What leads to them is stated anew,
-// from sources that stay.
+// The odd cases, which no typed function meets: a reference that leads to itself is made one to a field, or a node that lends is
+// handed to a function. What leads to the new reference is listed before the nodes go, and then stated anew.
 ghost use Rattle.std.specs.Prelude.{◌≡◌, ◌++◌, ◌∷◌, [], length, map, flat_map, nat_lt, IfOk, OnOk, IsTrue};
 ghost use Rattle.std.specs.List.{list_all};
 ghost use Rattle.mv_move_types.specs.declared.borrow.Node.{Node as NodeRecord};

@@ -95,7 +95,8 @@ impl WayGraph {
         }
     }
 
-    /// The way of what a function returns that has some nodes. What it had from a function alone is handed on as it is.
+    /// The way of what a function returns when it is given some nodes. If these have a single way, and it leads to what a function
+    /// returned, that way is used again.
     fn returned(&mut self, alloc: Global, givers: &[Node]) -> Result<usize, AllocError>
         ensures more { OnOk result (HasMoreWays self.old self.new) }
         ensures kept { OnOk result (edges_of self.new ≡ edges_of self.old) }

@@ -30,7 +30,7 @@ use thiserror::Error;
 /// Why bytes are not loaded.
 #[derive(Clone, Copy, Debug, Error)]
 pub enum LoadError {
-    /// They begin with no head and list of modules.
+    /// They don't begin with a head and a list of modules.
     #[error("load refused 1")]
     Head,
     /// A module or its certificate fails one of phases 2 to 12.
@@ -39,13 +39,13 @@ pub enum LoadError {
     /// The modules are not linked.
     #[error("load refused 3")]
     Link,
-    /// What follows the modules is no text of a ledger with them.
+    /// What follows the modules isn't the rest of a text of a ledger with them.
     #[error("load refused 4")]
     Body,
-    /// The tallies are not those of what is stored.
+    /// The tallies don't agree with what is stored.
     #[error("load refused 5")]
     Tally,
-    /// A growth was refused.
+    /// An allocation failed.
     #[error("memory")]
     Memory,
 }
@@ -136,11 +136,11 @@ fn load_after(alloc: Global, reader: &mut Reader<'_>, head: &Head<'_>) -> Result
     })
 }
 
-/// What the ledger holds that these bytes are the text of, in either form.
+/// Loads what a ledger holds from its text, in either form.
 ///
 /// # Errors
 ///
-/// The first reason against them, `Head` to `Tally`; `Memory`, where a growth was refused.
+/// The first reason against the bytes, `Head` to `Tally`; `Memory` if an allocation failed.
 pub fn load(alloc: Global, bytes: &[u8]) -> Result<Loaded, LoadError>
     ensures whole { IfOk result (λ l. IsLedger l.published.modules l.storage.committed (all_of l.published.tallies) l.runs) }
     ensures loaded { IfOk result (λ l. IsLoaded bytes.now (state_of (view_of l.published.modules l.storage.committed (all_of l.published.tallies) l.runs))) }

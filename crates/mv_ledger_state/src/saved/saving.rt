@@ -383,7 +383,11 @@ fn room_for(store: &Store, tallies: &Tallies, rows: &[Vec<Section>]) -> usize {
     room
 }
 
-/// The text of a ledger with these parts.
+/// The text of a ledger with these parts, in the second form.
+///
+/// # Errors
+///
+/// If an allocation failed.
 pub fn text_of(
     alloc: Global,
     store: &Store,

@@ -30,7 +30,7 @@ impl<'a> Scope<'a> {
         Ok(all)
     }
 
-    /// Whether no module of the bundle takes the place of one that depends on less.
+    /// Whether each module of the bundle that replaces one depends on nothing that the replaced one didn't depend on.
     fn gains_nothing(&self, needed: &[Places]) -> bool
         requires fits { IsFitting self.now }
         requires needed { AreDependenciesIn (modules_in self.now) (offered self.now.new.now) needed.now }
@@ -63,8 +63,8 @@ impl<'a> Scope<'a> {
         }
     }
 
-    /// Whether no module depends on itself by a chain; `needed` has what the bundle's modules depend on. No other module is
-    /// looked at, unless one of the bundle takes the place of a module that depends on less.
+    /// Whether no module depends on itself by a chain. `needed` says what the bundle's modules depend on. Other modules are
+    /// looked at only if one of the bundle depends on something that the module that it replaces didn't depend on.
     pub fn is_ordered(&self, alloc: Global, needed: &[Places]) -> Result<bool, AllocError>
         requires few { length (modules_in self.now) ≤ 65536 }
         requires fits { IsFitting self.now }

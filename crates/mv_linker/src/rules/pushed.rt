@@ -1,4 +1,4 @@
-// One more at the end of a list, where the answer is a refusal.
+// `push` for functions that return `Refusal`.
 ghost use Rattle.std.specs.Prelude.{◌≡◌, ◌++◌, ◌∷◌, [], IfErr, OnOk};
 
 use mv_move_types::Refusal;

@@ -64,6 +64,10 @@ impl Places {
     }
 
     /// The set of these places, no longer than the highest of them needs.
+    ///
+    /// # Errors
+    ///
+    /// If an allocation failed.
     pub fn of(alloc: Global, places: &[usize]) -> Result<Self, AllocError>
         requires { All (λ p. p < 65536) places.now }
         ensures places { IfOk result (λ s. (p : ℕ) → (has s p ≡ true) ↔ Contains places.now p) }
@@ -82,7 +86,11 @@ impl Places {
         Ok(set)
     }
 
-    /// Puts a place.
+    /// Adds a place.
+    ///
+    /// # Errors
+    ///
+    /// If an allocation failed.
     pub fn insert(&mut self, place: usize) -> Result<(), AllocError>
         requires { place < 65536 }
         ensures places { OnOk result ((p : ℕ) → has self.new p ≡ (p == place || has self.old p)) }
@@ -116,7 +124,7 @@ impl Places {
         }
     }
 
-    /// A place of the set, from one on, that another one hasn't.
+    /// A place from `from` on that is in this set and not in the other.
     pub fn outside(&self, from: usize, other: &Places) -> Option<usize>
         ensures { MatchOption result (IsWithin from self.now other.now) (IsOutside from self.now other.now) }
     {

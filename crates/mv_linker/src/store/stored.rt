@@ -50,8 +50,8 @@ impl Store {
         Some(StructName::new(name.address, name.identifier.as_slice(), identifier))
     }
 
-    /// Of what the fields of the struct that the module at a place defines at an index are made, in order, if it is there. No
-    /// memory is taken, and no byte of the module is read.
+    /// What the fields of a struct are made of, in order, if the struct is there. It takes no memory, and reads no byte of the
+    /// module.
     pub fn fields(&self, d: Definition) -> Option<&[Part]>
         ensures fields { AreFieldsAt (tables_in self.now) d (option_map (λ p. p.now) result) }
         ensures store { IsStore self.now }

@@ -51,7 +51,7 @@ pub fn read(m: &Bounded<'_>, stack: &mut Vec<Token>) -> Result<(), Refusal>
     }
 }
 
-/// Takes a value, and a mutable reference to such a one, which may be dropped.
+/// Takes a mutable reference, and below it a value of the type that it refers to, which has to have drop.
 pub fn write(m: &Bounded<'_>, stack: &mut Vec<Token>) -> Result<(), Refusal>
     ensures types { Follows result (of_write m.now (reverse stack.old.items)) (reverse stack.new.items) }
     ensures phase { IfErr result (λ e. e ≡ Refusal.Phase 8) }

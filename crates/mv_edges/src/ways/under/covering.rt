@@ -1,4 +1,4 @@
-// Whether all is covered to which a label goes on from a way.
+// Whether a label at a way goes on only to covered labels.
 ghost use Rattle.std.specs.Prelude.{◌≡◌, ◌<◌, ◌↔◌, List, Some, length, slice_get, IsTrue};
 ghost use Rattle.mv_edges.specs.Edges.{Edge as EdgeRecord, Label as LabelRecord};
 ghost use Rattle.mv_edges.specs.Going.{AreCovered, AreNotes, IsRest, IsRising, LeadsTo, Stands, drawn};
@@ -19,7 +19,7 @@ fn drawn<'a>(way: &Way, rest: Rest<'a>) -> Standing<'a>
 }
 
 impl WayGraph {
-    /// Whether all is covered that goes on from a way to the reference's, where no open label is above the one that leads to it.
+    /// Whether the label at a way goes on only to covered labels at the reference's way. No open label is above it.
     #[cycle(covered)]
     pub(super) fn way_is_covered(&self, asked: &Asked<'_>, place: usize, rest: Rest<'_>) -> bool
         requires inside { place < length self.now.ways }

@@ -8,7 +8,7 @@ ghost use Rattle.mv_edges.specs.declared.ways.under.leading.Mark.{Mark as MarkRe
 
 use super::super::{Way, WayGraph};
 
-/// Where the copies and fields of a way are, and where another one of the way that it goes over is itself.
+/// A way's first copy or field, and its next sibling: the next copy or field of the way that it goes over.
 #[derive(Clone, Copy, Debug)]
 pub(super) struct Link {
     /// The first copy or field of it.
@@ -84,7 +84,7 @@ fn original(way: &Way) -> Option<usize>
     }
 }
 
-/// What a function had of which it returned something.
+/// The ways that a function was given, if this is the way of what it returned.
 fn given(way: &Way) -> &[usize]
     ensures { result.now ≡ given way.now }
 {

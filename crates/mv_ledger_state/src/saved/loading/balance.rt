@@ -113,8 +113,8 @@ fn are_all_counted(tallies: &Tallies, counts: &Counts, runs: u64) -> bool
     true
 }
 
-/// Whether the tallies are those of what is stored after so many runs: of each struct no more values were made than the runs
-/// can have made, and as many are stored, at any depth, as were made and not taken apart.
+/// Whether the tallies agree with what is stored after `runs` runs: of each struct, no more values were made than the runs can
+/// have made, and as many are stored, at any depth, as were made and not taken apart.
 pub fn are_tallied(
     alloc: Global,
     store: &Store,

@@ -13,9 +13,9 @@ use std::alloc::Global;
 /// The form of a saved ledger's text.
 #[derive(Clone, Copy)]
 pub enum SavedForm {
-    /// All counts of 16 bytes, and each value with its struct.
+    /// The tallies' counts have 16 bytes each, and each value names its struct.
     First,
-    /// Counts as short as they can be, and values struct by struct.
+    /// The tallies' counts are as short as they can be, and the values stand struct by struct.
     Second,
 }
 

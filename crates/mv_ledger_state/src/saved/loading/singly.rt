@@ -158,7 +158,7 @@ impl Published {
     ///
     /// # Errors
     ///
-    /// The first phase that the first of them fails that fails one; `Memory`, where a growth was refused.
+    /// The first phase that a module fails, of the first module that fails one; `Memory` if an allocation failed.
     fn publish_each(
         &mut self,
         alloc: Global,

@@ -1,13 +1,13 @@
-// Stubs: a module that names one which isn't published yet is published first as a module of its name that defines nothing. That
-// one keeps its place, until all that the module names is there and it takes that place itself.
+// Stubs: a module that names one that isn't published yet is first published as a stub, a module of the same name that defines
+// nothing. The stub holds its place until all that the module names is there. Then the module takes the place.
 use crate::payload::Offered;
 use mv_binary_format::Module;
 use mv_linker::{Store, module_name, name_of};
 use mv_move_types::Refusal;
 use std::alloc::{AllocError, Global};
 
-// How a stub's text begins: the magic bytes, version 5 and how many tables there are. The headers of two of them follow: of one
-// module handle and of one address.
+// How a stub's text begins: the magic bytes, version 5 and the number of tables. Their headers follow: of one module handle, of
+// one address, and of the identifiers but for its length.
 const BEGINNING: &[u8] = &[
     0xA1, 0x1C, 0xEB, 0x0B, 5, 0, 0, 0, 3, 0x01, 0, 2, 0x08, 2, 16, 0x07, 18,
 ];

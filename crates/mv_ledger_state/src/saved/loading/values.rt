@@ -11,7 +11,7 @@ use mv_move_types::{Definition, Key, LeafKind, Refusal};
 use mv_storage::{Overlay, Storage, Value};
 use std::alloc::{AllocError, Global};
 
-// After how many values those that were put are kept, so that the room for what is noted of each stays small.
+// After this many values, those put so far are committed, so that the overlay's notes of them take little room.
 const KEPT_AFTER: u64 = 4096;
 
 /// A value that is to be stored, with its key.
