@@ -45,7 +45,7 @@ pub put-requires : goal.put-requires
 put-requires c = joining-room _ _ _ _ _ _ _ c.loop-one.invariant c.in-Some.ensures.steps.0
 
 pub loop-one-preserved : goal.loop-one-preserved
-loop-one-preserved c = joining-next _ _ _ _ _ _ _ _ _ _ c.loop-one.invariant c.in-Some.ensures.steps.0 c.put.ensures.lists_of c.put.ensures.len c.put.ensures.capacity
+loop-one-preserved c = joining-next _ _ _ _ _ _ _ _ _ _ c.loop-one.invariant c.in-Some.ensures.steps.0 c.put.ensures.lists c.put.ensures.len c.put.ensures.capacity
 
 -- what the store and the tallies are then
 store-of : (c : In-None) → c.add.new.s ≡ with_modules c.self.inside.store (published_of c.args.news.items)
