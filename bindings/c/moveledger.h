@@ -22,7 +22,7 @@ enum moveledger_status {
     MOVELEDGER_TOO_COMPLEX = 3,    /* the search for a certificate reached its limits */
     MOVELEDGER_MEMORY = 4,         /* an allocation failed */
     MOVELEDGER_ARGUMENTS = 5       /* a null pointer where none is allowed, a `moveledger` that holds no ledger, an unknown form,
-                                      or a length above PTRDIFF_MAX; nothing was done */
+                                      or a length above PTRDIFF_MAX; no ledger, count or report changed */
 };
 
 /* What holds a ledger, or none: begin with {NULL}. The ledger is the library's own; never copy it to a second one that is used. */

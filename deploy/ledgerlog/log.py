@@ -5,12 +5,14 @@ from typing import Dict, Iterator, List, NamedTuple, Optional, Tuple
 from .errors import LogError, OtherHistory, Refused
 from .etcd import Etcd
 from .keys import Keys, number_in, numbered, size_in
-from .requests import Body, Entry, absent, after, equal, get, get_range, put, some_under, value_of
+from .requests import Body, Entry, absent, after, equal, get, get_range, put, there, value_of
 from .settings import Settings, settings_of
 from .written import MISSING, PIECES, Taken, count_of_pieces, counted_size, put_pieces, taken, written
 
 # A record takes two keys, and a transaction 128; 60 records with what stands under their keys are also within MOST_BYTES.
 MOST_APPENDED = 60
+# It compares at most 128 keys: the last number, the quota, and for each record its id and its pieces, of which a record has at most 32.
+MOST_COMPARED = 126
 MOST_READ = 100
 # No more records are taken at once when these have so many bytes.
 ENOUGH_BYTES = 8 << 20
@@ -85,9 +87,8 @@ class Log:
         """Puts records at the end, in this order, and gives their numbers, each when it is durable. A record whose id stands
         in the log already keeps the number that it has there. LogError where another record has the id, Refused at a quota."""
         last = self.last()
-        for at in range(0, len(offers), MOST_APPENDED):
-            part = Appending(self, offers[at:at + MOST_APPENDED], submitter, settings.quota_of(submitter))
-            numbers = part.put_after(last)
+        for part in parts_of(offers):
+            numbers = Appending(self, part, submitter, settings.quota_of(submitter)).put_after(last)
             last = max(last, *numbers)
             yield from numbers
 
@@ -135,6 +136,21 @@ class Log:
     def wait_for_replicas(self, revision: int, seconds: float) -> None:
         """Waits until a replica has put something after a revision, at most for so long."""
         self.etcd.wait(self.keys.by_replicas, after(self.keys.by_replicas), revision, seconds)
+
+
+def parts_of(offers: List[Offer]) -> Iterator[List[Offer]]:
+    """Records in parts, each of which one transaction can put."""
+    part: List[Offer] = []
+    compared = 0
+    for offer in offers:
+        more = 1 + count_of_pieces(offer.record)
+        if part and (len(part) == MOST_APPENDED or compared + more > MOST_COMPARED):
+            yield part
+            part, compared = [], 0
+        part.append(offer)
+        compared += more
+    if part:
+        yield part
 
 
 class Appending:
@@ -196,7 +212,7 @@ class Appending:
         self.take_over(found)
 
     def conditions(self, ids: List[bytes]) -> List[Body]:
-        pieces = [some_under(self.keys.pieces(offer.id)) for offer, _ in self.left if count_of_pieces(offer.record)]
+        pieces = [there(self.keys.piece(offer.id, at)) for offer, _ in self.left for at in range(count_of_pieces(offer.record))]
         last = numbered(self.last) if self.last else None
         return [*map(absent, ids), equal(self.keys.last, last), equal(self.keys.used(self.submitter), self.used), *pieces]
 

@@ -34,10 +34,9 @@ def none_between(first: bytes, end: bytes) -> Body:
     return {**absent(first), "range_end": coded(end)}
 
 
-def some_under(prefix: bytes) -> Body:
-    """A comparison: a key that begins so is there."""
-    return {"key": coded(prefix), "range_end": coded(after(prefix)), "target": "CREATE", "result": "GREATER",
-            "create_revision": "0"}
+def there(key: bytes) -> Body:
+    """A comparison: something stands there."""
+    return {**absent(key), "result": "GREATER"}
 
 
 def unchanged(key: bytes, revision: int) -> Body:

@@ -1,4 +1,5 @@
-"""Answers a whole log again and compares all that replicas have put: their lines, and the digests of their saves."""
+"""Answers a log again, as far as it isn't cleared, and compares what replicas have put: their lines, and the digest of the newest
+save that a majority has put."""
 
 import os
 import sys

@@ -12,8 +12,10 @@ from .store import LOG_ID, SET, Store, fill, made_log, run
 
 
 def large(size: int) -> bytes:
-    """A record with a payload of so many bytes, of which each has three bytes of length."""
-    return b"\2" + bytes([size & 127 | 128, size >> 7 & 127 | 128, size >> 14]) + bytes(size)
+    """A record with a payload of so many bytes, of a length in three bytes or in four."""
+    groups = [size >> shift & 127 for shift in (0, 7, 14, 21)]
+    length = groups if groups[3] else groups[:3]
+    return b"\2" + bytes([group | 128 for group in length[:-1]] + length[-1:]) + bytes(size)
 
 
 class Appending(unittest.TestCase):
@@ -49,7 +51,6 @@ class Appending(unittest.TestCase):
         self.assertEqual(self.store.get(self.log.keys.used("anyone")), str(2 * PIECE_BYTES).encode())
 
     def test_a_record_whose_pieces_were_cleared_meanwhile_gets_them_again(self) -> None:
-        record = large(INLINE_BYTES)
         store = self.store
         real = store.asked_put
 
@@ -59,9 +60,14 @@ class Appending(unittest.TestCase):
             store.there = {key: one for key, one in store.there.items() if not key.startswith(b"L/piece/")}
             return answer
 
-        setattr(store, "asked_put", put_and_lose)
-        self.assertEqual(self.put([Offer("x", record)]), [1])
-        self.assertEqual(self.taken()[0].record, record)
+        for name, record in ("x", large(INLINE_BYTES)), ("y", large(2 * PIECE_BYTES)):
+            setattr(store, "asked_put", put_and_lose)
+            number, = self.put([Offer(name, record)])
+            self.assertEqual(self.taken()[number - 1].record, record)
+
+    def test_large_records_are_put_in_parts(self) -> None:
+        offers = [Offer(f"x{at}", large(20 * PIECE_BYTES + at)) for at in range(7)]
+        self.assertEqual(self.put(offers), [1, 2, 3, 4, 5, 6, 7])
 
     def test_a_quota_is_kept(self) -> None:
         self.log = made_log(self.store, quota=12, quotas={"rich": 0})
