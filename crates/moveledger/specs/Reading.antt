@@ -1,5 +1,5 @@
 -- What was read of a record.
---   piece_limit                the most bytes of a payload that room is made for before they are read
+--   piece_limit                the most bytes of a payload that are read at once
 --   NoLength bytes             no length stands at the front
 --   IsLengthBegun bytes        a part of a length, that needs more bytes
 --   LengthFails bytes          bytes that stand in the place of a length, up to its end, and are none
@@ -12,7 +12,7 @@ use Rattle.mv_uleb.specs.Uleb.{IsUleb, AreHigh}
 use Rattle.mv_move_types.specs.Limits.{most_payload_bytes}
 use Rattle.moveledger.specs.Records.{Record, Whole, Cut, IsText}
 
--- the most bytes of a payload that room is made for before they are read
+-- the most bytes of a payload that are read at once
 abbrev pub piece_limit : ℕ
 piece_limit = 65536
 

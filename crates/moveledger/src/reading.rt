@@ -73,11 +73,11 @@ fn read_length<R: Read>(reader: &mut R) -> Result<Option<u64>, EngineError>
     Ok(None)
 }
 
-/// The most bytes of a payload that room is made for before they are read.
+/// The most bytes of a payload that are read at once.
 const PIECE: usize = 65_536;
 
-/// How many bytes of a payload are read next, where so many are missing. Room is made for these alone: what a record says of
-/// its length takes no memory before the bytes come.
+/// How many bytes of a payload are read next, where so many are missing. The buffer grows only for these, whatever length the
+/// record states; where it grows, it may double.
 fn piece_of(missing: usize) -> usize
     ensures { result ≡ min missing piece_limit }
 {

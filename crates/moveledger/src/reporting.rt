@@ -27,7 +27,7 @@ pub fn report<R: Read, W: Write + Drop, A: AfterRecord<R, BufWriter<W>>>(
         (λ e. IsDoneUntil R.remaining (writer_contents W.contents) A.does (R.remaining reader.old) (writer_contents W.contents writer.old)
         ledger.old (R.remaining reader.new) e after.old after.new)
         result }
-    // Where it ended well, or by a failed read, nothing waits to be written.
+    // Unless a write failed, nothing waits to be written.
     ensures flushed { result ≢ End.Write → writer_buffer writer.new ≡ [] }
 {
     let answered = answer_all(reader, writer, ledger, after);

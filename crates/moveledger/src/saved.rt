@@ -107,8 +107,8 @@ pub fn text_to_keep(end: End, ledger: &Ledger) -> Result<Vec<u8>, End>
     }
 }
 
-/// How the program ends after a text was to be kept. `keep` is called with the text, and its end counts. If there is no text, it
-/// isn't called.
+/// How the program ends after a text was to be kept. `keep` is called with the text, and its end counts. If there is no text, that
+/// end counts.
 pub fn end_of_text<F: FnOnce(&[u8]) -> Result<(), KeepError>>(
     text: Result<Vec<u8>, End>,
     keep: F,

@@ -1,6 +1,6 @@
 //! The ledger as a static library for C: `bindings/c/moveledger.h` declares its calls.
 //!
-//! Each call tests its arguments, makes one call of the libraries below, and states the clauses of that call again. What owns
+//! Each call tests its arguments, makes one call of the libraries below, and states what that call does by its clauses. What owns
 //! memory goes to C as a pointer in a struct of C's own: a ledger in a `Holder`, bytes in a `Bytes`.
 #![tactic(auto)]
 

@@ -15,5 +15,5 @@ pub const TOO_COMPLEX: i32 = 3;
 /// An allocation failed.
 pub const MEMORY: i32 = 4;
 
-/// An argument is invalid, and nothing was done.
+/// An argument is invalid, and no ledger, count or report changed.
 pub const ARGUMENTS: i32 = 5;

@@ -41,7 +41,7 @@ EachSaveIsLoaded = (form : Form) (s : LedgerState) → IsSoundLedger s → IsSav
 abbrev pub EachLoadIsSound : Type 0
 EachLoadIsSound = (bytes : List ℕ) (s : LedgerState) → IsLoaded bytes s → IsSoundLedger s × IsSavable s
 
--- bytes are loaded as one ledger at most, and none that are loaded fail
+-- bytes are loaded as one ledger at most
 abbrev pub EachLoadIsOne : Type 0
 EachLoadIsOne = (bytes : List ℕ) (s t : LedgerState) → IsLoaded bytes s → IsLoaded bytes t → s ≡ t
 
