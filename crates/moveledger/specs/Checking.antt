@@ -58,7 +58,8 @@ FailsAlone bytes phase = (certificate : List ℕ) → FailsAt (offer_of bytes ce
 pub data FailsWith (bytes digits : List ℕ) : ℕ → Type 0 where
   in_module : (phase : ℕ) → FailsAlone bytes phase → FailsWith bytes digits phase
   not_hexadecimal : (m : Module) → Spells bytes m → IsSound m → ((certificate : List ℕ) → ¬ IsHexadecimal digits certificate) → FailsWith bytes digits 9
-  in_certificate : (certificate : List ℕ) (phase : ℕ) → IsHexadecimal digits certificate → FailsAt (offer_of bytes certificate) phase → FailsWith bytes digits phase
+  in_certificate : (certificate : List ℕ) (phase : ℕ)
+      → IsHexadecimal digits certificate → FailsAt (offer_of bytes certificate) phase → FailsWith bytes digits phase
 
 -- the module and the text are within their limits, and the module passes with the digits before the text's line end
 abbrev pub IsAccepted : List ℕ → List ℕ → Type 0

@@ -26,7 +26,8 @@ pub record GoesOn (before : ℕ) (given held holds : Option (List ℕ)) (old new
 
 -- So many were answered before, and n are now: whole records, all lines of which were written. Some bytes behind them were read, of
 -- which there is this to say.
-pub record StopsAfterWith (Last : ℕ → List ℕ → List ℕ → LedgerView → LedgerView → List ℕ → Type 0) (before : ℕ) (given gives held holds : Option (List ℕ)) (old new : LedgerView) (n : ℕ) : Type 0 where
+pub record StopsAfterWith (Last : ℕ → List ℕ → List ℕ → LedgerView → LedgerView → List ℕ → Type 0)
+    (before : ℕ) (given gives held holds : Option (List ℕ)) (old new : LedgerView) (n : ℕ) : Type 0 where
   pub whole : List ℕ
   pub took : List ℕ
   pub records : List Record

@@ -69,14 +69,16 @@ Finished n took left old new part = (r : Record) × (lines : List (List ℕ)) ×
 
 -- Where it stopped behind whole records, at the record of this number: after a part of it was read; after it was read, before anything
 -- was done with it; or while it was being answered, of which Within says what was written.
-pub data StopsAt (Within : ℕ → List ℕ → List ℕ → LedgerView → LedgerView → List ℕ → Type 0) (n : ℕ) (took left : List ℕ) (old new : LedgerView) (part : List ℕ) : Type 0 where
+pub data StopsAt (Within : ℕ → List ℕ → List ℕ → LedgerView → LedgerView → List ℕ → Type 0)
+    (n : ℕ) (took left : List ℕ) (old new : LedgerView) (part : List ℕ) : Type 0 where
   part_of_a_record : IsUnfinished took → new ≡ old → part ≡ [] → StopsAt Within n took left old new part
   read_and_nothing_done : (r : Record) → IsTaken took left r → new ≡ old → part ≡ [] → StopsAt Within n took left old new part
   being_answered : Within n took left old new part → StopsAt Within n took left old new part
 
 -- What was read is whole records, and some bytes behind them of which there is this to say. All lines of the whole records
 -- were written, and what is said of the others. The ledger is as the whole records left it, and then as is said.
-pub record StopsWith (Last : ℕ → List ℕ → List ℕ → LedgerView → LedgerView → List ℕ → Type 0) (given gives held holds : Option (List ℕ)) (old new : LedgerView) : Type 0 where
+pub record StopsWith (Last : ℕ → List ℕ → List ℕ → LedgerView → LedgerView → List ℕ → Type 0)
+    (given gives held holds : Option (List ℕ)) (old new : LedgerView) : Type 0 where
   pub whole : List ℕ
   pub took : List ℕ
   pub records : List Record

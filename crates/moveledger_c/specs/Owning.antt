@@ -29,5 +29,6 @@ IsListOf at n xs v = (v.items ≡ xs) × (vec_ptr v ≡ at) × (vec_len v ≡ n)
 
 -- these bytes, so many, at the first pointer, in a list that is on the heap at the second; or none, where that is null
 abbrev pub holds_bytes : Ptr → ℕ → Ptr → List ℕ → Fml
-holds_bytes at n (block_ptr b o) xs = fex Global (λ a. fex (Vec ℕ) (λ v. fsep (holds (IsListOf at n xs v)) (box_owns (ghosts.dealloc_token a) (vec.the_row u8 heap.the_row ghosts) (block_ptr b o) v)))
+holds_bytes at n (block_ptr b o) xs = fex Global (λ a. fex (Vec ℕ) (λ v.
+    fsep (holds (IsListOf at n xs v)) (box_owns (ghosts.dealloc_token a) (vec.the_row u8 heap.the_row ghosts) (block_ptr b o) v)))
 holds_bytes at n null_ptr xs = holds ((xs ≡ []) × (n ≡ 0))

@@ -56,7 +56,8 @@ pub record HoldsAt (P : FunctionDefinition → Cfg → Type 0) (m : Module) (f :
 -- visited a 257th time, or a state that it would state for a block has more than 1,024 edges or a label of more than 8 positions.
 module _ (m : Module) where
   abbrev pub HasEdges : FunctionDefinition → Cfg → Type 0
-  HasEdges d g = (flow : List (Option (List Edge))) × EndsWith (λ s. IsTrue (are_few s)) (λ a b. IsTrue (edges_leq a b)) (λ a b. sorted (a ++ b)) (edges_step m d) g [] flow
+  HasEdges d g = (flow : List (Option (List Edge)))
+      × EndsWith (λ s. IsTrue (are_few s)) (λ a b. IsTrue (edges_leq a b)) (λ a b. sorted (a ++ b)) (edges_step m d) g [] flow
 
   abbrev pub LacksEdges : FunctionDefinition → Cfg → Type 0
   LacksEdges d g = MeetsNeed (λ s. IsTrue (are_few s)) (λ a b. IsTrue (edges_leq a b)) (λ a b. sorted (a ++ b)) (edges_step m d) g []

@@ -11,8 +11,8 @@ use Rattle.mv_move_types.specs.declared.token.Token.{Token}
 use Rattle.mv_move_types.specs.declared.borrow.Node.{Node}
 use Rattle.mv_move_types.specs.declared.borrow.Node.TheVariants.{Slot, Own, Glob, Temp}
 use Rattle.mv_edges.specs.Edges.{Edge, same_node, out_of}
-use Rattle.mv_edges.specs.Between.{any_between}
-use Rattle.mv_edges.proofs.Between.{any_at_all, list_any-filter}
+use Rattle.mv_ways.specs.Between.{any_between}
+use Rattle.mv_edges.proofs.Any.{any_at_all, list_any-filter}
 use Rattle.mv_borrow_graph.specs.BorrowRules.{is_mutable_token, no_edge_out, reference_nodes}
 use Rattle.mv_borrow_graph.specs.Calls.{AreMarks, is_marked, needed_free}
 

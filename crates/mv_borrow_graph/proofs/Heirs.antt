@@ -4,7 +4,7 @@ use Rattle.std.proofs.lemmas.List.{drop_more, drop_all}
 use Rattle.mv_move_types.specs.declared.borrow.Node.{Node}
 use Rattle.mv_move_types.specs.declared.token.Token.{Token}
 use Rattle.mv_edges.specs.Edges.{Edge}
-use Rattle.mv_edges.specs.Graph.{Heir, taken_over}
+use Rattle.mv_ways.specs.Graph.{Heir, taken_over}
 use Rattle.mv_borrow_graph.specs.BorrowRules.{result_edges}
 use Rattle.mv_borrow_graph.proofs.Rows.{result_edges-first}
 

@@ -11,7 +11,8 @@
 --   return_edges p                               Ret: no result leads into what the frame or the storage holds, or into a mutable result
 --   edges_after p i edges                        phase 11: the edges after an instruction, if those before it are what it needs
 -- The others are parts of these. Within a block the edges are held otherwise: decision 52.
-use Rattle.std.specs.Prelude.{ℕ, ◌+◌, ◌-◌, Bool, true, false, not, ◌&&◌, ◌||◌, ◌==◌, List, [], ◌∷◌, ◌++◌, filter, flat_map, length, reverse, Option, Some, slice_get, if◌then◌else◌}
+use Rattle.std.specs.Prelude.{ℕ, ◌+◌, ◌-◌, Bool, true, false, not, ◌&&◌, ◌||◌, ◌==◌, List, [], ◌∷◌, ◌++◌}
+use Rattle.std.specs.Prelude.{filter, flat_map, length, reverse, Option, Some, slice_get, if◌then◌else◌}
 use Rattle.std.specs.Bool.{then_some}
 use Rattle.std.specs.List.{list_all, list_any}
 use Rattle.std.specs.Option.{option_map_or}

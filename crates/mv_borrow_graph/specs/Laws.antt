@@ -46,7 +46,8 @@ ordered_ascend None b e = cc
 ordered_ascend (Some edges) b e = let same : sorted edges ≡ b = cc in subst (λ es. are_ascending es ≡ true) same (ascending-sorted edges)
 
 pub edges_lawful : (m : Module) (d : FunctionDefinition)
-    → IsLawful (length d.code) (λ s. IsTrue (are_ascending s)) (λ s. IsTrue (may_begin_with m d s)) (λ a b. IsTrue (edges_leq a b)) (λ a b. sorted (a ++ b)) (edges_step m d) (IsGraphOf m d)
+    → IsLawful (length d.code) (λ s. IsTrue (are_ascending s)) (λ s. IsTrue (may_begin_with m d s))
+    (λ a b. IsTrue (edges_leq a b)) (λ a b. sorted (a ++ b)) (edges_step m d) (IsGraphOf m d)
 edges_lawful m d = record {
   reflexive = λ a _. edges_leq_itself a;
   transitive = λ a b c _ _ _ p q. edges_leq-transitive a b c p q;

@@ -5,9 +5,9 @@ ghost use Rattle.mv_edges.specs.Edges.{here, an_edge, without};
 ghost use Rattle.mv_edges.specs.Ascending.{are_ascending};
 ghost use Rattle.mv_borrow_graph.specs.Domain.{Follows, ordered};
 
-use mv_edges::Graph;
 use mv_lattice::StepError;
 use mv_move_types::Node;
+use mv_ways::Graph;
 
 /// Leaves the edges as they are.
 #[tactic(auto, using(crate::proofs::Rows::kept_order))]

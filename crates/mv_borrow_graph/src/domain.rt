@@ -11,11 +11,12 @@ ghost use Rattle.mv_borrow_graph.specs.Nodes.{are_few as few};
 use super::site::{Site, leaves_edges};
 use mv_binary_format::FunctionDefinition;
 use mv_bounds::Bounded;
-use mv_edges::{Edge, Edges, Graph};
+use mv_edges::{Edge, Edges};
 use mv_lattice::{Domain, Passage, StepError};
 use mv_move_types::limits::{MOST_EDGES, MOST_POSITIONS};
 use mv_move_types::{Instruction, Node};
 use mv_type_states::{StackTypes, Typed};
+use mv_ways::Graph;
 use std::alloc::{AllocError, Global};
 use std::marker::Model;
 

@@ -7,8 +7,8 @@ ghost use Rattle.mv_borrow_graph.specs.BorrowRules.{is_mutable_token, no_edge_ou
 ghost use Rattle.mv_borrow_graph.specs.Calls.{AreMarks, is_marked, needed_free};
 
 use crate::nodes::is_mutable_reference;
-use mv_edges::{All, Graph, NodeSet};
 use mv_move_types::{Node, Token};
+use mv_ways::{All, Graph, NodeSet};
 use std::marker::Model;
 
 /// How many acquired globals are looked through one by one. Where there are more, each global is looked up among marks.

@@ -5,8 +5,8 @@ ghost use Rattle.mv_move_types.specs.declared.borrow.Node.TheVariants.{Glob};
 ghost use Rattle.mv_borrow_graph.specs.BorrowRules.{is_mutable_token, is_reference_token, is_root_node, is_temp, no_edge_out, reference_nodes};
 ghost use Rattle.mv_borrow_graph.specs.Domain.{is_picked};
 
-use mv_edges::Graph;
 use mv_move_types::{Node, Token};
+use mv_ways::Graph;
 use std::alloc::{AllocError, Global};
 
 /// Whether a type is a mutable reference.

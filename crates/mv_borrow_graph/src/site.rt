@@ -13,9 +13,9 @@ use crate::changes::{keep, release};
 use crate::nodes::{is_free, is_mutable_reference};
 use mv_binary_format::FunctionDefinition;
 use mv_bounds::Bounded;
-use mv_edges::{Graph, NodeSet, One};
 use mv_lattice::StepError;
 use mv_move_types::{Instruction, Node, Token};
+use mv_ways::{Graph, NodeSet, One};
 use std::alloc::Global;
 use std::marker::Model;
 

@@ -5,7 +5,8 @@
 --   Holds m i j                       a chain of fields leads from one struct into another
 --   WellDefined m                     phase 4: no entry stands twice, own handles are defined once, and no struct contains itself
 -- same_constant and defined_by are parts of these. How cycles are found: decision 28.
-use Rattle.std.specs.Prelude.{Bool, true, not, ◌&&◌, List, [], ◌∷◌, ℕ, zero, suc, ◌==◌, cond, count_by, slice_get, Option, None, ◌≡◌, Some, Contains, nat_lt, IsTrue, map, length}
+use Rattle.std.specs.Prelude.{Bool, true, not, ◌&&◌, List, [], ◌∷◌, ℕ, zero, suc, ◌==◌, cond, count_by, slice_get}
+use Rattle.std.specs.Prelude.{Option, None, ◌≡◌, Some, Contains, nat_lt, IsTrue, map, length}
 use Rattle.std.specs.List.{list_any, list_all}
 use Rattle.std.specs.Option.{option_map_or}
 use Rattle.std.specs.Str.{bytes_eq}

@@ -9,7 +9,8 @@
 --   all_locals_hold, all_edges_hold m c   phase 10, and phase 11: for every function (why one after the other: decision 17)
 --   certificate_holds m c                 the certificate holds of the module
 -- The others are parts of these.
-use Rattle.std.specs.Prelude.{List, Bool, ◌&&◌, Option, Some, ◌+◌, [], ◌∷◌, slice_range, ℕ, ◌==◌, find, option_and_then, None, false, true, zip, map, option_map}
+use Rattle.std.specs.Prelude.{List, Bool, ◌&&◌, Option, Some, ◌+◌, [], ◌∷◌, slice_range, ℕ, ◌==◌}
+use Rattle.std.specs.Prelude.{find, option_and_then, None, false, true, zip, map, option_map}
 use Rattle.std.specs.Option.{option_map_or}
 use Rattle.std.specs.List.{list_all}
 use Rattle.mv_move_types.specs.declared.borrow.Availability.{Availability}

@@ -20,7 +20,8 @@ IsReadAt m f bytes rest stated = (d : FunctionDefinition) → slice_get m.functi
 -- bytes begin with the text of nothing that fits the function at a place
 abbrev pub IsUnreadAt : Module → ℕ → List ℕ → Type 0
 IsUnreadAt m f bytes =
-    (d : FunctionDefinition) → slice_get m.functions f ≡ Some d → (stated : Stated) (rest : List ℕ) → bytes ≡ flat_map stated_text stated ++ rest → StatedFits m d stated → ⊥
+    (d : FunctionDefinition) → slice_get m.functions f ≡ Some d → (stated : Stated) (rest : List ℕ)
+    → bytes ≡ flat_map stated_text stated ++ rest → StatedFits m d stated → ⊥
 
 -- what is stated fits the function at a place
 abbrev pub FitsAt : Module → ℕ → Stated → Type 0

@@ -24,7 +24,8 @@ known_fits m d known =
 -- a state is stated exactly where the block is reached, and fits
 pub record StatedFits (m : Module) (d : FunctionDefinition) (stated : Stated) : Type 0 where
   pub long : length stated ≡ length (blocks d.code)
-  pub marks : (i : ℕ) (b : BasicBlock) (k : Option Known) → slice_get (blocks d.code) i ≡ Some b → slice_get stated i ≡ Some k → IsSome k ↔ IsReached d.code b.first
+  pub marks : (i : ℕ) (b : BasicBlock) (k : Option Known) → slice_get (blocks d.code) i ≡ Some b → slice_get stated i ≡ Some k
+      → IsSome k ↔ IsReached d.code b.first
   pub fits : IsTrue (list_all (λ k. option_map_or (known_fits m d) k true) stated)
 
 -- what is stated fits, function by function

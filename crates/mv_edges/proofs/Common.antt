@@ -22,13 +22,11 @@ pub use Rattle.std.specs.Vec.{with_items}
 pub use Rattle.mv_move_types.specs.Paths.{begins}
 pub use Rattle.mv_move_types.specs.declared.borrow.Node.{Node}
 pub use Rattle.mv_move_types.specs.declared.borrow.Node.TheVariants.{Glob, Own, Slot, Temp}
-pub use Rattle.mv_edges.specs.Ascending.{are_ascending, edge_before, edge_order, label_before, list_before, node_code, nodes_code}
-pub use Rattle.mv_edges.specs.Between.{agrees_if, any_between, but_at, composed, is_here}
+pub use Rattle.mv_edges.specs.Ascending.{IsRising, are_ascending, edge_before, edge_order, label_before, list_before, node_code, nodes_code}
 pub use Rattle.mv_edges.specs.Counts.{IsCounted, IsWithin, counted}
 pub use Rattle.mv_edges.specs.Edges.{Edge, Label, agrees, an_edge, but_out_of, changed, edge_leq, edges_leq, extended, here, inherited, into, label_leq, longest, opened, without_each}
-pub use Rattle.mv_edges.specs.Edges.{opened_at, out_of, renamed, renamed_node, same_edge, same_node, without}
+pub use Rattle.mv_edges.specs.Edges.{agrees_if, composed, is_here, leads_between, opened_at, out_of, renamed, renamed_node, same_edge, same_node, without}
 pub use Rattle.mv_edges.specs.Equality.{same_edge_decides, same_node_decides}
-pub use Rattle.mv_edges.specs.Graph.{Heir, taken_over}
 pub use Rattle.mv_edges.specs.Joins.{IsJoin}
 pub use Rattle.mv_edges.specs.Related.{edge_related, edges_related}
 pub use Rattle.mv_edges.specs.Sorted.{inserted, sorted}

@@ -81,11 +81,6 @@ sorted-append_sorted es fs =
       λ c. elim (Contains-append_cases es fs z c) [ inl d ↦ Contains-append_left es (sorted fs) z d | inr d ↦ Contains-append_right es (sorted fs) z ((contains-sorted fs z).1 d) ],
     ))
 
--- a list of no length
-pub none-left : (es : List Edge) → length es ≡ 0 → es ≡ []
-none-left [] h = refl
-none-left (x ∷ es) h = absurd (omega (arith, h))
-
 -- of two ascending lists, the head of the left one comes first
 pub sorted_left_first : (a b : Edge) (es fs : List Edge) → are_ascending (a ∷ es) ≡ true → are_ascending (b ∷ fs) ≡ true → edge_before a b ≡ true
     → sorted ((a ∷ es) ++ b ∷ fs) ≡ a ∷ sorted (es ++ b ∷ fs)
@@ -267,13 +262,4 @@ any_passes p (e ∷ es) = by_cases (p e) (any_passes p es)
   where
     by_cases : (c : Bool) → list_any p es ≡ not (eqb (length (filter p es)) 0) → (c || list_any p es) ≡ not (eqb (length (cond c (e ∷ filter p es) (filter p es))) 0)
     by_cases true h = sym (ap not (ne_eqb (length (e ∷ filter p es)) 0 (λ z. omega (arith, z))))
-    by_cases false h = h
-
--- a test of some of the edges
-pub any_filter : (p q : Edge → Bool) (es : List Edge) → list_any q (filter p es) ≡ list_any (λ e. p e && q e) es
-any_filter p q [] = refl
-any_filter p q (e ∷ es) = by_cases (p e) (any_filter p q es)
-  where
-    by_cases : (c : Bool) → list_any q (filter p es) ≡ list_any (λ x. p x && q x) es → list_any q (cond c (e ∷ filter p es) (filter p es)) ≡ (c && q e || list_any (λ x. p x && q x) es)
-    by_cases true h = ap (λ b. q e || b) h
     by_cases false h = h

@@ -4,15 +4,20 @@
 --   same_node, same_label, same_edge   whether two are one
 --   here                               the label of the place itself
 --   extended f label, opened label     the label of a field, and that of anything below
+--   composed first second              the label of two edges, one behind the other
+--   is_here label                      whether a label is that of the place itself
 --   agrees f label                     whether the label's list is empty or begins with the position
+--   agrees_if position label           whether it agrees with a position, if one is asked for
 --   label_leq, edge_leq, edges_leq     the order: what is below says at least as much
 --   out_of, into, but_out_of           the edges out of a node, into it, and all but those out of it
+--   leads_between from to e            whether an edge leads from one node to another
 --   without n, without_each ns         the edges without those at a node, or at any of these
 --   renamed old new                    the edges with one node in place of another
 --   inherited change old new           the edges into one node, changed, for another one
 --   an_edge from label to              an edge
 -- The others are parts of these, or words of single contracts.
-use Rattle.std.specs.Prelude.{ℕ, max, Bool, true, false, List, [], ◌∷◌, ◌++◌, length, take, ◌==◌, ◌&&◌, ◌||◌, filter, not, if◌then◌else◌, map, fold}
+use Rattle.std.specs.Prelude.{ℕ, max, Bool, true, false, List, [], ◌∷◌, ◌++◌, length, take, ◌==◌, ◌&&◌, ◌||◌, filter, not, if◌then◌else◌}
+use Rattle.std.specs.Prelude.{map, fold, Option, Some, None}
 use Rattle.std.specs.Bool.{beq}
 use Rattle.std.specs.Str.{bytes_eq}
 use Rattle.std.specs.List.{list_all, list_any}
@@ -61,6 +66,15 @@ extended f label = record { path = if label.is_open then label.path else (label.
 abbrev pub opened : Label → Label
 opened label = record label { is_open = true }
 
+-- the label of two edges, one behind the other: what lies below an open one stays there
+abbrev pub composed : Label → Label → Label
+composed first second =
+    record { path = if first.is_open then first.path else (first.path ++ second.path); is_open = first.is_open || second.is_open }
+
+-- whether a label is that of the place itself
+abbrev pub is_here : Label → Bool
+is_here label = not label.is_open && (length label.path == 0)
+
 -- the label with a change made to it
 abbrev pub changed : Change → Label → Label
 changed Kept label = label
@@ -70,6 +84,11 @@ changed Opened label = opened label
 -- whether the label's list is empty or begins with the position
 abbrev pub agrees : ℕ → Label → Bool
 agrees f label = begins label.path (f ∷ []) || begins (f ∷ []) label.path
+
+-- whether a label agrees with a position, if one is asked for
+abbrev pub agrees_if : Option ℕ → Label → Bool
+agrees_if None label = true
+agrees_if (Some f) label = agrees f label
 
 -- a label is below itself, and below an open one whose list begins its own
 abbrev pub label_leq : Label → Label → Bool
@@ -90,6 +109,10 @@ out_of n edges = filter (λ e. same_node e.from n) edges
 -- the edges that lead into a node
 abbrev pub into : Node → List Edge → List Edge
 into n edges = filter (λ e. same_node e.to n) edges
+
+-- whether an edge leads from one node to another
+abbrev pub leads_between : Node → Node → Edge → Bool
+leads_between from to e = same_node from e.from && same_node to e.to
 
 -- the edges but for those that lead out of a node
 abbrev pub but_out_of : Node → List Edge → List Edge

@@ -42,10 +42,12 @@ same_label_decides a b =
 
 pub same_edge_decides : (a b : Edge) → Decides (same_edge a b) (a ≡ b)
 same_edge_decides a b =
-    Decides-like (same_edge a b) (λ (p : ((a.from ≡ b.from) × (a.label ≡ b.label)) × (a.to ≡ b.to)). λ i. record { from = p.0.0 i; label = p.0.1 i; to = p.1 i })
+    Decides-like (same_edge a b)
+    (λ (p : ((a.from ≡ b.from) × (a.label ≡ b.label)) × (a.to ≡ b.to)). λ i. record { from = p.0.0 i; label = p.0.1 i; to = p.1 i })
     (λ (e : a ≡ b). ((ap (λ (x : Edge). x.from) e, ap (λ (x : Edge). x.label) e), ap (λ (x : Edge). x.to) e))
     (Decides-and (same_node a.from b.from && same_label a.label b.label) (same_node a.to b.to)
-    (Decides-and (same_node a.from b.from) (same_label a.label b.label) (same_node_decides a.from b.from) (same_label_decides a.label b.label)) (same_node_decides a.to b.to))
+    (Decides-and (same_node a.from b.from) (same_label a.label b.label) (same_node_decides a.from b.from) (same_label_decides a.label b.label))
+    (same_node_decides a.to b.to))
 
 pub same_label_equiv : IsEquivalence same_label
 same_label_equiv = equivalence same_label same_label_decides

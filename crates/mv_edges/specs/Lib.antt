@@ -1,16 +1,8 @@
 pub mod Ascending
-pub mod Asking
-pub mod Behind
-pub mod Between
 pub mod Counts
 pub mod Edges
 pub mod Equality
-pub mod Going
-pub mod Graph
 pub mod Joins
-pub mod Leads
-pub mod Made
 pub mod Positions
 pub mod Related
 pub mod Sorted
-pub mod Ways

@@ -12,14 +12,14 @@ use std::cmp::Ordering;
 use std::marker::Model;
 
 /// Whether two nodes are one.
-pub(crate) fn is_same(a: Node, b: Node) -> bool
+pub fn is_same(a: Node, b: Node) -> bool
     ensures { result ≡ same_node a b }
 {
     a == b
 }
 
-/// The new node, if this is the old one.
-pub(crate) fn renamed(at: Node, old: Node, new: Node) -> Node
+/// The new node, if this is the old one; otherwise this one.
+pub fn renamed(at: Node, old: Node, new: Node) -> Node
     ensures { result ≡ renamed_node old new at }
 {
     if is_same(at, old) { new } else { at }

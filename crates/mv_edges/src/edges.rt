@@ -92,7 +92,10 @@ impl Edges {
     }
 
     /// Edges in any order, put in theirs, each once.
-    pub(crate) fn of_unordered(mut items: Vec<Edge>) -> Result<Self, AllocError>
+    ///
+    /// # Errors
+    /// If an allocation failed; the edges are dropped.
+    pub fn of_unordered(mut items: Vec<Edge>) -> Result<Self, AllocError>
         ensures edges { IfOk result (λ s. s ≡ sorted items.items) }
         ensures ascending { IfOk result (λ s. IsTrue (are_ascending s)) }
     {

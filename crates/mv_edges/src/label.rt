@@ -2,7 +2,7 @@
 ghost use Rattle.std.specs.Prelude.{◌≡◌, ◌≤◌, ◌&&◌, length, IsOk, IfOk};
 ghost use Rattle.mv_move_types.specs.Paths.{begins};
 ghost use Rattle.mv_edges.specs.Edges.{here, extended, opened, changed, agrees, label_leq};
-ghost use Rattle.mv_edges.specs.Between.{agrees_if, composed, is_here};
+ghost use Rattle.mv_edges.specs.Edges.{agrees_if, composed, is_here};
 
 use super::path::Path;
 use std::alloc::{AllocError, Global};
@@ -48,33 +48,25 @@ impl Label {
     pub fn here(_alloc: Global) -> Self
         ensures { result ≡ here }
     {
-        let path = Path::new();
-        Label {
-            path,
-            is_open: false,
-        }
+        Label::itself()
     }
 
     /// The same, with no allocator.
-    pub(crate) fn itself() -> Self
+    pub fn itself() -> Self
         ensures { result ≡ here }
     {
         let path = Path::new();
-        Label {
-            path,
-            is_open: false,
-        }
+        let is_open = false;
+        Label { path, is_open }
     }
 
     /// The label of the place itself and of anything below it.
-    pub(crate) fn anything() -> Self
+    pub fn anything() -> Self
         ensures { result ≡ opened here }
     {
         let path = Path::new();
-        Label {
-            path,
-            is_open: true,
-        }
+        let is_open = true;
+        Label { path, is_open }
     }
 
     /// The positions.
@@ -120,14 +112,14 @@ impl Label {
     }
 
     /// Whether the label is that of the place itself.
-    pub(crate) fn is_here(&self) -> bool
+    pub fn is_here(&self) -> bool
         ensures { result ≡ is_here self.now }
     {
         !self.is_open && self.path().is_empty()
     }
 
     /// Whether the label agrees with a position, if one is asked for.
-    pub(crate) fn agrees_if(&self, position: Option<u8>) -> bool
+    pub fn agrees_if(&self, position: Option<u8>) -> bool
         ensures { result ≡ agrees_if position self.now }
     {
         match position {
@@ -155,7 +147,7 @@ impl Label {
     }
 
     /// The label of two edges, one after the other; if the first label is open, it stays as it is.
-    pub(crate) fn followed_by(&self, alloc: Global, next: &Label) -> Result<Self, AllocError>
+    pub fn followed_by(&self, alloc: Global, next: &Label) -> Result<Self, AllocError>
         ensures { IfOk result (λ l. l ≡ composed self.now next.now) }
     {
         if self.is_open {

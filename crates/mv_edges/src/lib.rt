@@ -1,38 +1,32 @@
-//! Edges of the borrow graph: as ascending lists where they are stated, and as ways by which references came about within a block.
+//! Edges of the borrow graph as they are stated: labels, edges, and ascending lists of them with their order and their join.
+//! mv_ways has the graph on its way through a block.
 //!
 //! ```
-//! use mv_edges::{Edge, Edges, Graph, Label};
+//! use mv_edges::{Edge, Edges, Label};
 //! use mv_move_types::Node;
 //! use std::alloc::{AllocError, Global};
 //!
-//! /// Local 1 is a reference, and the topmost operand one to the field 2 of what it leads to.
+//! /// Operand 0 refers to the field 2 of what local 1 refers to. That it refers to anything below local 1 says less.
 //! fn example(alloc: Global) -> Result<bool, AllocError> {
-//!     let mut edges = Edges::new(alloc);
+//!     let mut exact = Edges::new(alloc);
 //!     let field = Label::here(alloc).extended(alloc, 2)?;
-//!     edges.insert(Edge::new(Node::Slot(1), field, Node::Temp(0)))?;
-//!     // While that operand is there, what stands in the field 2 isn't written through local 1; field 3 may be.
-//!     let graph = Graph::of_edges(alloc, &edges)?;
-//!     let agrees = graph.has_agreeing_out_of(Node::Slot(1), 2);
-//!     let other = graph.has_agreeing_out_of(Node::Slot(1), 3);
-//!     Ok(agrees && !other)
+//!     exact.insert(Edge::new(Node::Slot(1), field, Node::Temp(0)))?;
+//!     let mut open = Edges::new(alloc);
+//!     open.insert(Edge::new(Node::Slot(1), Label::anything(), Node::Temp(0)))?;
+//!     Ok(exact.leq(&open) && !open.leq(&exact))
 //! }
 //! ```
 #![tactic(auto)]
 
 mod edge;
 mod edges;
-mod graph;
 mod label;
-mod nodes;
 mod path;
 mod search;
 mod union;
 mod unordered;
-mod ways;
 
-pub use edge::Edge;
+pub use edge::{Edge, is_same, renamed};
 pub use edges::Edges;
-pub use graph::{Graph, Heir};
 pub use label::{Change, Label};
-pub use nodes::{All, NodeSet, One};
 pub use search::leq_counted;

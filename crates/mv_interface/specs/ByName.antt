@@ -14,8 +14,8 @@ use Rattle.mv_interface.specs.declared.by_name.ByName.{ByName}
 pub record IsAscending (names : List (List ℕ)) (order : List ℕ) : Type 0 where
   pub all : (p : ℕ) → p < length names → Contains order p
   pub low : (k p : ℕ) → slice_get order k ≡ Some p → p < length names
-  pub ascends : (j k p q : ℕ) (x y : List ℕ) → j < k → slice_get order j ≡ Some p → slice_get order k ≡ Some q → slice_get names p ≡ Some x → slice_get names q ≡ Some y
-      → slice_cmp nat_cmp x y ≡ Greater → ⊥
+  pub ascends : (j k p q : ℕ) (x y : List ℕ) → j < k → slice_get order j ≡ Some p → slice_get order k ≡ Some q
+      → slice_get names p ≡ Some x → slice_get names q ≡ Some y → slice_cmp nat_cmp x y ≡ Greater → ⊥
 
 -- the indices of entries
 abbrev pub indices_in : List ByName → List ℕ

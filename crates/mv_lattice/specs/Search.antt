@@ -46,7 +46,8 @@ module _ {S : Type 0} (IsSmall : S → Type 0) (below : S → S → Type 0) (joi
   -- t flows into block n: where the stated state is above t, nothing changes; else t raises it, to a small state, and the block waits
   pub data FlowsInto (t : S) (n : ℕ) (x y : Search S) : Type 0 where
     stays : (s : S) → IsStated x.flow n s → below t s → IsSameAt n x y → FlowsInto t n x y
-    rises : (old : Option S) (u : S) → IsAt x.flow n old → Raises below join t old u → IsSmall u → IsStated y.flow n u → IsAt y.waiting n true → FlowsInto t n x y
+    rises : (old : Option S) (u : S) → IsAt x.flow n old → Raises below join t old u → IsSmall u
+        → IsStated y.flow n u → IsAt y.waiting n true → FlowsInto t n x y
 
   -- t flows into these blocks, and no other changes
   pub record FlowsIntoEach (blocks : ℕ → Type 0) (t : S) (x y : Search S) : Type 0 where
@@ -95,7 +96,8 @@ module _ {S : Type 0} (IsSmall : S → Type 0) (below : S → S → Type 0) (joi
       -- the search comes to x when it has visited these blocks, the last one first, and none more than 256 times
       pub data Reaches : List ℕ → Search S → Type 0 where
         begins : IsSmall start → Reaches [] at_start
-        goes_on : {visited : List ℕ} {k : ℕ} {x y : Search S} → Reaches visited x → IsNext x k → times k visited < 256 → IsVisit k (resting k x) y → Reaches (k ∷ visited) y
+        goes_on : {visited : List ℕ} {k : ℕ} {x y : Search S}
+            → Reaches visited x → IsNext x k → times k visited < 256 → IsVisit k (resting k x) y → Reaches (k ∷ visited) y
 
       -- the search ends with this flow: it comes to where it is stated and no block waits
       pub record EndsWith (flow : List (Option S)) : Type 0 where

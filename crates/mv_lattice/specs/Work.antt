@@ -25,7 +25,8 @@ abbrev pub AllStated : {S : Type 0} → (S → Type 0) → List (Option S) → T
 AllStated {S} P states = (k : ℕ) (s : S) → IsStated states k s → P s
 
 -- the least closed flow, of small states with which a block may begin
-pub record IsLeastFlow {S : Type 0} (IsState MayBegin IsSmall : S → Type 0) (below : S → S → Type 0) (step : ℕ → S → Option S) (g : Cfg) (start : S) (flow : List (Option S)) : Type 0 where
+pub record IsLeastFlow {S : Type 0} (IsState MayBegin IsSmall : S → Type 0) (below : S → S → Type 0) (step : ℕ → S → Option S)
+    (g : Cfg) (start : S) (flow : List (Option S)) : Type 0 where
   pub flow_is : IsFlow IsState g flow
   pub closed : IsClosed below step g start flow
   pub starts : AllStated MayBegin flow

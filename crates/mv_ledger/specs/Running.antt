@@ -44,4 +44,5 @@ run_of published stored call =
 abbrev pub IsSettled : List PublishedModule → Call → Option Told → List FlatEntry → List FlatEntry → List Tally → List Tally → Type 0
 IsSettled published call None stored new before after = ⊤
 IsSettled published call (Some reply) stored new before after =
-    (runs : ℕ) → settled (state_of (view_of published stored before runs)) (run_of published stored call) ≡ Some (reply, state_of (view_of published new after (runs + 1)))
+    (runs : ℕ) → settled (state_of (view_of published stored before runs)) (run_of published stored call)
+    ≡ Some (reply, state_of (view_of published new after (runs + 1)))

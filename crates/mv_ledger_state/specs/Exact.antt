@@ -16,7 +16,8 @@ pub record IsAccepted (old : LedgerState) (payload : List ℕ) (bundle : List Pu
 -- phase 1 where the payload has no bundle, else the first phase that the bundle fails
 pub data IsRefused (old : LedgerState) (payload : List ℕ) : ℕ → Type 0 where
   no_bundle : IsShapeless 1 payload → IsRefused old payload 1
-  failing : (sender : ℕ) (offers : List Offer) (phase : ℕ) → IsShaped 1 payload (Publish sender offers) → IsRefusedAt old sender offers phase → IsRefused old payload phase
+  failing : (sender : ℕ) (offers : List Offer) (phase : ℕ)
+      → IsShaped 1 payload (Publish sender offers) → IsRefusedAt old sender offers phase → IsRefused old payload phase
 
 -- Published with the bundle's count where the bundle passes every phase, and Refused with the first phase that fails.
 abbrev pub IsRightly : LedgerState → List ℕ → Reply → LedgerState → Type 0

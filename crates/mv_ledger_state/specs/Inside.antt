@@ -29,7 +29,8 @@ structs_in_fields each (f ∷ fs) = each f.token + structs_in_fields each fs
 abbrev pub structs_within : ℕ → List Module → StructName → StructName → ℕ
 structs_within zero modules s name = 0
 structs_within (suc depth) modules s name =
-    option_map_or (λ d. cond (same_struct name s) 1 0 + structs_in_fields (structs_in_token (structs_within depth modules s) d.0) d.1) (definition_of modules name) 0
+    option_map_or (λ d. cond (same_struct name s) 1 0 + structs_in_fields (structs_in_token (structs_within depth modules s) d.0) d.1)
+    (definition_of modules name) 0
 
 -- the same of the struct at a place and an index
 abbrev pub structs_under : ℕ → List Module → StructName → Definition → ℕ

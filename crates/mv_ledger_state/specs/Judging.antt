@@ -21,7 +21,8 @@ IsKeptOut sender old new Memory = ⊤
 -- whatever else a ledger with these modules holds, the payload's bundle of so many is accepted, and its modules join them
 abbrev pub IsAcceptedBy : ℕ → List PublishedModule → List ℕ → List PublishedModule → Type 0
 IsAcceptedBy count old payload new =
-    (s : LedgerState) → s.published ≡ old → (bundle : List PublishedModule) × (IsAccepted s payload bundle × (count ≡ length bundle) × (new ≡ with_modules old bundle))
+    (s : LedgerState) → s.published ≡ old
+    → (bundle : List PublishedModule) × (IsAccepted s payload bundle × (count ≡ length bundle) × (new ≡ with_modules old bundle))
 
 -- the phase that is answered refuses the payload, or memory ran out
 abbrev pub IsRefusal : LedgerState → List ℕ → Refusal → Type 0

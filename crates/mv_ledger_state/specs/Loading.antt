@@ -53,10 +53,12 @@ pub record IsLoaded (bytes : List ℕ) (s : LedgerState) : Type 0 where
 pub data FailsLoad (bytes : List ℕ) : ℕ → Type 0 where
   no_head : ((form : Form) (runs : ℕ) (offers : List Offer) → HasHead bytes form runs offers → ⊥) → FailsLoad bytes 1
   no_module : (form : Form) (runs : ℕ) (offers : List Offer) (phase : ℕ) → HasHead bytes form runs offers → FailsAmong offers phase → FailsLoad bytes 2
-  no_links : (form : Form) (runs : ℕ) (offers : List Offer) (ps : List PublishedModule) → HasHead bytes form runs offers → AllPass offers ps → ¬ AreLinked ps → FailsLoad bytes 3
+  no_links : (form : Form) (runs : ℕ) (offers : List Offer) (ps : List PublishedModule)
+      → HasHead bytes form runs offers → AllPass offers ps → ¬ AreLinked ps → FailsLoad bytes 3
   no_body : (form : Form) (runs : ℕ) (offers : List Offer) (ps : List PublishedModule) → HasHead bytes form runs offers → AllPass offers ps → AreLinked ps
       → ((s : LedgerState) → s.published ≡ ps → IsSavedText form bytes s → ⊥) → FailsLoad bytes 4
-  no_tallies : (form : Form) (s : LedgerState) → IsSavedText form bytes s → AllPass (map offered s.published) s.published → AreLinked s.published → ¬ AreTallied s → FailsLoad bytes 5
+  no_tallies : (form : Form) (s : LedgerState) → IsSavedText form bytes s
+      → AllPass (map offered s.published) s.published → AreLinked s.published → ¬ AreTallied s → FailsLoad bytes 5
 
 -- the number of a reason; want of memory has none
 abbrev pub load_number : LoadError → Option ℕ

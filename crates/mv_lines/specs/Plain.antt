@@ -26,4 +26,5 @@ pub record NoTextIsEscaped : Type 0 where
   pub address : (a : ℕ) → IsPlain (address_text a)
   pub number : (n : ℕ) → IsPlain (decimal n)
   pub value : (v : Value) → IsPlain (value_text v)
-  pub name : (published : List PublishedModule) → IsStore published → (place index : ℕ) (name : StructName) → name_at (tables_in published) place index ≡ Some name → IsPlain (struct_text name)
+  pub name : (published : List PublishedModule) → IsStore published
+      → (place index : ℕ) (name : StructName) → name_at (tables_in published) place index ≡ Some name → IsPlain (struct_text name)

@@ -54,7 +54,8 @@ function_fits m handle n d =
 -- a function handle names such a function
 abbrev pub function_is_there : List Module → Module → FunctionHandle → Bool
 function_is_there store m handle =
-    option_map_or (λ n. option_map_or (λ name. option_map_or (function_fits m handle n) (function_named n name) false) (slice_get m.identifiers handle.name) false)
+    option_map_or (λ n. option_map_or (λ name. option_map_or (function_fits m handle n) (function_named n name) false)
+    (slice_get m.identifiers handle.name) false)
     (module_name m handle.module >>= module_named store) false
 
 -- some of a module's first handles names a module
@@ -87,4 +88,5 @@ pub record Links (store : List Module) : Type 0 where
 -- c, d and e of a module
 abbrev pub names_hold : List Module → Module → Bool
 names_hold store m =
-    modules_are_there store m (length m.module_handles) && structs_are_there store m 0 m.struct_handles && list_all (function_is_there store m) m.function_handles
+    modules_are_there store m (length m.module_handles) && structs_are_there store m 0 m.struct_handles
+    && list_all (function_is_there store m) m.function_handles

@@ -22,13 +22,16 @@ pub record IsOf (m : Module) (handle : ℕ) (n : Module) (home : ModuleName) : T
 
 -- the struct that a handle names is at this index of the module
 abbrev pub IsStructOf : Module → StructHandle → Module → ModuleName → ℕ → Type 0
-IsStructOf m handle n home k = (name : List ℕ) × (slice_get m.identifiers handle.name ≡ Some name) × (find_index (is_struct n (record { home = home; name = name })) n.structs ≡ Some k)
+IsStructOf m handle n home k =
+    (name : List ℕ) × (slice_get m.identifiers handle.name ≡ Some name) × (find_index (is_struct n (record { home = home; name = name })) n.structs ≡ Some k)
 
 -- whether a module has the struct that a handle of another names, with the handle's abilities
 abbrev pub struct_matches : Module → StructHandle → Module → ModuleName → Bool
 struct_matches m handle n home =
-    option_map_or (λ name. option_map_or (same_abilities handle.abilities) (declared_in (record { home = home; name = name }) n) false) (slice_get m.identifiers handle.name) false
+    option_map_or (λ name. option_map_or (same_abilities handle.abilities) (declared_in (record { home = home; name = name }) n) false)
+    (slice_get m.identifiers handle.name) false
 
 -- whether a module has the function that a handle of another names, as the handle says
 abbrev pub function_matches : Module → FunctionHandle → Module → Bool
-function_matches m handle n = option_map_or (λ name. option_map_or (function_fits m handle n) (function_named n name) false) (slice_get m.identifiers handle.name) false
+function_matches m handle n =
+    option_map_or (λ name. option_map_or (function_fits m handle n) (function_named n name) false) (slice_get m.identifiers handle.name) false

@@ -8,7 +8,8 @@
 --   next_rows, rows_after                what is known after one more round, and after so many
 --   AreFinalRows bundle handles rows     what is known after the last round
 -- The others are parts of these.
-use Rattle.std.specs.Prelude.{◌≡◌, ℕ, zero, suc, ◌+◌, ◌<◌, ◌≤◌, is_some, ◌⊎◌, ◌&&◌, nat_le, nat_lt, cond, IsTrue, List, [], ◌∷◌, length, map, Option, Some, None, slice_get, unwrap_or}
+use Rattle.std.specs.Prelude.{◌≡◌, ℕ, zero, suc, ◌+◌, ◌<◌, ◌≤◌, is_some, ◌⊎◌, ◌&&◌, nat_le, nat_lt, cond, IsTrue}
+use Rattle.std.specs.Prelude.{List, [], ◌∷◌, length, map, Option, Some, None, slice_get, unwrap_or}
 use Rattle.std.specs.List.{list_all}
 use Rattle.mv_move_types.specs.Limits.{most_leaves, most_nesting}
 use Rattle.mv_move_types.specs.declared.token.Token.{Token}
@@ -40,13 +41,15 @@ pub record AreDefined (modules bundle : List Module) (handles : List (List Defin
   pub own : (i j : ℕ) (m : Module) (d : StructDefinition) → slice_get bundle i ≡ Some m → slice_get m.structs j ≡ Some d
       → (name : StructName) × (name_of_struct m d ≡ Some name) × (definition_of modules name ≡ Some (m, d.fields))
   pub count : (i : ℕ) (m : Module) (ds : List Defined) → slice_get bundle i ≡ Some m → slice_get handles i ≡ Some ds → length ds ≡ length m.struct_handles
-  pub each : (i h : ℕ) (m : Module) (ds : List Defined) (d : Defined) → slice_get bundle i ≡ Some m → slice_get handles i ≡ Some ds → slice_get ds h ≡ Some d → IsDefined modules bundle m h d
+  pub each : (i h : ℕ) (m : Module) (ds : List Defined) (d : Defined)
+      → slice_get bundle i ≡ Some m → slice_get handles i ≡ Some ds → slice_get ds h ≡ Some d → IsDefined modules bundle m h d
 
 -- the sizes of a bundle's structs: at most 256 leaves, and a nesting of at most 8
 pub record AreSizes (modules bundle : List Module) (sizes : List (List Size)) : Type 0 where
   pub len : length sizes ≡ length bundle
   pub count : (i : ℕ) (m : Module) (row : List Size) → slice_get bundle i ≡ Some m → slice_get sizes i ≡ Some row → length row ≡ length m.structs
-  pub each : (i j : ℕ) (name : StructName) (row : List Size) (s : Size) → name_at bundle i j ≡ Some name → slice_get sizes i ≡ Some row → slice_get row j ≡ Some s
+  pub each : (i j : ℕ) (name : StructName) (row : List Size) (s : Size)
+      → name_at bundle i j ≡ Some name → slice_get sizes i ≡ Some row → slice_get row j ≡ Some s
       → IsSized modules name s × (s.leaves ≤ most_leaves) × (s.nesting ≤ most_nesting)
 
 -- each struct of a bundle is small

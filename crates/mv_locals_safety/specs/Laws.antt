@@ -42,7 +42,9 @@ locals_after_keeps p (StLoc l) a b e =
     then_some_at (may_overwrite p t x) (slice_set a l Available) b (length a) length (length-set a l Available) h))
 locals_after_keeps p (MutBorrowLoc l) a b e = needed_keeps l a b e
 locals_after_keeps p (ImmBorrowLoc l) a b e = needed_keeps l a b e
-locals_after_keeps p Ret a b e = bind_some (local_tokens p.home p.function) (λ ts. then_some (may_leave p ts a) a) b e (λ ts _ h. then_some_at (may_leave p ts a) a b (length a) length refl h)
+locals_after_keeps p Ret a b e =
+    bind_some (local_tokens p.home p.function) (λ ts. then_some (may_leave p ts a) a) b e
+    (λ ts _ h. then_some_at (may_leave p ts a) a b (length a) length refl h)
 locals_after_keeps p _ a b e = let same : a ≡ b = cc in ap length (sym same)
 
 transitive_one : (x y z : Availability) → availability_leq x y ≡ true → availability_leq y z ≡ true → availability_leq x z ≡ true
@@ -68,15 +70,22 @@ leq_transitive (x ∷ a) (y ∷ b) (z ∷ c) p q =
     let qs = and_parts (availability_leq y z) (locals_leq b c) q in
     rw (transitive_one x y z ps.0 qs.0) (leq_transitive a b c ps.1 qs.1)
 
-pub locals_lawful : (m : Module) (d : FunctionDefinition) → IsLawful (length d.code) (IsOfLocals m d) (λ s. ⊤) (λ a b. IsTrue (locals_leq a b)) joined (locals_step m d) (λ g. ⊤)
+pub locals_lawful : (m : Module) (d : FunctionDefinition)
+    → IsLawful (length d.code) (IsOfLocals m d) (λ s. ⊤) (λ a b. IsTrue (locals_leq a b)) joined (locals_step m d) (λ g. ⊤)
 locals_lawful m d = record {
   reflexive = λ a h. leq_reflexive a;
   transitive = λ a b c ha hb hc p q. leq_transitive a b c p q;
   joins = λ a b ha hb.
       let same : length a ≡ length b = ha ∙ sym hb in
-      record { valid = joined_length a b same ∙ ha; left = joined_left a b same; right = joined_right a b same; least = λ u _ p q. joined_least a b u same p q };
+      record {
+        valid = joined_length a b same ∙ ha;
+        left = joined_left a b same;
+        right = joined_right a b same;
+        least = λ u _ p q. joined_least a b u same p q;
+      };
   joins_begin = λ a b _ _ _ _. tt;
-  keeps = λ at a b within h e. bind_some (slice_get d.code at) (λ i. locals_after (point_at m d []) i a) b e (λ i _ after. locals_after_keeps (point_at m d []) i a b after ∙ h);
+  keeps = λ at a b within h e.
+      bind_some (slice_get d.code at) (λ i. locals_after (point_at m d []) i a) b e (λ i _ after. locals_after_keeps (point_at m d []) i a b after ∙ h);
   monotone = λ at a b v within ha hb le e. step_below m d at a b le v e;
   begins = λ g k n b a t graph block next ha begin e. tt;
 }

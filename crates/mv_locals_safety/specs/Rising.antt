@@ -13,7 +13,8 @@ use Rattle.mv_move_types.specs.declared.instruction.Instruction.TheVariants.{Ret
 use Rattle.mv_move_types.specs.Options.{◌>>=◌}
 use Rattle.mv_move_types.specs.Module.{Module, FunctionDefinition, local_tokens, local_type}
 use Rattle.mv_type_states.specs.TypesHold.{Point, point_at}
-use Rattle.mv_locals_safety.specs.LocalsRules.{availability_leq, locals_leq, locals_after, is_available, needs_available, has_drop, may_overwrite, may_leave, store_known, leave_known}
+use Rattle.mv_locals_safety.specs.LocalsRules.{availability_leq, locals_leq, locals_after, is_available, needs_available, has_drop}
+use Rattle.mv_locals_safety.specs.LocalsRules.{may_overwrite, may_leave, store_known, leave_known}
 use Rattle.mv_locals_safety.specs.Domain.{locals_step}
 
 -- where the second is there, the first is there, and below it
@@ -68,11 +69,13 @@ leave_below p (t ∷ ts) (Maybe ∷ a) (Maybe ∷ b) h e =
     let parts = and_parts (has_drop p t) (may_leave p ts b) e in and_from (has_drop p t) (may_leave p ts a) parts.0 (leave_below p ts a b h parts.1)
 
 -- what stands at a place is below what stands there in what is above
-below_at : (a b : List Availability) (l : ℕ) (y : Availability) → locals_leq a b ≡ true → slice_get b l ≡ Some y → (x : Availability) × ((slice_get a l ≡ Some x) × (availability_leq x y ≡ true))
+below_at : (a b : List Availability) (l : ℕ) (y : Availability) → locals_leq a b ≡ true → slice_get b l ≡ Some y
+    → (x : Availability) × ((slice_get a l ≡ Some x) × (availability_leq x y ≡ true))
 below_at [] [] l y h e = absurd (none-some y e)
 below_at [] (z ∷ b) l y h e = absurd (true≢false (sym h))
 below_at (x ∷ a) [] l y h e = absurd (none-some y e)
-below_at (x ∷ a) (z ∷ b) zero y h e = (x, (refl, subst (λ s. availability_leq x s ≡ true) (same_Some z y e) (and_parts (availability_leq x z) (locals_leq a b) h).0))
+below_at (x ∷ a) (z ∷ b) zero y h e =
+    (x, (refl, subst (λ s. availability_leq x s ≡ true) (same_Some z y e) (and_parts (availability_leq x z) (locals_leq a b) h).0))
 below_at (x ∷ a) (z ∷ b) (suc l) y h e = below_at a b l y (and_parts (availability_leq x z) (locals_leq a b) h).1 e
 
 pub reflexive_one : (x : Availability) → availability_leq x x ≡ true
@@ -92,7 +95,8 @@ set_below (y ∷ a) (z ∷ b) (suc l) x h =
 
 module _ (p : Point) (a b : List Availability) (below : locals_leq a b ≡ true) where
   -- a change that a test of one local allows
-  one_below : (l : ℕ) (test : Availability → Bool) (f : List Availability → List Availability) → ((x y : Availability) → availability_leq x y ≡ true → test y ≡ true → test x ≡ true)
+  one_below : (l : ℕ) (test : Availability → Bool) (f : List Availability → List Availability)
+      → ((x y : Availability) → availability_leq x y ≡ true → test y ≡ true → test x ≡ true)
       → locals_leq (f a) (f b) ≡ true → Below (slice_get a l >>= λ x. then_some (test x) (f a)) (slice_get b l >>= λ x. then_some (test x) (f b))
   one_below l test f tests h v e = by_local (slice_get b l) refl e
     where
@@ -114,8 +118,14 @@ module _ (p : Point) (a b : List Availability) (below : locals_leq a b ≡ true)
           → (u : List Availability) × (((needs_available l a >>= λ s. Some (slice_set s l Unavailable)) ≡ Some u) × (locals_leq u v ≡ true))
       by_need None at is = absurd (none-some v is)
       by_need (Some s) at is =
-          let low = needed_below l s at in
-          (slice_set low.0 l Unavailable, (rw low.1.0 refl, subst (λ x. locals_leq (slice_set low.0 l Unavailable) x ≡ true) (same_Some (slice_set s l Unavailable) v is) (set_below low.0 s l Unavailable low.1.1)))
+          let low = needed_below l s at in (
+            slice_set low.0 l Unavailable,
+            (
+              rw low.1.0 refl,
+              subst (λ x. locals_leq (slice_set low.0 l Unavailable) x ≡ true)
+                  (same_Some (slice_set s l Unavailable) v is) (set_below low.0 s l Unavailable low.1.1),
+            ),
+          )
 
   stored_below : (l : ℕ) → Below (store_known p l a) (store_known p l b)
   stored_below l =
@@ -137,5 +147,6 @@ module _ (p : Point) (a b : List Availability) (below : locals_leq a b ≡ true)
   after_below _ = some_below a b below
 
 -- the step at a place is defined where it is on availabilities above, and its result is below
-pub step_below : (m : Module) (d : FunctionDefinition) (at : ℕ) (a b : List Availability) → locals_leq a b ≡ true → Below (locals_step m d at a) (locals_step m d at b)
+pub step_below : (m : Module) (d : FunctionDefinition) (at : ℕ) (a b : List Availability) → locals_leq a b ≡ true
+    → Below (locals_step m d at a) (locals_step m d at b)
 step_below m d at a b h = found_below (slice_get d.code at) _ _ (λ i. after_below (point_at m d []) a b h i)

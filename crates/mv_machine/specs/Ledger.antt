@@ -14,7 +14,8 @@
 use Rattle.std.specs.Prelude.{ℕ, List, [], map, cond, Option, Some, None, flat_map, filter_map, find, unwrap_or, Bool, false, ◌∷◌, ◌≡◌, true, ◌&&◌}
 use Rattle.std.specs.Prelude.{nat_lt, nat_le, Result, Ok, ok_or, slice_get, ◌+◌, Err, length}
 use Rattle.mv_machine.specs.State.{Storage, Event}
-use Rattle.mv_machine.specs.Lines.{Tallied, Reply, RanToEnd, RanToAbort, RanOut, Rejected, Published, Refused, Told, show_lines, audit_lines, show_json, audit_json}
+use Rattle.mv_machine.specs.Lines.{Tallied, Reply, RanToEnd, RanToAbort, RanOut, Rejected, Published, Refused, Told}
+use Rattle.mv_machine.specs.Lines.{show_lines, audit_lines, show_json, audit_json}
 use Rattle.mv_move_types.specs.Limits.{most_runs, most_steps}
 use Rattle.mv_move_types.specs.Scarce.{is_scarce_struct}
 pub use Rattle.mv_move_types.specs.Published.{PublishedModule, has_name_of, with_module, with_modules}

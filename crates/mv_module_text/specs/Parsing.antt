@@ -13,7 +13,8 @@
 --   instruction_from version                       an instruction
 --   function_definition_from version               a function, with its code
 -- The others read the other entries, or are parts of these. What is read depends on the version (why: decision 24).
-use Rattle.std.specs.Prelude.{ℕ, zero, suc, ◌==◌, nat_le, Bool, true, false, not, ◌&&◌, ◌||◌, cond, option_map, find, List, [], ◌∷◌, take, drop, length, Option, Some, None, bit_and}
+use Rattle.std.specs.Prelude.{ℕ, zero, suc, ◌==◌, nat_le, Bool, true, false, not, ◌&&◌, ◌||◌, cond, option_map, find}
+use Rattle.std.specs.Prelude.{List, [], ◌∷◌, take, drop, length, Option, Some, None, bit_and}
 use Rattle.std.specs.Bool.{then_some}
 use Rattle.std.specs.Int.{w128, from_be_bytes}
 use Rattle.mv_uleb.specs.Parsing.{number_from}

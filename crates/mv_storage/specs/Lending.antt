@@ -64,4 +64,5 @@ pub record IsUnedited (old new : Overlay) : Type 0 where
   pub loan : new.storage.ghost_name ≡ old.storage.ghost_name
 
 abbrev pub LendsWords : MutBor Overlay → Key → ℕ → ℕ → Result (Option (MutBor (List ℕ))) AllocError → Fml
-LendsWords s key from width r = follows_so (overlay.the_row (record { mir = named 1; lft = [] })) (Array u128 0) s.ghost_name (lent_name r) (λ w n. IsEdited s.now key from width w n) (IsUnedited s.now)
+LendsWords s key from width r = follows_so (overlay.the_row (record { mir = named 1; lft = [] })) (Array u128 0) s.ghost_name (lent_name r)
+    (λ w n. IsEdited s.now key from width w n) (IsUnedited s.now)

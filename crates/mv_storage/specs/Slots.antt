@@ -203,4 +203,6 @@ written_slot (Changed b) from words = Changed (record b { value = written_versio
 -- places with these words over those of the slot at a place, or over nothing
 abbrev pub written_at : Places → Option ℕ → ℕ → List ℕ → Places
 written_at p None from words = record { tree = p.tree; slots = p.slots; nothing = with_items_from p.nothing 0 words; free = p.free }
-written_at p (Some place) from words = option_map_or (λ s. record { tree = p.tree; slots = with_item p.slots place (written_slot s from words); nothing = p.nothing; free = p.free }) (slice_get p.slots.items place) p
+written_at p (Some place) from words =
+    option_map_or (λ s. record { tree = p.tree; slots = with_item p.slots place (written_slot s from words); nothing = p.nothing; free = p.free })
+    (slice_get p.slots.items place) p

@@ -48,7 +48,8 @@ next_found f (Some x) y e = (x, (refl, e))
 
 module _ (m : Module) (d : FunctionDefinition) (ok : HasPlainFields m) where
   -- one step
-  step_there : (at : ℕ) (i : Instruction) (s t : Types) (es fs : List Edge) → slice_get d.code at ≡ Some i → slice_get (types_before m d) at ≡ Some s → (i ≡ Ret → ⊥) → types_after m d i s ≡ Some t
+  step_there : (at : ℕ) (i : Instruction) (s t : Types) (es fs : List Edge)
+      → slice_get d.code at ≡ Some i → slice_get (types_before m d) at ≡ Some s → (i ≡ Ret → ⊥) → types_after m d i s ≡ Some t
       → edges_step m d at es ≡ Some fs → are_there (point_at m d s) es ≡ true → are_there (point_at m d t) fs ≡ true
   step_there at i s t es fs code known go typed e there =
       let here : ordered (edges_after (point_at m d s) i es) ≡ Some fs = rw (code, known) at e in
@@ -57,7 +58,8 @@ module _ (m : Module) (d : FunctionDefinition) (ok : HasPlainFields m) where
       (each_sorted (edge_is_there (point_at m d t)) h.0 (after_there m d ok s t es h.0 there i go typed h.1.0))
 
   -- some instructions
-  walk : (is : List Instruction) (at : ℕ) (s end : Types) (es fs : List Edge) → Stands is d.code at → Stands (types_each m d is s) (types_before m d) at → NoReturn is
+  walk : (is : List Instruction) (at : ℕ) (s end : Types) (es fs : List Edge)
+      → Stands is d.code at → Stands (types_each m d is s) (types_before m d) at → NoReturn is
       → types_through m d is s ≡ Some end
       → carried (edges_step m d) at (length is) es ≡ Some fs → are_there (point_at m d s) es ≡ true → are_there (point_at m d end) fs ≡ true
   walk [] at s end es fs code known go typed e there =
@@ -70,14 +72,16 @@ module _ (m : Module) (d : FunctionDefinition) (ok : HasPlainFields m) where
       walk is (suc at) next.0 end step.0 fs (Stands-tail i is d.code at code)
       (subst (λ (o : Option Types). Stands (option_map_or (types_each m d is) o []) (types_before m d) (suc at)) next.1.0 others)
       (λ j x f. go (suc j) x f) rest step.1.1
-      (step_there at i s next.0 es step.0 (Stands-head i is d.code at code) (Stands-head s (option_map_or (types_each m d is) (types_after m d i s) []) (types_before m d) at known) (go 0 i refl) next.1.0 step.1.0 there)
+      (step_there at i s next.0 es step.0 (Stands-head i is d.code at code)
+      (Stands-head s (option_map_or (types_each m d is) (types_after m d i s) []) (types_before m d) at known) (go 0 i refl) next.1.0 step.1.0 there)
 
 -- where a block leads
 leads_on : (code : List Instruction) (k : ℕ) (b : BasicBlock) → slice_get (blocks code) k ≡ Some b → b.next ≡ leads_to code b.last
 leads_on code k b at =
     let within : k < length (blocks code) = slice_get_within (blocks code) k b at in
     let h : k < length (starts code) = omega (arith, length-blocks_at code (starts code)) in
-    let is : block_between code (get_or (starts code) k 0) (get_or (starts code) (suc k) (length code)) ≡ b = same_Some _ b (sym (blocks_at-get code (starts code) k h) ∙ at) in
+    let is : block_between code (get_or (starts code) k 0) (get_or (starts code) (suc k) (length code)) ≡ b =
+    same_Some _ b (sym (blocks_at-get code (starts code) k h) ∙ at) in
     subst (λ (x : BasicBlock). x.next ≡ leads_to code x.last) is refl
 
 -- a return ends a block, and leads nowhere
@@ -85,7 +89,8 @@ return_ends : (i : Instruction) → i ≡ Ret → ends_block i ≡ true
 return_ends i e = ap ends_block e
 
 -- a block that goes on has no return
-no_return : (code : List Instruction) (g : Cfg) (k n : ℕ) (b : Block) → IsFlowGraph code g → IsBlock g k b → Contains b.successors.items n → NoReturn (slice_range code b.first (b.last + 1))
+no_return : (code : List Instruction) (g : Cfg) (k n : ℕ) (b : Block)
+    → IsFlowGraph code g → IsBlock g k b → Contains b.successors.items n → NoReturn (slice_range code b.first (b.last + 1))
 no_return code g k n b fg here next j i at is =
     let st : BasicBlock = basic_block_of g b in
     let place : slice_get (blocks code) k ≡ Some st = block_at code g k b fg here in
@@ -109,7 +114,8 @@ empty_end (Some []) h = refl
 empty_end (Some (t ∷ ts)) h = absurd (let no = eqb-true (length (t ∷ ts)) 0 h in omega (arith, no))
 
 -- what a block that goes on makes of edges with which a block may begin
-pub begins_again : (m : Module) (d : FunctionDefinition) (g : Cfg) (k n : ℕ) (b : Block) (es fs : List Edge) → IsGraphOf m d g → IsBlock g k b → Contains b.successors.items n
+pub begins_again : (m : Module) (d : FunctionDefinition) (g : Cfg) (k n : ℕ) (b : Block) (es fs : List Edge)
+    → IsGraphOf m d g → IsBlock g k b → Contains b.successors.items n
     → may_begin_with m d es ≡ true
     → through (edges_step m d) b es ≡ Some fs → may_begin_with m d fs ≡ true
 begins_again m d g k n b es fs graph here next there e =
@@ -120,5 +126,6 @@ begins_again m d g k n b es fs graph here next there e =
     let is = slice_range d.code b.first (b.last + 1) in
     let size : length is ≡ b.last + 1 - b.first = length-range d.code b.first (b.last + 1) (omega arith) in
     let typed : types_through m d is [] ≡ Some [] = empty_end (types_through m d is []) (all_at (block_is_typed m d) (blocks d.code) k st graph.typed place) in
-    walk m d (record { plain = graph.fields; few = graph.few }) is b.first [] [] es fs (Stands-range d.code b.first (b.last + 1)) (Stands-types m d k st graph.typed place) (no_return d.code g k n b fg here next) typed
+    walk m d (record { plain = graph.fields; few = graph.few }) is b.first [] [] es fs (Stands-range d.code b.first (b.last + 1))
+    (Stands-types m d k st graph.typed place) (no_return d.code g k n b fg here next) typed
     (subst (λ x. carried (edges_step m d) b.first x es ≡ Some fs) (sym size) e) there

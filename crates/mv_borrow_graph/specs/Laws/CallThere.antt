@@ -26,13 +26,16 @@ use Rattle.mv_borrow_graph.specs.Laws.There.{node_itself, there_parts, there_fro
 use Rattle.mv_edges.proofs.Moved.{all_pass}
 
 -- a parameter that passes the test has its node among those that do
-named : (test : Token → Bool) (k : ℕ) (ts : List Token) (j : ℕ) → option_map_or test (slice_get ts j) false ≡ true → Contains (reference_nodes test k ts) (Temp (k + j))
+named : (test : Token → Bool) (k : ℕ) (ts : List Token) (j : ℕ)
+    → option_map_or test (slice_get ts j) false ≡ true → Contains (reference_nodes test k ts) (Temp (k + j))
 named test k [] j h = absurd (false≢true h)
 named test k (t ∷ ts) zero h =
     let here : Contains (Temp k ∷ []) (Temp k) = contains_here (Temp k) [] in
-    let first : Contains (if test t then (Temp k ∷ []) else []) (Temp k) = subst (λ (b : Bool). Contains (if b then (Temp k ∷ []) else []) (Temp k)) (sym h) here in
+    let first : Contains (if test t then (Temp k ∷ []) else []) (Temp k) =
+    subst (λ (b : Bool). Contains (if b then (Temp k ∷ []) else []) (Temp k)) (sym h) here in
     let place : k ≡ k + 0 = omega arith in
-    subst (λ n. Contains (reference_nodes test k (t ∷ ts)) (Temp n)) place (Contains-append_left (if test t then (Temp k ∷ []) else []) (reference_nodes test (k + 1) ts) (Temp k) first)
+    subst (λ n. Contains (reference_nodes test k (t ∷ ts)) (Temp n)) place
+    (Contains-append_left (if test t then (Temp k ∷ []) else []) (reference_nodes test (k + 1) ts) (Temp k) first)
 named test k (t ∷ ts) (suc j) h =
     let place : k + 1 + j ≡ k + suc j = omega arith in
     subst (λ n. Contains (reference_nodes test k (t ∷ ts)) (Temp n)) place
@@ -44,12 +47,14 @@ left_all q [] es h = h
 left_all q (n ∷ ns) es h = left_all q ns (without n es) (all_filter (λ e. not (same_node e.from n) && not (same_node e.to n)) q es h)
 
 -- none of those left is at one of the nodes
-left_free : (ns : List Node) (n : Node) (es : List Edge) → Contains ns n → list_all (λ e. not (same_node e.from n) && not (same_node e.to n)) (without_each ns es) ≡ true
+left_free : (ns : List Node) (n : Node) (es : List Edge)
+    → Contains ns n → list_all (λ e. not (same_node e.from n) && not (same_node e.to n)) (without_each ns es) ≡ true
 left_free [] n es c = absurd (let h = c.1 in let no : ⊥ = omega (arith, h) in no)
 left_free (x ∷ ns) n es c =
     elim (contains_cases x ns n c) [
       | inl same ↦ subst (λ y. list_all (λ e. not (same_node e.from y) && not (same_node e.to y)) (without_each ns (without x es)) ≡ true) same
-          (left_all (λ e. not (same_node e.from x) && not (same_node e.to x)) ns (without x es) (all_pass (λ e. not (same_node e.from x) && not (same_node e.to x)) es))
+          (left_all (λ e. not (same_node e.from x) && not (same_node e.to x)) ns (without x es)
+          (all_pass (λ e. not (same_node e.from x) && not (same_node e.to x)) es))
       | inr there ↦ left_free ns n (without x es) there
     ]
 
@@ -94,7 +99,8 @@ module _ (m : Module) (d : FunctionDefinition) (params results rest : Types) whe
   out_low (Glob t) h free = refl
   out_low (Temp k) h free =
       ⊎_elim (λ u. u)
-      (λ at. absurd (true≢false (sym (ap (same_node (Temp k)) (ap Temp (sym at.1.0)) ∙ node_itself (Temp k)) ∙ free at.0 (argument is_mutable_token at.0 at.1.1))))
+      (λ at. absurd (true≢false (sym (ap (same_node (Temp k)) (ap Temp (sym at.1.0)) ∙ node_itself (Temp k))
+      ∙ free at.0 (argument is_mutable_token at.0 at.1.1))))
       (either_place (reverse params) rest is_mutable_token k h)
 
   in_low : (n : Node) → leads_in before n ≡ true → ((j : ℕ) → Contains all (Temp (b + j)) → same_node n (Temp (b + j)) ≡ false) → is_under b n ≡ true
@@ -103,7 +109,8 @@ module _ (m : Module) (d : FunctionDefinition) (params results rest : Types) whe
   in_low (Glob t) h free = refl
   in_low (Temp k) h free =
       ⊎_elim (λ u. u)
-      (λ at. absurd (true≢false (sym (ap (same_node (Temp k)) (ap Temp (sym at.1.0)) ∙ node_itself (Temp k)) ∙ free at.0 (argument is_reference_token at.0 at.1.1))))
+      (λ at. absurd (true≢false (sym (ap (same_node (Temp k)) (ap Temp (sym at.1.0)) ∙ node_itself (Temp k))
+      ∙ free at.0 (argument is_reference_token at.0 at.1.1))))
       (either_place (reverse params) rest is_reference_token k h)
 
   module _ (es : List Edge) (there : are_there before es ≡ true) (needed : list_all (λ n. no_edge_out n es) mutable ≡ true) where
@@ -123,10 +130,13 @@ module _ (m : Module) (d : FunctionDefinition) (params results rest : Types) whe
     rest_there =
         all_from_contains (edge_is_there after) (without_each all es)
         (λ e c.
-        let both = and_parts (edge_is_there before e) (is_under b e.from) (all_contains (comes_from_under before b) (without_each all es) e (left_all (comes_from_under before b) all es all_from_low) c) in
+        let both = and_parts (edge_is_there before e) (is_under b e.from)
+        (all_contains (comes_from_under before b) (without_each all es) e (left_all (comes_from_under before b) all es all_from_low) c) in
         let was = there_parts before e both.0 in
         edge_stays m d (reverse params) (reverse results) rest e was both.1
-        (in_low e.to was.into (λ j here. (neither (Temp (b + j)) e (all_contains (λ x. not (same_node x.from (Temp (b + j))) && not (same_node x.to (Temp (b + j)))) (without_each all es) e (left_free all (Temp (b + j)) es here) c)).1)))
+        (in_low e.to was.into (λ j here. (neither (Temp (b + j)) e
+        (all_contains (λ x. not (same_node x.from (Temp (b + j))) && not (same_node x.to (Temp (b + j)))) (without_each all es) e
+        (left_free all (Temp (b + j)) es here) c)).1)))
 
     -- a result's edges
     opened_there : (ns : List Node) (j : ℕ) → leads_in after (Temp (b + j)) ≡ true → are_there after (opened_edges ns (Temp (b + j)) es) ≡ true
@@ -137,27 +147,37 @@ module _ (m : Module) (d : FunctionDefinition) (params results rest : Types) whe
         let both = and_parts (edge_is_there before e) (is_under b e.from) t in
         let was = there_parts before e both.0 in
         there_from after (record { from = e.from; label = opened e.label; to = Temp (b + j) })
-        (record { out = out_stays m d (reverse params) (reverse results) rest e.from was.out both.1; into = into; apart = under_apart b j e.from both.1; small = was.small }))
+        (record {
+          out = out_stays m d (reverse params) (reverse results) rest e.from was.out both.1;
+          into = into;
+          apart = under_apart b j e.from both.1;
+          small = was.small;
+        }))
         es all_from_low)
         ns
 
     -- the results from one on
-    results_there : (j : ℕ) (ts : List Token) → ((i : ℕ) → option_map_or is_reference_token (slice_get ts i) false ≡ true → leads_in after (Temp (b + (j + i))) ≡ true)
+    results_there : (j : ℕ) (ts : List Token)
+        → ((i : ℕ) → option_map_or is_reference_token (slice_get ts i) false ≡ true → leads_in after (Temp (b + (j + i))) ≡ true)
         → (ms al : List Node) → are_there after (result_edges ms al (b + j) ts es) ≡ true
     results_there j [] into ms al = refl
     results_there j (t ∷ ts) into ms al =
         let next : b + j + 1 ≡ b + (j + 1) = omega arith in
         let more : are_there after (result_edges ms al (b + j + 1) ts es) ≡ true =
         subst (λ k. are_there after (result_edges ms al k ts es) ≡ true) (sym next)
-        (results_there (j + 1) ts (λ i h. let place : j + suc i ≡ j + 1 + i = omega arith in subst (λ k. leads_in after (Temp (b + k)) ≡ true) place (into (suc i) h)) ms al) in
+        (results_there (j + 1) ts (λ i h. let place : j + suc i ≡ j + 1 + i = omega arith in
+        subst (λ k. leads_in after (Temp (b + k)) ≡ true) place (into (suc i) h)) ms al) in
         let here : j + 0 ≡ j = omega arith in
         by_token t (λ r. subst (λ k. leads_in after (Temp (b + k)) ≡ true) here (into 0 r)) more
       where
-        by_token : (t : Token) → (is_reference_token t ≡ true → leads_in after (Temp (b + j)) ≡ true) → are_there after (result_edges ms al (b + j + 1) ts es) ≡ true
+        by_token : (t : Token)
+            → (is_reference_token t ≡ true → leads_in after (Temp (b + j)) ≡ true) → are_there after (result_edges ms al (b + j + 1) ts es) ≡ true
             → are_there after (result_edges ms al (b + j) (t ∷ ts) es) ≡ true
         by_token (Plain v) f more = more
-        by_token (Reference v) f more = each_append (edge_is_there after) (opened_edges al (Temp (b + j)) es) (result_edges ms al (b + j + 1) ts es) (opened_there al j (f refl)) more
-        by_token (MutableReference v) f more = each_append (edge_is_there after) (opened_edges ms (Temp (b + j)) es) (result_edges ms al (b + j + 1) ts es) (opened_there ms j (f refl)) more
+        by_token (Reference v) f more =
+            each_append (edge_is_there after) (opened_edges al (Temp (b + j)) es) (result_edges ms al (b + j + 1) ts es) (opened_there al j (f refl)) more
+        by_token (MutableReference v) f more =
+            each_append (edge_is_there after) (opened_edges ms (Temp (b + j)) es) (result_edges ms al (b + j + 1) ts es) (opened_there ms j (f refl)) more
 
     result_place : (i : ℕ) → option_map_or is_reference_token (slice_get results i) false ≡ true → leads_in after (Temp (b + (0 + i))) ≡ true
     result_place i h =
@@ -172,15 +192,18 @@ module _ (m : Module) (d : FunctionDefinition) (params results rest : Types) whe
         (subst (λ k. are_there after (result_edges mutable all k results es) ≡ true) first (results_there 0 results result_place mutable all))
 
 -- after a call each edge leads between nodes that are there
-pub call_row : (m : Module) (d : FunctionDefinition) (params results : List Token) (s t : Types) → Shift s t (reverse params) (reverse results) → (base : ℕ) → base ≡ length s - length params
+pub call_row : (m : Module) (d : FunctionDefinition) (params results : List Token) (s t : Types)
+    → Shift s t (reverse params) (reverse results) → (base : ℕ) → base ≡ length s - length params
     → (es : List Edge)
     → list_all (λ n. no_edge_out n es) (reference_nodes is_mutable_token base params) ≡ true → are_there (point_at m d s) es ≡ true
     → are_there (point_at m d t) (without_each (reference_nodes is_reference_token base params) es
     ++ result_edges (reference_nodes is_mutable_token base params) (reference_nodes is_reference_token base params) base results es) ≡ true
 call_row m d params results s t h base is es needed there =
     let low : base ≡ length h.rest = below h.before in
-    subst (λ x. are_there (point_at m d x) (without_each (reference_nodes is_reference_token base params) es ++ result_edges (reference_nodes is_mutable_token base params) (reference_nodes is_reference_token base params) base results es) ≡ true) (sym h.after)
-    (subst (λ k. are_there (point_at m d (reverse results ++ h.rest)) (without_each (reference_nodes is_reference_token k params) es ++ result_edges (reference_nodes is_mutable_token k params) (reference_nodes is_reference_token k params) k results es) ≡ true) (sym low)
+    subst (λ x. are_there (point_at m d x) (without_each (reference_nodes is_reference_token base params) es
+    ++ result_edges (reference_nodes is_mutable_token base params) (reference_nodes is_reference_token base params) base results es) ≡ true) (sym h.after)
+    (subst (λ k. are_there (point_at m d (reverse results ++ h.rest)) (without_each (reference_nodes is_reference_token k params) es
+    ++ result_edges (reference_nodes is_mutable_token k params) (reference_nodes is_reference_token k params) k results es) ≡ true) (sym low)
     (called_there m d params results h.rest es (subst (λ x. are_there (point_at m d x) es ≡ true) h.before there)
     (subst (λ k. list_all (λ n. no_edge_out n es) (reference_nodes is_mutable_token k params) ≡ true) low needed)))
   where

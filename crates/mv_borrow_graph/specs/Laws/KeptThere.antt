@@ -1,5 +1,6 @@
 -- An instruction that finds the types that it needs leaves edges between nodes that are there.
-use Rattle.std.proofs.Common.{◌≡◌, ℕ, ◌-◌, Bool, true, not, ◌&&◌, List, [], ◌∷◌, ◌++◌, length, filter, slice_get, Option, Some, refl, sym, ap, ◌∙◌, subst, arith}
+use Rattle.std.proofs.Common.{◌≡◌, ℕ, ◌-◌, Bool, true, not, ◌&&◌, List, [], ◌∷◌, ◌++◌, length, filter, slice_get, Option, Some}
+use Rattle.std.proofs.Common.{refl, sym, ap, ◌∙◌, subst, arith}
 use Rattle.std.specs.Prelude.{nat_lt, nat_le}
 use Rattle.std.specs.Bool.{then_some}
 use Rattle.std.specs.List.{list_all, list_any}
@@ -35,7 +36,8 @@ use Rattle.mv_borrow_graph.specs.Laws.Shifts.{Shift, PlainShift, is_plain, excha
 use Rattle.mv_borrow_graph.specs.Laws.Shifts.{constant_shift, two_numbers_shift, equality_shift, shift_shift, cast_shift, pack_shift, unpack_shift}
 use Rattle.mv_borrow_graph.specs.Laws.Shifts.{global_shift, plain_global, move_to_shift, pop_shift, copy_shift, move_shift, store_shift, borrow_shift}
 use Rattle.mv_borrow_graph.specs.Laws.Shifts.{mutable_field_shift, immutable_field_shift, read_shift, write_shift, freeze_shift}
-use Rattle.mv_borrow_graph.specs.Laws.RowsThere.{plain_row, top_row, write_row, second_row, freeze_row, field_row, global_row, lent_at, copied_at, child_at, moved_at, stored_at, local_is}
+use Rattle.mv_borrow_graph.specs.Laws.RowsThere.{plain_row, top_row, write_row, second_row, freeze_row, field_row, global_row}
+use Rattle.mv_borrow_graph.specs.Laws.RowsThere.{lent_at, copied_at, child_at, moved_at, stored_at, local_is}
 use Rattle.mv_borrow_graph.specs.Laws.CallThere.{call_row}
 use Rattle.mv_bounds.proofs.Entries.{all_at}
 
@@ -48,7 +50,8 @@ pub record HasPlainFields (m : Module) : Type 0 where
 call_known : (p : Point) (i : ℕ) (es fs : List Edge) (handle : FunctionHandle) (params results : List Token) → slice_get p.home.function_handles i ≡ Some handle
     → slice_get p.home.signatures handle.parameters ≡ Some params
     → slice_get p.home.signatures handle.results ≡ Some results → call_edges p i es ≡ Some fs
-    → then_some (list_all (λ n. no_edge_out n es) (reference_nodes is_mutable_token (length p.types - length params) params) && list_all (λ g. no_edge_out (Glob g) es) (own_acquires p.home i))
+    → then_some (list_all (λ n. no_edge_out n es) (reference_nodes is_mutable_token (length p.types - length params) params)
+    && list_all (λ g. no_edge_out (Glob g) es) (own_acquires p.home i))
     (without_each (reference_nodes is_reference_token (length p.types - length params) params) es
     ++ result_edges (reference_nodes is_mutable_token (length p.types - length params) params)
     (reference_nodes is_reference_token (length p.types - length params) params) (length p.types - length params) results es) ≡ Some fs
@@ -87,18 +90,21 @@ module _ (m : Module) (d : FunctionDefinition) (ok : HasPlainFields m) (s t : Ty
   copied l (Plain v) typed h e = kept_if (no_mutable_from p (Own l) es) (record { taken = []; given = Plain v ∷ []; shift = h; plain = refl }) e
   copied l (Reference v) typed h e =
       subst (λ xs. are_there q xs ≡ true) (same_Some _ fs e)
-      (subst (λ y. are_there (point_at m d y) (es ++ inherited (λ label. label) (Slot l) (next_temp p) es) ≡ true) (sym (h.after ∙ ap (λ r. Reference v ∷ r) (sym h.before)))
+      (subst (λ y. are_there (point_at m d y) (es ++ inherited (λ label. label) (Slot l) (next_temp p) es) ≡ true)
+      (sym (h.after ∙ ap (λ r. Reference v ∷ r) (sym h.before)))
       (copied_at m d (Reference v) refl s l es there))
   copied l (MutableReference v) typed h e =
       subst (λ xs. are_there q xs ≡ true) (then_some_parts (no_edge_out (Slot l) es) _ fs e).1
-      (subst (λ y. are_there (point_at m d y) (es ++ inherited (λ label. label) (Slot l) (next_temp p) es ++ an_edge (Slot l) here (next_temp p) ∷ []) ≡ true) (sym (h.after ∙ ap (λ r. MutableReference v ∷ r) (sym h.before)))
+      (subst (λ y. are_there (point_at m d y) (es ++ inherited (λ label. label) (Slot l) (next_temp p) es ++ an_edge (Slot l) here (next_temp p) ∷ []) ≡ true)
+      (sym (h.after ∙ ap (λ r. MutableReference v ∷ r) (sym h.before)))
       (child_at m d (MutableReference v) refl s l (local_is is_mutable_token p l (MutableReference v) typed refl) es there))
 
   -- the types with one more on top
   one_more : (x : Token) → Shift s t [] (x ∷ []) → x ∷ s ≡ t
   one_more x h = ap (λ r. x ∷ r) h.before ∙ sym h.after
 
-  moved_ref : (l : ℕ) (x : Token) → is_reference_token x ≡ true → local_type m d l ≡ Some x → Shift s t [] (x ∷ []) → Some (renamed (Slot l) (next_temp p) es) ≡ Some fs → are_there q fs ≡ true
+  moved_ref : (l : ℕ) (x : Token) → is_reference_token x ≡ true → local_type m d l ≡ Some x → Shift s t [] (x ∷ [])
+      → Some (renamed (Slot l) (next_temp p) es) ≡ Some fs → are_there q fs ≡ true
   moved_ref l x r typed h e =
       subst (λ xs. are_there q xs ≡ true) (same_Some (renamed (Slot l) (next_temp p) es) fs e)
       (subst (λ y. are_there (point_at m d y) (renamed (Slot l) (next_temp p) es) ≡ true) (one_more x h) (moved_at m d x r s l typed es there))
@@ -108,8 +114,8 @@ module _ (m : Module) (d : FunctionDefinition) (ok : HasPlainFields m) (s t : Ty
   moved l (Reference v) typed h e = moved_ref l (Reference v) refl typed h e
   moved l (MutableReference v) typed h e = moved_ref l (MutableReference v) refl typed h e
 
-  stored_ref : (l : ℕ) (x : Token) → is_reference_token x ≡ true → local_type m d l ≡ Some x → Shift s t (x ∷ []) [] → Some (renamed (top_temp p) (Slot l) (without (Slot l) es)) ≡ Some fs
-      → are_there q fs ≡ true
+  stored_ref : (l : ℕ) (x : Token) → is_reference_token x ≡ true → local_type m d l ≡ Some x → Shift s t (x ∷ []) []
+      → Some (renamed (top_temp p) (Slot l) (without (Slot l) es)) ≡ Some fs → are_there q fs ≡ true
   stored_ref l x r typed h e =
       let was : s ≡ x ∷ t = h.before ∙ ap (λ y. x ∷ y) (sym h.after) in
       subst (λ xs. are_there q xs ≡ true) (same_Some (renamed (top_temp p) (Slot l) (without (Slot l) es)) fs e)
@@ -132,15 +138,17 @@ module _ (m : Module) (d : FunctionDefinition) (ok : HasPlainFields m) (s t : Ty
       (subst (λ z. are_there (point_at m d z) (es ++ an_edge (Own l) here (next_temp p) ∷ []) ≡ true) (one_more y h)
       (lent_at m d y r s (Own l) (local_is is_plain p l x typed plain) es there))
 
-  field : (i f : ℕ) (b : Bool) (v : ValueType × ValueType) (x y : Token) → field_types m i ≡ Some v → is_reference_token y ≡ true → Shift s t (x ∷ []) (y ∷ []) → position_of p i ≡ Some f
+  field : (i f : ℕ) (b : Bool) (v : ValueType × ValueType) (x y : Token)
+      → field_types m i ≡ Some v → is_reference_token y ≡ true → Shift s t (x ∷ []) (y ∷ []) → position_of p i ≡ Some f
       → then_some b (field_edges p f es) ≡ Some fs → are_there q fs ≡ true
   field i f b v x y known r h at e =
       subst (λ xs. are_there q xs ≡ true) (then_some_parts b (field_edges p f es) fs e).1 (field_row m d s t x y r h f (low_position i f v known at) es there)
 
-  global : (i : ℕ) (b : Bool) (v : ValueType) (y : Token) → keyed_type m i ≡ Some v → is_reference_token y ≡ true → Shift s t (address ∷ []) (y ∷ []) → then_some b (global_edges p i es) ≡ Some fs
-      → are_there q fs ≡ true
+  global : (i : ℕ) (b : Bool) (v : ValueType) (y : Token) → keyed_type m i ≡ Some v → is_reference_token y ≡ true → Shift s t (address ∷ []) (y ∷ [])
+      → then_some b (global_edges p i es) ≡ Some fs → are_there q fs ≡ true
   global i b v y known r h e =
-      subst (λ xs. are_there q xs ≡ true) (then_some_parts b (global_edges p i es) fs e).1 (global_row m d s t address y refl r h i (low_struct i v known) es there)
+      subst (λ xs. are_there q xs ≡ true) (then_some_parts b (global_edges p i es) fs e).1
+      (global_row m d s t address y refl r h i (low_struct i v known) es there)
 
   gone : (b : Bool) (n : Node) → are_there q (without n es) ≡ true → then_some b (without n es) ≡ Some fs → are_there q fs ≡ true
   gone b n h e = subst (λ xs. are_there q xs ≡ true) (then_some_parts b (without n es) fs e).1 h
@@ -154,12 +162,14 @@ module _ (m : Module) (d : FunctionDefinition) (ok : HasPlainFields m) (s t : Ty
       let base : ℕ = length s - length params.0 in
       let h = exchanged params.0 results.0 s t results.1.1 in
       let parts = then_some_parts _ _ fs (call_known p i es fs handle.0 params.0 results.0 handle.1.0 params.1.0 results.1.0 e2) in
-      let needed = and_parts (list_all (λ n. no_edge_out n es) (reference_nodes is_mutable_token base params.0)) (list_all (λ g. no_edge_out (Glob g) es) (own_acquires m i)) parts.0 in
+      let needed = and_parts (list_all (λ n. no_edge_out n es) (reference_nodes is_mutable_token base params.0))
+      (list_all (λ g. no_edge_out (Glob g) es) (own_acquires m i)) parts.0 in
       subst (λ xs. are_there q xs ≡ true) parts.1 (call_row m d params.0 results.0 s t h base refl es needed.0 there)
 
   pub after_there : (i : Instruction) → (i ≡ Ret → ⊥) → types_after m d i s ≡ Some t → edges_after p i es ≡ Some fs → are_there q fs ≡ true
   unfolding types_after edges_after
-  after_there Pop go e f = let h = pop_shift m s t e in subst (λ xs. are_there q xs ≡ true) (same_Some (without (top_temp p) es) fs f) (top_row m d s t h.0 [] h.1 es there)
+  after_there Pop go e f =
+      let h = pop_shift m s t e in subst (λ xs. are_there q xs ≡ true) (same_Some (without (top_temp p) es) fs f) (top_row m d s t h.0 [] h.1 es there)
   after_there Ret go e f = absurd (go refl)
   after_there (BrTrue x) go e f = kept (plain_taken (boolean ∷ []) s t refl e) f
   after_there (BrFalse x) go e f = kept (plain_taken (boolean ∷ []) s t refl e) f
@@ -178,15 +188,18 @@ module _ (m : Module) (d : FunctionDefinition) (ok : HasPlainFields m) (s t : Ty
   after_there (MutBorrowField x) go e f =
       let h = mutable_field_shift m x s t e in
       let at = bind_some (position_of p x) _ fs f in
-      field x at.0 (not (list_any (λ g. agrees at.0 g.label) (out_of (top_temp p) es))) h.0 (MutableReference h.0.0) (MutableReference h.0.1) h.1.0 refl h.1.1 at.1.0 at.1.1
+      field x at.0 (not (list_any (λ g. agrees at.0 g.label) (out_of (top_temp p) es)))
+      h.0 (MutableReference h.0.0) (MutableReference h.0.1) h.1.0 refl h.1.1 at.1.0 at.1.1
   after_there (ImmBorrowField x) go e f =
       let h = immutable_field_shift m x s t e in
       let at = bind_some (position_of p x) _ fs f in
-      field x at.0 (not (list_any (λ g. is_mutable p g.to && agrees at.0 g.label) (out_of (top_temp p) es))) h.0 h.1.1.0 (Reference h.0.1) h.1.0 refl h.1.1.1 at.1.0 at.1.1
+      field x at.0 (not (list_any (λ g. is_mutable p g.to && agrees at.0 g.label) (out_of (top_temp p) es)))
+      h.0 h.1.1.0 (Reference h.0.1) h.1.0 refl h.1.1.1 at.1.0 at.1.1
   after_there (Call x) go e f = called x e f
   after_there (Pack x) go e f = kept (pack_shift m x s t ok.plain e) f
   after_there (Unpack x) go e f = kept (unpack_shift m x s t e) f
-  after_there ReadRef go e f = let h = read_shift m s t e in gone (no_mutable_from p (top_temp p) es) (top_temp p) (top_row m d s t h.0 (Plain h.1.0 ∷ []) h.1.1 es there) f
+  after_there ReadRef go e f =
+      let h = read_shift m s t e in gone (no_mutable_from p (top_temp p) es) (top_temp p) (top_row m d s t h.0 (Plain h.1.0 ∷ []) h.1.1 es there) f
   after_there WriteRef go e f = let h = write_shift m s t e in gone (no_edge_out (top_temp p) es) (top_temp p) (write_row m d s t h.0 h.1.0 h.1.1 es there) f
   after_there Or go e f = kept (plain_exchanged (boolean ∷ boolean ∷ []) (boolean ∷ []) s t refl e) f
   after_there And go e f = kept (plain_exchanged (boolean ∷ boolean ∷ []) (boolean ∷ []) s t refl e) f
@@ -196,14 +209,18 @@ module _ (m : Module) (d : FunctionDefinition) (ok : HasPlainFields m) (s t : Ty
   after_there Abort go e f = kept (plain_taken (number U64 ∷ []) s t refl e) f
   after_there Nop go e f = kept (unchanged s t e) f
   after_there (Exists x) go e f = kept (plain_global (λ v. boolean) m x s t e) f
-  after_there (MutBorrowGlobal x) go e f = let h = global_shift MutableReference m x s t e in global x (no_edge_out (Glob x) es) h.0 (MutableReference h.0) h.1.0 refl h.1.1 f
-  after_there (ImmBorrowGlobal x) go e f = let h = global_shift Reference m x s t e in global x (no_mutable_from p (Glob x) es) h.0 (Reference h.0) h.1.0 refl h.1.1 f
+  after_there (MutBorrowGlobal x) go e f =
+      let h = global_shift MutableReference m x s t e in global x (no_edge_out (Glob x) es) h.0 (MutableReference h.0) h.1.0 refl h.1.1 f
+  after_there (ImmBorrowGlobal x) go e f =
+      let h = global_shift Reference m x s t e in global x (no_mutable_from p (Glob x) es) h.0 (Reference h.0) h.1.0 refl h.1.1 f
   after_there (MoveFrom x) go e f = kept_if (no_edge_out (Glob x) es) (plain_global Plain m x s t e) f
   after_there (MoveTo x) go e f =
-      let h = move_to_shift m x s t e in subst (λ xs. are_there q xs ≡ true) (same_Some (without (Temp (length s - 2)) es) fs f) (second_row m d s t _ h.0 h.1 es there)
+      let h = move_to_shift m x s t e in
+      subst (λ xs. are_there q xs ≡ true) (same_Some (without (Temp (length s - 2)) es) fs f) (second_row m d s t _ h.0 h.1 es there)
   after_there FreezeRef go e f =
       let h = freeze_shift s t e in
-      subst (λ xs. are_there q xs ≡ true) (then_some_parts (no_mutable_from p (top_temp p) es) (filter (λ g. not (same_node g.from (top_temp p))) es) fs f).1 (freeze_row m d s t h.0 (Reference h.1.0) refl h.1.1 es there)
+      subst (λ xs. are_there q xs ≡ true) (then_some_parts (no_mutable_from p (top_temp p) es) (filter (λ g. not (same_node g.from (top_temp p))) es) fs f).1
+      (freeze_row m d s t h.0 (Reference h.1.0) refl h.1.1 es there)
   after_there Shl go e f = kept (shift_shift s t e) f
   after_there Shr go e f = kept (shift_shift s t e) f
   after_there (LdU8 x) go e f = kept (plain_pushed (number U8) s t e) f

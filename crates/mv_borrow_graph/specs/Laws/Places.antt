@@ -35,7 +35,8 @@ mutable_is_reference (Plain t) h = absurd (false≢true h)
 mutable_is_reference (Reference t) h = refl
 mutable_is_reference (MutableReference t) h = refl
 
-there_weaker : {A : Type 0} (p q : A → Bool) → ((x : A) → p x ≡ true → q x ≡ true) → (o : Option A) → option_map_or p o false ≡ true → option_map_or q o false ≡ true
+there_weaker : {A : Type 0} (p q : A → Bool) → ((x : A) → p x ≡ true → q x ≡ true)
+    → (o : Option A) → option_map_or p o false ≡ true → option_map_or q o false ≡ true
 there_weaker p q f None h = absurd (false≢true h)
 there_weaker p q f (Some x) h = f x h
 
@@ -47,7 +48,8 @@ pub all_reverse : {A : Type 0} (p : A → Bool) (xs : List A) → list_all p xs 
 all_reverse p [] h = refl
 all_reverse p (x ∷ xs) h =
     let parts = and_parts (p x) (list_all p xs) h in
-    ap (list_all p) (reverse-append (x ∷ []) xs) ∙ list_all-append p (reverse xs) (x ∷ []) ∙ and_from (list_all p (reverse xs)) (list_all p (x ∷ [])) (all_reverse p xs parts.1) (and_from (p x) true parts.0 refl)
+    ap (list_all p) (reverse-append (x ∷ []) xs) ∙ list_all-append p (reverse xs) (x ∷ [])
+    ∙ and_from (list_all p (reverse xs)) (list_all p (x ∷ [])) (all_reverse p xs parts.1) (and_from (p x) true parts.0 refl)
 
 -- no type of a list of plain ones is a reference
 pub plain_none : (types : Types) → list_all (λ t. not (is_reference_token t)) types ≡ true → (k : ℕ) → has_place is_reference_token types k ≡ true → ⊥
@@ -73,10 +75,12 @@ module _ (taken rest : Types) where
   pub has_over : (test : Token → Bool) (j : ℕ) → has_place test (taken ++ rest) (length rest + j) ≡ has_place test taken j
   has_over test j =
       let long : length (reverse rest) ≡ length rest = length-reverse rest in
-      ap (λ o. option_map_or test o false) (ap (λ xs. slice_get xs (length rest + j)) (reverse-append taken rest) ∙ slice_get-second (reverse rest) (reverse taken) (length rest + j) j (omega (arith, long)))
+      ap (λ o. option_map_or test o false) (ap (λ xs. slice_get xs (length rest + j)) (reverse-append taken rest)
+      ∙ slice_get-second (reverse rest) (reverse taken) (length rest + j) j (omega (arith, long)))
 
   -- a place is under the exchange, or is one of what is exchanged
-  pub either_place : (test : Token → Bool) (k : ℕ) → has_place test (taken ++ rest) k ≡ true → (nat_lt k (length rest) ≡ true) ⊎ ((j : ℕ) × ((k ≡ length rest + j) × (has_place test taken j ≡ true)))
+  pub either_place : (test : Token → Bool) (k : ℕ) → has_place test (taken ++ rest) k ≡ true
+      → (nat_lt k (length rest) ≡ true) ⊎ ((j : ℕ) × ((k ≡ length rest + j) × (has_place test taken j ≡ true)))
   either_place test k h =
       ⊎_elim
       (λ (low : k < length rest). inl (lt-ltb k (length rest) low))
@@ -104,13 +108,15 @@ module _ (m : Module) (d : FunctionDefinition) (taken given rest : Types) where
   out_stays (Slot l) h u = h
   out_stays (Own l) h u = h
   out_stays (Glob t) h u = h
-  out_stays (Temp k) h u = let low = ltb-true k (length rest) u in has_under given rest is_mutable_token k low ∙ sym (has_under taken rest is_mutable_token k low) ∙ h
+  out_stays (Temp k) h u =
+      let low = ltb-true k (length rest) u in has_under given rest is_mutable_token k low ∙ sym (has_under taken rest is_mutable_token k low) ∙ h
 
   pub in_stays : (n : Node) → leads_in old n ≡ true → is_under (length rest) n ≡ true → leads_in new n ≡ true
   in_stays (Slot l) h u = h
   in_stays (Own l) h u = h
   in_stays (Glob t) h u = h
-  in_stays (Temp k) h u = let low = ltb-true k (length rest) u in has_under given rest is_reference_token k low ∙ sym (has_under taken rest is_reference_token k low) ∙ h
+  in_stays (Temp k) h u =
+      let low = ltb-true k (length rest) u in has_under given rest is_reference_token k low ∙ sym (has_under taken rest is_reference_token k low) ∙ h
 
   -- one place of what is taken, at most, is a reference
   abbrev pub OnlyAt : ℕ → Type 0

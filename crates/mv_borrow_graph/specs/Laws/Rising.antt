@@ -1,7 +1,8 @@
 -- Where a step is defined on a state, it is defined on each state that is related to it, by a relation of labels that the rules
 -- keep, with a related result: on each one below, and on each one that looks alike.
 --   Below low high      where the second is there, the first is there, and related to it
-use Rattle.std.proofs.Common.{◌≡◌, ℕ, ◌+◌, ◌-◌, Bool, true, false, not, ◌&&◌, ◌||◌, List, [], ◌∷◌, ◌++◌, length, Option, Some, None, slice_get, refl, sym, ap, subst, true≢false}
+use Rattle.std.proofs.Common.{◌≡◌, ℕ, ◌+◌, ◌-◌, Bool, true, false, not, ◌&&◌, ◌||◌, List, [], ◌∷◌, ◌++◌, length, Option, Some, None, slice_get}
+use Rattle.std.proofs.Common.{refl, sym, ap, subst, true≢false}
 use Rattle.std.specs.Bool.{then_some}
 use Rattle.std.specs.List.{list_all, list_any}
 use Rattle.std.proofs.lemmas.Bool.{and_parts, and_from, not-true}
@@ -17,7 +18,8 @@ use Rattle.mv_move_types.specs.Options.{◌>>=◌}
 use Rattle.mv_move_types.specs.Module.{Module, FunctionDefinition, local_type, own_acquires}
 use Rattle.mv_type_states.specs.TypesHold.{Point, point_at}
 use Rattle.mv_type_states.specs.Sound.{types_before}
-use Rattle.mv_edges.specs.Edges.{Edge, Label, here, extended, opened, agrees, out_of, but_out_of, inherited, without, renamed, an_edge, edges_leq, label_leq, without_each}
+use Rattle.mv_edges.specs.Edges.{Edge, Label, here, extended, opened, agrees, out_of, but_out_of, inherited, without, renamed, an_edge}
+use Rattle.mv_edges.specs.Edges.{edges_leq, label_leq, without_each}
 use Rattle.mv_edges.specs.Related.{edges_related}
 use Rattle.mv_edges.specs.Sorted.{sorted}
 use Rattle.mv_edges.proofs.Insertion.{all_weaker}
@@ -96,15 +98,19 @@ module _ (le : Label → Label → Bool) (kept : IsKept le) where
     results_below m al k [] = refl
     results_below m al k (Plain t ∷ ts) = results_below m al (k + 1) ts
     results_below m al k (Reference t ∷ ts) =
-        related-append le (opened_edges al (Temp k) a) (opened_edges al (Temp k) b) (result_edges m al (k + 1) ts a) (result_edges m al (k + 1) ts b) (opened_below al (Temp k)) (results_below m al (k + 1) ts)
+        related-append le (opened_edges al (Temp k) a) (opened_edges al (Temp k) b)
+        (result_edges m al (k + 1) ts a) (result_edges m al (k + 1) ts b) (opened_below al (Temp k)) (results_below m al (k + 1) ts)
     results_below m al k (MutableReference t ∷ ts) =
-        related-append le (opened_edges m (Temp k) a) (opened_edges m (Temp k) b) (result_edges m al (k + 1) ts a) (result_edges m al (k + 1) ts b) (opened_below m (Temp k)) (results_below m al (k + 1) ts)
+        related-append le (opened_edges m (Temp k) a) (opened_edges m (Temp k) b)
+        (result_edges m al (k + 1) ts a) (result_edges m al (k + 1) ts b) (opened_below m (Temp k)) (results_below m al (k + 1) ts)
 
     -- ---- rows
 
     copy_below : (p : Point) (l : ℕ) (t : Token) → Below (copy_edges p l t a) (copy_edges p l t b)
     copy_below p l (Plain t) = kept_below (no_mutable_from p (Own l) a) (no_mutable_from p (Own l) b) (readable_below p (Own l))
-    copy_below p l (Reference t) = some_below (a ++ inherited (λ label. label) (Slot l) (next_temp p) a) (b ++ inherited (λ label. label) (Slot l) (next_temp p) b) (copies_below l (next_temp p))
+    copy_below p l (Reference t) =
+        some_below (a ++ inherited (λ label. label) (Slot l) (next_temp p) a) (b ++ inherited (λ label. label) (Slot l) (next_temp p) b)
+        (copies_below l (next_temp p))
     copy_below p l (MutableReference t) =
         let e = an_edge (Slot l) here (next_temp p) in
         let low = a ++ inherited (λ label. label) (Slot l) (next_temp p) a in
@@ -120,7 +126,8 @@ module _ (le : Label → Label → Bool) (kept : IsKept le) where
     move_below p l (Reference t) = moved_below p l (next_temp p)
     move_below p l (MutableReference t) = moved_below p l (next_temp p)
 
-    stored_below : (p : Point) (l : ℕ) → Below (Some (renamed (top_temp p) (Slot l) (without (Slot l) a))) (Some (renamed (top_temp p) (Slot l) (without (Slot l) b)))
+    stored_below : (p : Point) (l : ℕ)
+        → Below (Some (renamed (top_temp p) (Slot l) (without (Slot l) a))) (Some (renamed (top_temp p) (Slot l) (without (Slot l) b)))
     stored_below p l =
         some_below (renamed (top_temp p) (Slot l) (without (Slot l) a)) (renamed (top_temp p) (Slot l) (without (Slot l) b))
         (related-renamed le (top_temp p) (Slot l) (without (Slot l) a) (without (Slot l) b) (related-without le (Slot l) a b below))
@@ -132,14 +139,16 @@ module _ (le : Label → Label → Bool) (kept : IsKept le) where
 
     mutable_field_below : (p : Point) (f : ℕ) → Below (mutable_field_edges p f a) (mutable_field_edges p f b)
     mutable_field_below p f =
-        tested_below (not (list_any (λ e. agrees f e.label) (out_of (top_temp p) a))) (not (list_any (λ e. agrees f e.label) (out_of (top_temp p) b))) (field_edges p f a) (field_edges p f b)
+        tested_below (not (list_any (λ e. agrees f e.label) (out_of (top_temp p) a))) (not (list_any (λ e. agrees f e.label) (out_of (top_temp p) b)))
+        (field_edges p f a) (field_edges p f b)
         (unpassed_below (top_temp p) (λ e. agrees f e.label) (label_rises le (agrees f) (kept.agreeing f))) (field_below p f)
 
     immutable_field_below : (p : Point) (f : ℕ) → Below (immutable_field_edges p f a) (immutable_field_edges p f b)
     immutable_field_below p f =
         let q : Edge → Bool = λ e. is_mutable p e.to && agrees f e.label in
         tested_below (not (list_any q (out_of (top_temp p) a))) (not (list_any q (out_of (top_temp p) b))) (field_edges p f a) (field_edges p f b)
-        (unpassed_below (top_temp p) q (both_rise le (λ e. is_mutable p e.to) (λ e. agrees f e.label) (nodes_rise le (λ _ to. is_mutable p to)) (label_rises le (agrees f) (kept.agreeing f)))) (field_below p f)
+        (unpassed_below (top_temp p) q (both_rise le (λ e. is_mutable p e.to) (λ e. agrees f e.label)
+        (nodes_rise le (λ _ to. is_mutable p to)) (label_rises le (agrees f) (kept.agreeing f)))) (field_below p f)
 
     without_below : (low high : Bool) (n : Node) → (high ≡ true → low ≡ true) → Below (then_some low (without n a)) (then_some high (without n b))
     without_below low high n f = tested_below low high (without n a) (without n b) f (related-without le n a b below)
@@ -148,7 +157,8 @@ module _ (le : Label → Label → Bool) (kept : IsKept le) where
     return_below p =
         let q : Edge → Bool = λ e. is_temp e.to && (is_root_node e.from || is_temp e.from && is_mutable p e.from) in
         kept_below (not (list_any q a)) (not (list_any q b))
-        (λ t. ap not (none_passes_below le q (nodes_rise le (λ from to. is_temp to && (is_root_node from || is_temp from && is_mutable p from))) a b below (not-true (list_any q b) t)))
+        (λ t. ap not (none_passes_below le q (nodes_rise le (λ from to. is_temp to && (is_root_node from || is_temp from && is_mutable p from)))
+        a b below (not-true (list_any q b) t)))
 
   all_without_below : (ns : List Node) (a b : List Edge) → edges_related le a b ≡ true → edges_related le (without_each ns a) (without_each ns b) ≡ true
   all_without_below [] a b h = h
@@ -156,17 +166,21 @@ module _ (le : Label → Label → Bool) (kept : IsKept le) where
 
   -- a call of a function with these types
   tied_below : (a b : List Edge) → edges_related le a b ≡ true → (mutable al : List Node) (acquired : List ℕ) (base : ℕ) (results : List Token)
-      → Below (then_some (list_all (λ n. no_edge_out n a) mutable && list_all (λ t. no_edge_out (Glob t) a) acquired) (without_each al a ++ result_edges mutable al base results a))
-      (then_some (list_all (λ n. no_edge_out n b) mutable && list_all (λ t. no_edge_out (Glob t) b) acquired) (without_each al b ++ result_edges mutable al base results b))
+      → Below (then_some (list_all (λ n. no_edge_out n a) mutable && list_all (λ t. no_edge_out (Glob t) a) acquired)
+      (without_each al a ++ result_edges mutable al base results a))
+      (then_some (list_all (λ n. no_edge_out n b) mutable && list_all (λ t. no_edge_out (Glob t) b) acquired)
+      (without_each al b ++ result_edges mutable al base results b))
   tied_below a b h mutable al acquired base results =
-      tested_below (list_all (λ n. no_edge_out n a) mutable && list_all (λ t. no_edge_out (Glob t) a) acquired) (list_all (λ n. no_edge_out n b) mutable && list_all (λ t. no_edge_out (Glob t) b) acquired)
+      tested_below (list_all (λ n. no_edge_out n a) mutable && list_all (λ t. no_edge_out (Glob t) a) acquired)
+      (list_all (λ n. no_edge_out n b) mutable && list_all (λ t. no_edge_out (Glob t) b) acquired)
       (without_each al a ++ result_edges mutable al base results a) (without_each al b ++ result_edges mutable al base results b)
       (λ t.
       let parts = and_parts (list_all (λ n. no_edge_out n b) mutable) (list_all (λ t. no_edge_out (Glob t) b) acquired) t in
       and_from (list_all (λ n. no_edge_out n a) mutable) (list_all (λ t. no_edge_out (Glob t) a) acquired)
       (all_weaker (λ n. no_edge_out n b) (λ n. no_edge_out n a) (free_below a b h) mutable parts.0)
       (all_weaker (λ t. no_edge_out (Glob t) b) (λ t. no_edge_out (Glob t) a) (λ t. free_below a b h (Glob t)) acquired parts.1))
-      (related-append le (without_each al a) (without_each al b) (result_edges mutable al base results a) (result_edges mutable al base results b) (all_without_below al a b h) (results_below a b h mutable al base results))
+      (related-append le (without_each al a) (without_each al b) (result_edges mutable al base results a) (result_edges mutable al base results b)
+      (all_without_below al a b h) (results_below a b h mutable al base results))
 
   call_below : (a b : List Edge) → edges_related le a b ≡ true → (p : Point) (i : ℕ) → Below (call_edges p i a) (call_edges p i b)
   call_below a b h p i =
@@ -174,7 +188,8 @@ module _ (le : Label → Label → Bool) (kept : IsKept le) where
       found_below (slice_get p.home.signatures handle.parameters) _ _ (λ parameters.
       found_below (slice_get p.home.signatures handle.results) _ _ (λ results.
       let base = length p.types - length parameters in
-      tied_below a b h (reference_nodes is_mutable_token base parameters) (reference_nodes is_reference_token base parameters) (own_acquires p.home i) base results)))
+      tied_below a b h (reference_nodes is_mutable_token base parameters) (reference_nodes is_reference_token base parameters)
+      (own_acquires p.home i) base results)))
 
   -- each row
   pub after_below : (p : Point) (i : Instruction) (a b : List Edge) → edges_related le a b ≡ true → Below (edges_after p i a) (edges_after p i b)
@@ -184,27 +199,39 @@ module _ (le : Label → Label → Bool) (kept : IsKept le) where
   after_below p (CopyLoc x) a b h = found_below (local_type p.home p.function x) (λ t. copy_edges p x t a) (λ t. copy_edges p x t b) (copy_below a b h p x)
   after_below p (MoveLoc x) a b h = found_below (local_type p.home p.function x) (λ t. move_edges p x t a) (λ t. move_edges p x t b) (move_below a b h p x)
   after_below p (StLoc x) a b h = found_below (local_type p.home p.function x) (λ t. store_edges p x t a) (λ t. store_edges p x t b) (store_below a b h p x)
-  after_below p (MutBorrowLoc x) a b h = lent_below a b h (no_edge_out (Own x) a) (no_edge_out (Own x) b) (an_edge (Own x) here (next_temp p)) (free_below a b h (Own x))
-  after_below p (ImmBorrowLoc x) a b h = lent_below a b h (no_mutable_from p (Own x) a) (no_mutable_from p (Own x) b) (an_edge (Own x) here (next_temp p)) (readable_below a b h p (Own x))
-  after_below p (MutBorrowField x) a b h = found_below (position_of p x) (λ f. mutable_field_edges p f a) (λ f. mutable_field_edges p f b) (mutable_field_below a b h p)
-  after_below p (ImmBorrowField x) a b h = found_below (position_of p x) (λ f. immutable_field_edges p f a) (λ f. immutable_field_edges p f b) (immutable_field_below a b h p)
+  after_below p (MutBorrowLoc x) a b h =
+      lent_below a b h (no_edge_out (Own x) a) (no_edge_out (Own x) b) (an_edge (Own x) here (next_temp p)) (free_below a b h (Own x))
+  after_below p (ImmBorrowLoc x) a b h =
+      lent_below a b h (no_mutable_from p (Own x) a) (no_mutable_from p (Own x) b) (an_edge (Own x) here (next_temp p)) (readable_below a b h p (Own x))
+  after_below p (MutBorrowField x) a b h =
+      found_below (position_of p x) (λ f. mutable_field_edges p f a) (λ f. mutable_field_edges p f b) (mutable_field_below a b h p)
+  after_below p (ImmBorrowField x) a b h =
+      found_below (position_of p x) (λ f. immutable_field_edges p f a) (λ f. immutable_field_edges p f b) (immutable_field_below a b h p)
   after_below p (Call x) a b h = call_below a b h p x
-  after_below p ReadRef a b h = without_below a b h (no_mutable_from p (top_temp p) a) (no_mutable_from p (top_temp p) b) (top_temp p) (readable_below a b h p (top_temp p))
+  after_below p ReadRef a b h =
+      without_below a b h (no_mutable_from p (top_temp p) a) (no_mutable_from p (top_temp p) b) (top_temp p) (readable_below a b h p (top_temp p))
   after_below p WriteRef a b h = without_below a b h (no_edge_out (top_temp p) a) (no_edge_out (top_temp p) b) (top_temp p) (free_below a b h (top_temp p))
-  after_below p (MutBorrowGlobal x) a b h = lent_below a b h (no_edge_out (Glob x) a) (no_edge_out (Glob x) b) (an_edge (Glob x) here (top_temp p)) (free_below a b h (Glob x))
-  after_below p (ImmBorrowGlobal x) a b h = lent_below a b h (no_mutable_from p (Glob x) a) (no_mutable_from p (Glob x) b) (an_edge (Glob x) here (top_temp p)) (readable_below a b h p (Glob x))
+  after_below p (MutBorrowGlobal x) a b h =
+      lent_below a b h (no_edge_out (Glob x) a) (no_edge_out (Glob x) b) (an_edge (Glob x) here (top_temp p)) (free_below a b h (Glob x))
+  after_below p (ImmBorrowGlobal x) a b h =
+      lent_below a b h (no_mutable_from p (Glob x) a) (no_mutable_from p (Glob x) b) (an_edge (Glob x) here (top_temp p)) (readable_below a b h p (Glob x))
   after_below p (MoveFrom x) a b h = kept_below a b h (no_edge_out (Glob x) a) (no_edge_out (Glob x) b) (free_below a b h (Glob x))
-  after_below p (MoveTo x) a b h = some_below (without (Temp (length p.types - 2)) a) (without (Temp (length p.types - 2)) b) (related-without le (Temp (length p.types - 2)) a b h)
-  after_below p FreezeRef a b h = tested_below (no_mutable_from p (top_temp p) a) (no_mutable_from p (top_temp p) b) (but_out_of (top_temp p) a) (but_out_of (top_temp p) b) (readable_below a b h p (top_temp p)) (related-but_out_of le (top_temp p) a b h)
+  after_below p (MoveTo x) a b h =
+      some_below (without (Temp (length p.types - 2)) a) (without (Temp (length p.types - 2)) b) (related-without le (Temp (length p.types - 2)) a b h)
+  after_below p FreezeRef a b h =
+      tested_below (no_mutable_from p (top_temp p) a) (no_mutable_from p (top_temp p) b) (but_out_of (top_temp p) a) (but_out_of (top_temp p) b)
+      (readable_below a b h p (top_temp p)) (related-but_out_of le (top_temp p) a b h)
   after_below p _ a b h = some_below a b h
 
   -- the step at a place is defined where it is on a related state, and its result is related
-  pub step_related : (m : Module) (d : FunctionDefinition) (at : ℕ) (a b : List Edge) → edges_related le a b ≡ true → Below (edges_step m d at a) (edges_step m d at b)
+  pub step_related : (m : Module) (d : FunctionDefinition) (at : ℕ) (a b : List Edge) → edges_related le a b ≡ true
+      → Below (edges_step m d at a) (edges_step m d at b)
   step_related m d at a b h =
       found_below (slice_get d.code at) _ _ (λ i.
       found_below (slice_get (types_before m d) at) _ _ (λ types.
       ordered_below (edges_after (point_at m d types) i a) (edges_after (point_at m d types) i b) (after_below (point_at m d types) i a b h)))
 
 -- the step at a place is defined where it is on a larger state, and its result is below
-pub step_below : (m : Module) (d : FunctionDefinition) (at : ℕ) (a b : List Edge) → edges_leq a b ≡ true → Below label_leq order_kept (edges_step m d at a) (edges_step m d at b)
+pub step_below : (m : Module) (d : FunctionDefinition) (at : ℕ) (a b : List Edge) → edges_leq a b ≡ true
+    → Below label_leq order_kept (edges_step m d at a) (edges_step m d at b)
 step_below m d at a b h = step_related label_leq order_kept m d at a b h

@@ -1,5 +1,6 @@
 -- Row by row: edges between nodes that are there lead, after an instruction, between nodes that are there with the types after it.
-use Rattle.std.proofs.Common.{◌≡◌, ℕ, zero, suc, ◌+◌, ◌-◌, Bool, true, false, cond, not, ◌&&◌, List, [], ◌∷◌, ◌++◌, length, filter, Some, refl, sym, ap, ◌∙◌, subst, arith}
+use Rattle.std.proofs.Common.{◌≡◌, ℕ, zero, suc, ◌+◌, ◌-◌, Bool, true, false, cond, not, ◌&&◌, List, [], ◌∷◌, ◌++◌, length, filter, Some}
+use Rattle.std.proofs.Common.{refl, sym, ap, ◌∙◌, subst, arith}
 use Rattle.std.specs.Prelude.{nat_lt, if◌then◌else◌}
 use Rattle.std.specs.List.{list_all}
 use Rattle.std.specs.Option.{option_map_or}
@@ -65,13 +66,15 @@ module _ (m : Module) (d : FunctionDefinition) where
       (λ rest. all_stay m d h.taken h.given rest (plain_none h.taken h.plain) es)
 
   -- the topmost operand's go
-  pub top_row : (s t : Types) (x : Token) (given : Types) → Shift s t (x ∷ []) given → (es : List Edge) → are_there (at s) es ≡ true → are_there (at t) (without (top_temp (at s)) es) ≡ true
+  pub top_row : (s t : Types) (x : Token) (given : Types) → Shift s t (x ∷ []) given → (es : List Edge) → are_there (at s) es ≡ true
+      → are_there (at t) (without (top_temp (at s)) es) ≡ true
   top_row s t x given h es =
       shifted s t (x ∷ []) given h (λ y z. are_there (at y) es ≡ true → are_there (at z) (without (top_temp (at y)) es) ≡ true)
       (λ rest. others_stay m d (x ∷ []) given rest 0 (only_one x) (top_temp (at (x ∷ rest))) (ap Temp (omega arith)) es)
 
   -- a write
-  pub write_row : (s t : Types) (x : Token) (v : ValueType) → Shift s t (x ∷ Plain v ∷ []) [] → (es : List Edge) → are_there (at s) es ≡ true → are_there (at t) (without (top_temp (at s)) es) ≡ true
+  pub write_row : (s t : Types) (x : Token) (v : ValueType) → Shift s t (x ∷ Plain v ∷ []) [] → (es : List Edge) → are_there (at s) es ≡ true
+      → are_there (at t) (without (top_temp (at s)) es) ≡ true
   write_row s t x v h es =
       shifted s t (x ∷ Plain v ∷ []) [] h (λ y z. are_there (at y) es ≡ true → are_there (at z) (without (top_temp (at y)) es) ≡ true)
       (λ rest. others_stay m d (x ∷ Plain v ∷ []) [] rest 1 (only_second x v) (top_temp (at (x ∷ Plain v ∷ rest))) (ap Temp (omega arith)) es)
@@ -117,7 +120,8 @@ module _ (m : Module) (d : FunctionDefinition) where
         by_to e was ne (same_node e.to (top_temp before)) refl)
         es h
       where
-        by_to : (e : Edge) → IsThere before e → same_node e.from (top_temp before) ≡ false → (b : Bool) → same_node e.to (top_temp before) ≡ b → edge_is_there after e ≡ true
+        by_to : (e : Edge) → IsThere before e → same_node e.from (top_temp before) ≡ false
+            → (b : Bool) → same_node e.to (top_temp before) ≡ b → edge_is_there after e ≡ true
         by_to e was ne true at_top = there_from after e (record {
           out = out_stays m d (x ∷ []) (y ∷ []) rest e.from was.out (out_other e.from was.out ne);
           into = ap (leads_in after) (same_node-is e.to (top_temp before) at_top) ∙ into_top;
@@ -125,7 +129,8 @@ module _ (m : Module) (d : FunctionDefinition) where
           small = was.small;
         })
         by_to e was ne false other =
-            edge_stays m d (x ∷ []) (y ∷ []) rest e was (out_other e.from was.out ne) (in_under m d (x ∷ []) (y ∷ []) rest 0 (only_one x) e.to was.into (ap (same_node e.to) (sym top_is) ∙ other))
+            edge_stays m d (x ∷ []) (y ∷ []) rest e was (out_other e.from was.out ne)
+            (in_under m d (x ∷ []) (y ∷ []) rest 0 (only_one x) e.to was.into (ap (same_node e.to) (sym top_is) ∙ other))
 
     -- a label one position longer
     longer_small : (f : ℕ) → nat_lt f 32 ≡ true → (label : Label) → is_small label ≡ true → is_small (extended f label) ≡ true
@@ -133,7 +138,8 @@ module _ (m : Module) (d : FunctionDefinition) where
       where
         by_open : (b : Bool) → list_all (λ i. nat_lt i 32) (if b then label.path else (label.path ++ f ∷ [])) ≡ true
         by_open true = h
-        by_open false = list_all-append (λ i. nat_lt i 32) label.path (f ∷ []) ∙ and_from (is_small label) (list_all (λ i. nat_lt i 32) (f ∷ [])) h (and_from (nat_lt f 32) true low refl)
+        by_open false = list_all-append (λ i. nat_lt i 32) label.path (f ∷ [])
+            ∙ and_from (is_small label) (list_all (λ i. nat_lt i 32) (f ∷ [])) h (and_from (nat_lt f 32) true low refl)
 
     field_at : (f : ℕ) → nat_lt f 32 ≡ true → (es : List Edge) → are_there before es ≡ true → are_there after (field_edges before f es) ≡ true
     field_at f low es h =
@@ -143,30 +149,37 @@ module _ (m : Module) (d : FunctionDefinition) where
         (each_inherited (edge_is_there before) (edge_is_there after) (extended f) top top
         (λ e t into_it.
         let was = there_parts before e t in
-        into_new e.from (extended f e.label) was.out (ap (same_node e.from) (sym (same_node-is e.to top into_it)) ∙ was.apart) (longer_small f low e.label was.small))
+        into_new e.from (extended f e.label) was.out (ap (same_node e.from) (sym (same_node-is e.to top into_it)) ∙ was.apart)
+        (longer_small f low e.label was.small))
         es h)
 
-    global_at : is_plain x ≡ true → (i : ℕ) → nat_lt i (length m.structs) ≡ true → (es : List Edge) → are_there before es ≡ true → are_there after (global_edges before i es) ≡ true
+    global_at : is_plain x ≡ true → (i : ℕ) → nat_lt i (length m.structs) ≡ true → (es : List Edge) → are_there before es ≡ true
+        → are_there after (global_edges before i es) ≡ true
     global_at plain i low es h =
         each_append (edge_is_there after) es (an_edge (Glob i) here (top_temp before) ∷ [])
         (all_stay m d (x ∷ []) (y ∷ []) rest (none_plain x plain) es h)
-        (each_one (edge_is_there after) (an_edge (Glob i) here (top_temp before)) (there_from after (an_edge (Glob i) here (top_temp before)) (record { out = low; into = into_top; apart = refl; small = refl })))
+        (each_one (edge_is_there after) (an_edge (Glob i) here (top_temp before))
+        (there_from after (an_edge (Glob i) here (top_temp before)) (record { out = low; into = into_top; apart = refl; small = refl })))
 
   pub freeze_row : (s t : Types) (x y : Token) → is_reference_token y ≡ true → Shift s t (x ∷ []) (y ∷ []) → (es : List Edge) → are_there (at s) es ≡ true
       → are_there (at t) (filter (λ e. not (same_node e.from (top_temp (at s)))) es) ≡ true
   freeze_row s t x y r h es =
-      shifted s t (x ∷ []) (y ∷ []) h (λ a b. are_there (at a) es ≡ true → are_there (at b) (filter (λ e. not (same_node e.from (top_temp (at a)))) es) ≡ true) (λ rest. freeze_at x y r rest es)
+      shifted s t (x ∷ []) (y ∷ []) h (λ a b. are_there (at a) es ≡ true → are_there (at b) (filter (λ e. not (same_node e.from (top_temp (at a)))) es) ≡ true)
+      (λ rest. freeze_at x y r rest es)
 
-  pub field_row : (s t : Types) (x y : Token) → is_reference_token y ≡ true → Shift s t (x ∷ []) (y ∷ []) → (f : ℕ) → nat_lt f 32 ≡ true → (es : List Edge) → are_there (at s) es ≡ true
+  pub field_row : (s t : Types) (x y : Token) → is_reference_token y ≡ true → Shift s t (x ∷ []) (y ∷ [])
+      → (f : ℕ) → nat_lt f 32 ≡ true → (es : List Edge) → are_there (at s) es ≡ true
       → are_there (at t) (field_edges (at s) f es) ≡ true
   field_row s t x y r h f low es =
-      shifted s t (x ∷ []) (y ∷ []) h (λ a b. are_there (at a) es ≡ true → are_there (at b) (field_edges (at a) f es) ≡ true) (λ rest. field_at x y r rest f low es)
+      shifted s t (x ∷ []) (y ∷ []) h (λ a b. are_there (at a) es ≡ true → are_there (at b) (field_edges (at a) f es) ≡ true)
+      (λ rest. field_at x y r rest f low es)
 
-  pub global_row : (s t : Types) (x y : Token) → is_plain x ≡ true → is_reference_token y ≡ true → Shift s t (x ∷ []) (y ∷ []) → (i : ℕ) → nat_lt i (length m.structs) ≡ true → (es : List Edge)
-      → are_there (at s) es ≡ true
+  pub global_row : (s t : Types) (x y : Token) → is_plain x ≡ true → is_reference_token y ≡ true → Shift s t (x ∷ []) (y ∷ [])
+      → (i : ℕ) → nat_lt i (length m.structs) ≡ true → (es : List Edge) → are_there (at s) es ≡ true
       → are_there (at t) (global_edges (at s) i es) ≡ true
   global_row s t x y p r h i low es =
-      shifted s t (x ∷ []) (y ∷ []) h (λ a b. are_there (at a) es ≡ true → are_there (at b) (global_edges (at a) i es) ≡ true) (λ rest. global_at x y r rest p i low es)
+      shifted s t (x ∷ []) (y ∷ []) h (λ a b. are_there (at a) es ≡ true → are_there (at b) (global_edges (at a) i es) ≡ true)
+      (λ rest. global_at x y r rest p i low es)
 
   -- ---- a reference is put on the stack
   module _ (y : Token) (is_ref : is_reference_token y ≡ true) (rest : Types) where
@@ -200,30 +213,37 @@ module _ (m : Module) (d : FunctionDefinition) where
     edges_stay : (es : List Edge) → are_there under es ≡ true → are_there over es ≡ true
     edges_stay es = all_stay m d [] (y ∷ []) rest none_taken es
 
-    pub lent_at : (n : Node) → leads_out under n ≡ true → (es : List Edge) → are_there under es ≡ true → are_there over (es ++ an_edge n here (next_temp under) ∷ []) ≡ true
+    pub lent_at : (n : Node) → leads_out under n ≡ true → (es : List Edge) → are_there under es ≡ true
+        → are_there over (es ++ an_edge n here (next_temp under) ∷ []) ≡ true
     lent_at n h es all =
         each_append (edge_is_there over) es (an_edge n here (next_temp under) ∷ []) (edges_stay es all)
         (each_one (edge_is_there over) (an_edge n here (next_temp under))
-        (there_from over (an_edge n here (next_temp under)) (record { out = outs_stay n h; into = into_next; apart = apart_next n (outs_under n h); small = refl })))
+        (there_from over (an_edge n here (next_temp under))
+        (record { out = outs_stay n h; into = into_next; apart = apart_next n (outs_under n h); small = refl })))
 
-    pub copied_at : (l : ℕ) (es : List Edge) → are_there under es ≡ true → are_there over (es ++ inherited (λ label. label) (Slot l) (next_temp under) es) ≡ true
+    pub copied_at : (l : ℕ) (es : List Edge) → are_there under es ≡ true
+        → are_there over (es ++ inherited (λ label. label) (Slot l) (next_temp under) es) ≡ true
     copied_at l es all =
         each_append (edge_is_there over) es (inherited (λ label. label) (Slot l) (next_temp under) es) (edges_stay es all)
         (each_inherited (edge_is_there under) (edge_is_there over) (λ label. label) (Slot l) (next_temp under)
         (λ e t _.
         let was = there_parts under e t in
-        there_from over (record { from = e.from; label = e.label; to = next_temp under }) (record { out = outs_stay e.from was.out; into = into_next; apart = apart_next e.from (outs_under e.from was.out); small = was.small }))
+        there_from over (record { from = e.from; label = e.label; to = next_temp under })
+        (record { out = outs_stay e.from was.out; into = into_next; apart = apart_next e.from (outs_under e.from was.out); small = was.small }))
         es all)
 
     -- a mutable copy is a child of its original, too
     pub child_at : (l : ℕ) → leads_out under (Slot l) ≡ true → (es : List Edge) → are_there under es ≡ true
         → are_there over (es ++ inherited (λ label. label) (Slot l) (next_temp under) es ++ an_edge (Slot l) here (next_temp under) ∷ []) ≡ true
     child_at l h es all =
-        each_append (edge_is_there over) (es ++ inherited (λ label. label) (Slot l) (next_temp under) es) (an_edge (Slot l) here (next_temp under) ∷ []) (copied_at l es all)
+        each_append (edge_is_there over) (es ++ inherited (λ label. label) (Slot l) (next_temp under) es)
+        (an_edge (Slot l) here (next_temp under) ∷ []) (copied_at l es all)
         (each_one (edge_is_there over) (an_edge (Slot l) here (next_temp under))
-        (there_from over (an_edge (Slot l) here (next_temp under)) (record { out = outs_stay (Slot l) h; into = into_next; apart = apart_next (Slot l) refl; small = refl })))
+        (there_from over (an_edge (Slot l) here (next_temp under))
+        (record { out = outs_stay (Slot l) h; into = into_next; apart = apart_next (Slot l) refl; small = refl })))
 
-    pub moved_at : (l : ℕ) → local_type m d l ≡ Some y → (es : List Edge) → are_there under es ≡ true → are_there over (renamed (Slot l) (next_temp under) es) ≡ true
+    pub moved_at : (l : ℕ) → local_type m d l ≡ Some y → (es : List Edge) → are_there under es ≡ true
+        → are_there over (renamed (Slot l) (next_temp under) es) ≡ true
     moved_at l typed es all =
         renamed_there under over (Slot l) (next_temp under)
         (λ n h _. by_out n h (same_node n (Slot l)) refl)
@@ -251,7 +271,8 @@ module _ (m : Module) (d : FunctionDefinition) where
     top_of : top_temp over ≡ Temp (length rest + 0)
     top_of = ap Temp (omega arith)
 
-    pub stored_at : (l : ℕ) → local_type m d l ≡ Some y → (es : List Edge) → are_there over es ≡ true → are_there under (renamed (top_temp over) (Slot l) (without (Slot l) es)) ≡ true
+    pub stored_at : (l : ℕ) → local_type m d l ≡ Some y → (es : List Edge) → are_there over es ≡ true
+        → are_there under (renamed (top_temp over) (Slot l) (without (Slot l) es)) ≡ true
     stored_at l typed es all =
         renamed_there over under (top_temp over) (Slot l)
         (λ n h _. by_out n h (same_node n (top_temp over)) refl)
@@ -265,7 +286,8 @@ module _ (m : Module) (d : FunctionDefinition) where
         by_out : (n : Node) → leads_out over n ≡ true → (b : Bool) → same_node n (top_temp over) ≡ b → leads_out under (cond b (Slot l) n) ≡ true
         by_out n h true is =
             local_is is_mutable_token under l y typed
-            (sym (has_over (y ∷ []) rest is_mutable_token 0) ∙ ap (leads_out over) (sym top_of) ∙ ap (leads_out over) (sym (same_node-is n (top_temp over) is)) ∙ h)
+            (sym (has_over (y ∷ []) rest is_mutable_token 0) ∙ ap (leads_out over) (sym top_of)
+            ∙ ap (leads_out over) (sym (same_node-is n (top_temp over) is)) ∙ h)
         by_out n h false other = out_stays m d (y ∷ []) [] rest n h (out_under m d (y ∷ []) [] rest 0 (only_one y) n h (ap (same_node n) (sym top_of) ∙ other))
 
         by_in : (n : Node) → leads_in over n ≡ true → (b : Bool) → same_node n (top_temp over) ≡ b → leads_in under (cond b (Slot l) n) ≡ true

@@ -105,7 +105,11 @@ equality_shift m s t e =
     let last = provided_true a.0.drop (boolean ∷ below.0) t below.1.1 in
     let is_plain_top : is_plain top.0.0 ≡ true = plain_type top.0.0 plain.0 plain.1.0 in
     plainly s t (top.0.0 ∷ top.0.0 ∷ []) (boolean ∷ [])
-    (record { rest = below.0; before = top_some s top.0 top.1.0 ∙ ap (λ xs. top.0.0 ∷ xs) (taken_is (top.0.0 ∷ []) top.0.1 below.0 below.1.0); after = sym last.1 })
+    (record {
+      rest = below.0;
+      before = top_some s top.0 top.1.0 ∙ ap (λ xs. top.0.0 ∷ xs) (taken_is (top.0.0 ∷ []) top.0.1 below.0 below.1.0);
+      after = sym last.1;
+    })
     (rw is_plain_top refl)
 
 pub shift_shift : (s t : Types) → of_shift s ≡ Some t → PlainShift s t
@@ -128,11 +132,14 @@ cast_shift w s t e =
     plainly s t (top.0.0 ∷ []) (number w ∷ []) (replaced s top.0 (number w) t top.1.0 width.1.1) (rw is refl)
 
 -- structs
-pub pack_shift : (m : Module) (i : ℕ) (s t : Types) → list_all (λ (x : StructDefinition). list_all (λ f. is_plain f.token) x.fields) m.structs ≡ true → of_pack m i s ≡ Some t → PlainShift s t
+pub pack_shift : (m : Module) (i : ℕ) (s t : Types)
+    → list_all (λ (x : StructDefinition). list_all (λ f. is_plain f.token) x.fields) m.structs ≡ true → of_pack m i s ≡ Some t → PlainShift s t
 pack_shift m i s t plain e =
     let d = bind_some (slice_get m.structs i) _ t e in
-    let fields : list_all (λ (f : Field). is_plain f.token) d.0.fields ≡ true = all_at (λ (x : StructDefinition). list_all (λ f. is_plain f.token) x.fields) m.structs i d.0 plain d.1.0 in
-    plain_exchanged (map (λ f. f.token) d.0.fields) (Plain (OfStruct d.0.handle) ∷ []) s t (list_all-map is_plain (λ (f : Field). f.token) d.0.fields ∙ fields) d.1.1
+    let fields : list_all (λ (f : Field). is_plain f.token) d.0.fields ≡ true =
+    all_at (λ (x : StructDefinition). list_all (λ f. is_plain f.token) x.fields) m.structs i d.0 plain d.1.0 in
+    plain_exchanged (map (λ f. f.token) d.0.fields) (Plain (OfStruct d.0.handle) ∷ []) s t
+    (list_all-map is_plain (λ (f : Field). f.token) d.0.fields ∙ fields) d.1.1
 
 pub unpack_shift : (m : Module) (i : ℕ) (s t : Types) → of_unpack m i s ≡ Some t → PlainShift s t
 unpack_shift m i s t e =
@@ -156,18 +163,21 @@ pop_shift m s t e =
     let a = bind_some (token_abilities m top.0.0) _ t top.1.1 in
     (top.0.0, popped s top.0 t top.1.0 (provided_true a.0.drop top.0.1 t a.1.1).1)
 
-pub copy_shift : (m : Module) (d : FunctionDefinition) (l : ℕ) (s t : Types) → of_copy m d l s ≡ Some t → (x : Token) × ((local_type m d l ≡ Some x) × Shift s t [] (x ∷ []))
+pub copy_shift : (m : Module) (d : FunctionDefinition) (l : ℕ) (s t : Types) → of_copy m d l s ≡ Some t
+    → (x : Token) × ((local_type m d l ≡ Some x) × Shift s t [] (x ∷ []))
 copy_shift m d l s t e =
     let x = bind_some (local_type m d l) _ t e in
     let a = bind_some (token_abilities m x.0) _ t x.1.1 in
     (x.0, (x.1.0, pushed x.0 s t (ap Some (provided_true a.0.copy (x.0 ∷ s) t a.1.1).1)))
 
-pub move_shift : (m : Module) (d : FunctionDefinition) (l : ℕ) (s t : Types) → (local_type m d l >>= λ x. Some (x ∷ s)) ≡ Some t → (x : Token) × ((local_type m d l ≡ Some x) × Shift s t [] (x ∷ []))
+pub move_shift : (m : Module) (d : FunctionDefinition) (l : ℕ) (s t : Types) → (local_type m d l >>= λ x. Some (x ∷ s)) ≡ Some t
+    → (x : Token) × ((local_type m d l ≡ Some x) × Shift s t [] (x ∷ []))
 move_shift m d l s t e = let x = bind_some (local_type m d l) _ t e in (x.0, (x.1.0, pushed x.0 s t x.1.1))
 
 pub store_shift : (m : Module) (d : FunctionDefinition) (l : ℕ) (s t : Types) → (local_type m d l >>= λ x. taken (x ∷ []) s) ≡ Some t
     → (x : Token) × ((local_type m d l ≡ Some x) × Shift s t (x ∷ []) [])
-store_shift m d l s t e = let x = bind_some (local_type m d l) _ t e in (x.0, (x.1.0, record { rest = t; before = taken_is (x.0 ∷ []) s t x.1.1; after = refl }))
+store_shift m d l s t e =
+    let x = bind_some (local_type m d l) _ t e in (x.0, (x.1.0, record { rest = t; before = taken_is (x.0 ∷ []) s t x.1.1; after = refl }))
 
 pub borrow_shift : (given : ValueType → Token) (m : Module) (d : FunctionDefinition) (l : ℕ) (s t : Types) → of_borrow_local given m d l s ≡ Some t
     → (x : Token) × ((local_type m d l ≡ Some x) × ((is_plain x ≡ true) × ((v : ValueType) × Shift s t [] (given v ∷ []))))
@@ -178,15 +188,25 @@ borrow_shift given m d l s t e =
 
 pub mutable_field_shift : (m : Module) (i : ℕ) (s t : Types) → of_mutable_field m i s ≡ Some t
     → (v : ValueType × ValueType) × ((field_types m i ≡ Some v) × Shift s t (MutableReference v.0 ∷ []) (MutableReference v.1 ∷ []))
-mutable_field_shift m i s t e = let v = bind_some (field_types m i) _ t e in (v.0, (v.1.0, exchanged (MutableReference v.0.0 ∷ []) (MutableReference v.0.1 ∷ []) s t v.1.1))
+mutable_field_shift m i s t e =
+    let v = bind_some (field_types m i) _ t e in (v.0, (v.1.0, exchanged (MutableReference v.0.0 ∷ []) (MutableReference v.0.1 ∷ []) s t v.1.1))
 
 pub immutable_field_shift : (m : Module) (i : ℕ) (s t : Types) → of_immutable_field m i s ≡ Some t
     → (v : ValueType × ValueType) × ((field_types m i ≡ Some v) × ((x : Token) × Shift s t (x ∷ []) (Reference v.1 ∷ [])))
 immutable_field_shift m i s t e =
     let v = bind_some (field_types m i) _ t e in
     let top = bind_some (top_type s) _ t v.1.1 in
-    let target = bind_some (target_of top.0.0) _ t top.1.1 in
-    (v.0, (v.1.0, (top.0.0, replaced s top.0 (Reference v.0.1) t top.1.0 (ap Some (provided_true (same_value_type target.0 v.0.0) (Reference v.0.1 ∷ top.0.1) t target.1.1).1))))
+    let target = bind_some (target_of top.0.0) _ t top.1.1 in (
+      v.0,
+      (
+        v.1.0,
+        (
+          top.0.0,
+          replaced s top.0 (Reference v.0.1) t top.1.0
+              (ap Some (provided_true (same_value_type target.0 v.0.0) (Reference v.0.1 ∷ top.0.1) t target.1.1).1),
+        ),
+      ),
+    )
 
 pub read_shift : (m : Module) (s t : Types) → of_read m s ≡ Some t → (x : Token) × ((v : ValueType) × Shift s t (x ∷ []) (Plain v ∷ []))
 read_shift m s t e =
@@ -200,8 +220,17 @@ write_shift m s t e =
     let top = bind_some (top_type s) _ t e in
     let target = bind_some (mutable_target_of top.0.0) _ t top.1.1 in
     let a = bind_some (value_type_abilities m target.0) _ t target.1.1 in
-    let below = bind_some (taken (Plain target.0 ∷ []) top.0.1) _ t a.1.1 in
-    (top.0.0, (target.0, record { rest = below.0; before = top_some s top.0 top.1.0 ∙ ap (λ xs. top.0.0 ∷ xs) (taken_is (Plain target.0 ∷ []) top.0.1 below.0 below.1.0); after = sym (provided_true a.0.drop below.0 t below.1.1).1 }))
+    let below = bind_some (taken (Plain target.0 ∷ []) top.0.1) _ t a.1.1 in (
+      top.0.0,
+      (
+        target.0,
+        record {
+          rest = below.0;
+          before = top_some s top.0 top.1.0 ∙ ap (λ xs. top.0.0 ∷ xs) (taken_is (Plain target.0 ∷ []) top.0.1 below.0 below.1.0);
+          after = sym (provided_true a.0.drop below.0 t below.1.1).1;
+        },
+      ),
+    )
 
 pub freeze_shift : (s t : Types) → of_freeze s ≡ Some t → (x : Token) × ((v : ValueType) × Shift s t (x ∷ []) (Reference v ∷ []))
 freeze_shift s t e =

@@ -68,8 +68,10 @@ tiles_within (b ∷ bs) at size t = let le = tiles_within bs (b.last + 1) size t
 -- a block begins after those before it
 pub tiles_after : (bs : List BasicBlock) (at size k : ℕ) (b : BasicBlock) → Tiles at bs size → slice_get bs k ≡ Some b → at ≤ b.first
 tiles_after [] at size k b t e = absurd (none-some b e)
-tiles_after (c ∷ bs) at size zero b t e = let same : c ≡ b = same_Some c b e in let one : c.first ≡ at = t.0 in let two = ap (λ (s : BasicBlock). s.first) same in omega arith
-tiles_after (c ∷ bs) at size (suc k) b t e = let le = tiles_after bs (c.last + 1) size k b t.1.1 e in let one : c.first ≡ at = t.0 in let two : c.first ≤ c.last = t.1.0 in omega arith
+tiles_after (c ∷ bs) at size zero b t e =
+    let same : c ≡ b = same_Some c b e in let one : c.first ≡ at = t.0 in let two = ap (λ (s : BasicBlock). s.first) same in omega arith
+tiles_after (c ∷ bs) at size (suc k) b t e =
+    let le = tiles_after bs (c.last + 1) size k b t.1.1 e in let one : c.first ≡ at = t.0 in let two : c.first ≤ c.last = t.1.0 in omega arith
 
 module _ (m : Module) (d : FunctionDefinition) where
   -- as many types as instructions
@@ -78,7 +80,8 @@ module _ (m : Module) (d : FunctionDefinition) where
   length-types_each (i ∷ is) types h = by_step (types_after m d i types) (λ after. length-types_each is after) h
     where
       by_step : (o : Option Types) → ((after : Types) → is_some (types_through m d is after) ≡ true → length (types_each m d is after) ≡ length is)
-          → is_some (o >>= λ after. cond (nat_le (length after) 128) (types_through m d is after) None) ≡ true → suc (length (option_map_or (types_each m d is) o [])) ≡ suc (length is)
+          → is_some (o >>= λ after. cond (nat_le (length after) 128) (types_through m d is after) None) ≡ true
+          → suc (length (option_map_or (types_each m d is) o [])) ≡ suc (length is)
       by_step None on h = absurd (false≢true h)
       by_step (Some after) on h = ap suc (on after (some-height (nat_le (length after) 128) (types_through m d is after) h))
 
@@ -91,7 +94,8 @@ module _ (m : Module) (d : FunctionDefinition) where
       by_end (Some stack) size h = refl
 
   -- the types before a block's instructions stand among those of the function
-  types_there : (bs : List BasicBlock) (at : ℕ) → Tiles at bs (length d.code) → list_all (block_is_typed m d) bs ≡ true → (k : ℕ) (b : BasicBlock) → slice_get bs k ≡ Some b
+  types_there : (bs : List BasicBlock) (at : ℕ) → Tiles at bs (length d.code) → list_all (block_is_typed m d) bs ≡ true
+      → (k : ℕ) (b : BasicBlock) → slice_get bs k ≡ Some b
       → (n j : ℕ) (x : Types) → at + n ≡ b.first + j → slice_get (types_in m d b) j ≡ Some x → slice_get (flat_map (types_in m d) bs) n ≡ Some x
   types_there [] at t typed k b e n j x eq found = absurd (none-some b e)
   types_there (c ∷ bs) at t typed zero b e n j x eq found =
@@ -99,7 +103,8 @@ module _ (m : Module) (d : FunctionDefinition) where
       let one : c.first ≡ at = t.0 in
       let two = ap (λ (s : BasicBlock). s.first) same in
       let place : j ≡ n = omega arith in
-      let here : slice_get (types_in m d c) n ≡ Some x = subst (λ (s : BasicBlock). slice_get (types_in m d s) n ≡ Some x) (sym same) (subst (λ (i : ℕ). slice_get (types_in m d b) i ≡ Some x) place found) in
+      let here : slice_get (types_in m d c) n ≡ Some x =
+      subst (λ (s : BasicBlock). slice_get (types_in m d s) n ≡ Some x) (sym same) (subst (λ (i : ℕ). slice_get (types_in m d b) i ≡ Some x) place found) in
       slice_get-first (types_in m d c) (flat_map (types_in m d) bs) n (slice_get_within (types_in m d c) n x here) ∙ here
   types_there (c ∷ bs) at t typed (suc k) b e n j x eq found =
       let p = and_parts (block_is_typed m d c) (list_all (block_is_typed m d) bs) typed in
@@ -107,18 +112,22 @@ module _ (m : Module) (d : FunctionDefinition) where
       let two : c.first ≤ c.last = t.1.0 in
       let within : c.last + 1 ≤ length d.code = tiles_within bs (c.last + 1) (length d.code) t.1.1 in
       let after : c.last + 1 ≤ b.first = tiles_after bs (c.last + 1) (length d.code) k b t.1.1 e in
-      let size : length (types_in m d c) ≡ c.last + 1 - c.first = length-types_each (slice_range d.code c.first (c.last + 1)) [] (typed_some c p.0) ∙ length-range d.code c.first (c.last + 1) within in
+      let size : length (types_in m d c) ≡ c.last + 1 - c.first =
+      length-types_each (slice_range d.code c.first (c.last + 1)) [] (typed_some c p.0) ∙ length-range d.code c.first (c.last + 1) within in
       let sum : length (types_in m d c) + (n - length (types_in m d c)) ≡ n = omega arith in
       let next : c.last + 1 + (n - length (types_in m d c)) ≡ b.first + j = omega arith in
       slice_get-second (types_in m d c) (flat_map (types_in m d) bs) n (n - length (types_in m d c)) sum
       ∙ types_there bs (c.last + 1) t.1.1 p.1 k b e (n - length (types_in m d c)) j x next found
 
   -- the same of the block at a place
-  pub Stands-types : (k : ℕ) (b : BasicBlock) → IsTrue (function_is_typed m d) → slice_get (blocks d.code) k ≡ Some b → Stands (types_in m d b) (types_before m d) b.first
+  pub Stands-types : (k : ℕ) (b : BasicBlock) → IsTrue (function_is_typed m d) → slice_get (blocks d.code) k ≡ Some b
+      → Stands (types_in m d b) (types_before m d) b.first
   Stands-types k b typed e = record {
     each = λ j x found. types_there (blocks d.code) 0 (blocks-tile d.code) typed k b e (b.first + j) j x (omega arith) found;
   }
 
 -- a block of the graph is one of the code's
-pub block_at : (code : List Instruction) (g : Cfg) (k : ℕ) (b : Block) → IsFlowGraph code g → IsBlock g k b → slice_get (blocks code) k ≡ Some (basic_block_of g b)
-block_at code g k b fg here = ap (λ z. slice_get z k) (sym fg.basic_blocks) ∙ slice_get-map (basic_block_of g) g.blocks.items k ∙ ap (option_map (basic_block_of g)) here
+pub block_at : (code : List Instruction) (g : Cfg) (k : ℕ) (b : Block) → IsFlowGraph code g → IsBlock g k b
+    → slice_get (blocks code) k ≡ Some (basic_block_of g b)
+block_at code g k b fg here =
+    ap (λ z. slice_get z k) (sym fg.basic_blocks) ∙ slice_get-map (basic_block_of g) g.blocks.items k ∙ ap (option_map (basic_block_of g)) here

@@ -1,5 +1,6 @@
 -- Edges between nodes that are there, before and after some types on the stack are exchanged for others.
-use Rattle.std.proofs.Common.{◌≡◌, ℕ, ◌+◌, Bool, true, false, cond, not, ◌&&◌, List, [], ◌∷◌, ◌++◌, length, map, filter, flat_map, refl, sym, ap, ◌∙◌, true≢false}
+use Rattle.std.proofs.Common.{◌≡◌, ℕ, ◌+◌, Bool, true, false, cond, not, ◌&&◌, List, [], ◌∷◌, ◌++◌, length, map, filter, flat_map}
+use Rattle.std.proofs.Common.{refl, sym, ap, ◌∙◌, true≢false}
 use Rattle.std.specs.Prelude.{nat_lt}
 use Rattle.std.specs.List.{list_all}
 use Rattle.std.proofs.lemmas.Bool.{and_parts, and_from, not-true}
@@ -39,12 +40,14 @@ there_parts p e h =
 pub there_from : (p : Point) (e : Edge) → IsThere p e → edge_is_there p e ≡ true
 there_from p e t =
     and_from (leads_out p e.from && leads_in p e.to && not (same_node e.from e.to)) (is_small e.label)
-    (and_from (leads_out p e.from && leads_in p e.to) (not (same_node e.from e.to)) (and_from (leads_out p e.from) (leads_in p e.to) t.out t.into) (ap not t.apart))
+    (and_from (leads_out p e.from && leads_in p e.to) (not (same_node e.from e.to))
+    (and_from (leads_out p e.from) (leads_in p e.to) t.out t.into) (ap not t.apart))
     t.small
 
 -- ---- what holds of all edges of a list
 
-pub each_filter : (k q r : Edge → Bool) → ((e : Edge) → k e ≡ true → q e ≡ true → r e ≡ true) → (es : List Edge) → list_all q es ≡ true → list_all r (filter k es) ≡ true
+pub each_filter : (k q r : Edge → Bool) → ((e : Edge) → k e ≡ true → q e ≡ true → r e ≡ true)
+    → (es : List Edge) → list_all q es ≡ true → list_all r (filter k es) ≡ true
 each_filter k q r f [] h = refl
 each_filter k q r f (x ∷ es) h =
     let parts = and_parts (q x) (list_all q es) h in by_test (k x) refl parts.0 (each_filter k q r f es parts.1)
@@ -53,7 +56,8 @@ each_filter k q r f (x ∷ es) h =
     by_test true t this rest = and_from (r x) (list_all r (filter k es)) (f x t this) rest
     by_test false t this rest = rest
 
-pub each_map : (g : Edge → Edge) (q r : Edge → Bool) → ((e : Edge) → q e ≡ true → r (g e) ≡ true) → (es : List Edge) → list_all q es ≡ true → list_all r (map g es) ≡ true
+pub each_map : (g : Edge → Edge) (q r : Edge → Bool) → ((e : Edge) → q e ≡ true → r (g e) ≡ true)
+    → (es : List Edge) → list_all q es ≡ true → list_all r (map g es) ≡ true
 each_map g q r f es h = list_all-map r g es ∙ all_weaker q (λ e. r (g e)) f es h
 
 pub each_append : (r : Edge → Bool) (es fs : List Edge) → list_all r es ≡ true → list_all r fs ≡ true → list_all r (es ++ fs) ≡ true
@@ -107,7 +111,8 @@ module _ (p q : Point) (a c : Node)
     (outs : (n : Node) → leads_out p n ≡ true → same_node n c ≡ false → leads_out q (renamed_node a c n) ≡ true)
     (ins : (n : Node) → leads_in p n ≡ true → same_node n c ≡ false → leads_in q (renamed_node a c n) ≡ true)
   where
-    stay_apart : (f t : Node) → same_node f t ≡ false → same_node f c ≡ false → same_node t c ≡ false → same_node (renamed_node a c f) (renamed_node a c t) ≡ false
+    stay_apart : (f t : Node) → same_node f t ≡ false → same_node f c ≡ false → same_node t c ≡ false
+        → same_node (renamed_node a c f) (renamed_node a c t) ≡ false
     stay_apart f t ne fc tc = by_tests (same_node f a) refl (same_node t a) refl
       where
         by_tests : (x : Bool) → same_node f a ≡ x → (y : Bool) → same_node t a ≡ y → same_node (cond x c f) (cond y c t) ≡ false
@@ -124,7 +129,12 @@ module _ (p q : Point) (a c : Node)
         let was = there_parts p e parts.0 in
         let free = neither c e parts.1 in
         there_from q (record { from = renamed_node a c e.from; label = e.label; to = renamed_node a c e.to })
-        (record { out = outs e.from was.out free.0; into = ins e.to was.into free.1; apart = stay_apart e.from e.to was.apart free.0 free.1; small = was.small }))
+        (record {
+          out = outs e.from was.out free.0;
+          into = ins e.to was.into free.1;
+          apart = stay_apart e.from e.to was.apart free.0 free.1;
+          small = was.small;
+        }))
         es h
 
 module _ (m : Module) (d : FunctionDefinition) (taken given rest : Types) where
@@ -136,17 +146,19 @@ module _ (m : Module) (d : FunctionDefinition) (taken given rest : Types) where
 
   -- an edge under the exchange stays
   pub edge_stays : (e : Edge) → IsThere old e → is_under (length rest) e.from ≡ true → is_under (length rest) e.to ≡ true → edge_is_there new e ≡ true
-  edge_stays e t f g = there_from new e (record { out = out_stays m d taken given rest e.from t.out f; into = in_stays m d taken given rest e.to t.into g; apart = t.apart; small = t.small })
+  edge_stays e t f g = there_from new e
+      (record { out = out_stays m d taken given rest e.from t.out f; into = in_stays m d taken given rest e.to t.into g; apart = t.apart; small = t.small })
 
   -- edges stay where no reference is taken
   pub all_stay : ((i : ℕ) → has_place is_reference_token taken i ≡ true → ⊥) → (es : List Edge) → are_there old es ≡ true → are_there new es ≡ true
   all_stay none es h =
       all_weaker (edge_is_there old) (edge_is_there new)
-      (λ e t. let was = there_parts old e t in edge_stays e was (out_free m d taken given rest none e.from was.out) (in_free m d taken given rest none e.to was.into)) es h
+      (λ e t. let was = there_parts old e t in
+      edge_stays e was (out_free m d taken given rest none e.from was.out) (in_free m d taken given rest none e.to was.into)) es h
 
   -- where one is, those that are not at it do
-  pub others_stay : (j : ℕ) → ((i : ℕ) → has_place is_reference_token taken i ≡ true → i ≡ j) → (n : Node) → n ≡ Temp (length rest + j) → (es : List Edge) → are_there old es ≡ true
-      → are_there new (without n es) ≡ true
+  pub others_stay : (j : ℕ) → ((i : ℕ) → has_place is_reference_token taken i ≡ true → i ≡ j) → (n : Node) → n ≡ Temp (length rest + j)
+      → (es : List Edge) → are_there old es ≡ true → are_there new (without n es) ≡ true
   others_stay j only n is es h =
       each_filter (λ e. not (same_node e.from n) && not (same_node e.to n)) (edge_is_there old) (edge_is_there new)
       (λ e free t.

@@ -5,9 +5,9 @@ ghost use Rattle.mv_borrow_graph.specs.Domain.{Follows, ordered};
 use crate::changes::lend;
 use crate::nodes::is_free;
 use crate::site::Site;
-use mv_edges::Graph;
 use mv_lattice::StepError;
 use mv_move_types::{Instruction, Node};
+use mv_ways::Graph;
 
 impl<'d, 'm> Site<'d, 'm> {
     /// Borrows a global mutably: no edge may lead out of the struct's globals.

@@ -9,9 +9,9 @@ ghost use Rattle.mv_borrow_graph.specs.Domain.{Follows, ordered, places_referenc
 use crate::changes::{keep, lend};
 use crate::nodes::is_free;
 use crate::site::Site;
-use mv_edges::Graph;
 use mv_lattice::StepError;
 use mv_move_types::{Instruction, Node, Token};
+use mv_ways::Graph;
 use std::alloc::AllocError;
 
 impl<'d, 'm> Site<'d, 'm> {

@@ -7,9 +7,9 @@ ghost use Rattle.mv_borrow_graph.specs.BorrowRules.{edges_after, is_mutable, no_
 ghost use Rattle.mv_borrow_graph.specs.Domain.{Finds, Follows, ordered};
 
 use crate::site::{MutableAt, Site};
-use mv_edges::{Graph, One};
 use mv_lattice::StepError;
 use mv_move_types::{FieldHandle, Instruction, Node};
+use mv_ways::{Graph, One};
 use std::alloc::Global;
 
 impl<'d, 'm> Site<'d, 'm> {

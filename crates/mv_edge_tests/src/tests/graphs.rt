@@ -1,8 +1,9 @@
 // Borrow graphs on their way through a block, beside what the same steps make of lists of edges.
 
 use super::lists::{but_out_of, inherited, leads_out_of, renamed, without};
-use mv_edges::{All, Change, Edge, Edges, Graph, Heir, Label, One};
+use mv_edges::{Change, Edge, Edges, Label};
 use mv_move_types::Node;
+use mv_ways::{All, Graph, Heir, One};
 use std::alloc::{AllocError, Global};
 use std::test::Fail;
 

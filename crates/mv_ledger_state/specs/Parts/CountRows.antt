@@ -39,12 +39,14 @@ with_count rows d n = slice_set rows d.place (slice_set (row_at rows d.place) d.
 
 -- there is a count of each struct
 abbrev pub HasRows : List Module → List (List ℕ) → Type 0
-HasRows modules rows = (d : Definition) (name : StructName) → name_at modules d.place d.index ≡ Some name → (d.place < length rows) × (d.index < length (row_at rows d.place))
+HasRows modules rows =
+    (d : Definition) (name : StructName) → name_at modules d.place d.index ≡ Some name → (d.place < length rows) × (d.index < length (row_at rows d.place))
 
 -- For each struct there are so often as many values more as f says.
 pub record Adds (modules : List Module) (n : ℕ) (f : StructName → ℕ) (old new : List (List ℕ)) : Type 0 where
   pub rows : HasRows modules old → HasRows modules new
-  pub counts : HasRows modules old → (d : Definition) (name : StructName) → name_at modules d.place d.index ≡ Some name → capped (count_at new d) ≡ capped (count_at old d + n * f name)
+  pub counts : HasRows modules old → (d : Definition) (name : StructName) → name_at modules d.place d.index ≡ Some name
+      → capped (count_at new d) ≡ capped (count_at old d + n * f name)
 
 -- how many values are stored under the keys of a struct
 abbrev pub stored_of : List FlatEntry → Definition → ℕ
@@ -58,7 +60,8 @@ pub record AreStored (modules : List Module) (entries : List FlatEntry) (rows : 
 -- The counts are of the values that are stored of each struct, at any depth, as far as they go.
 pub record AreAll (modules : List Module) (entries : List FlatEntry) (rows : List (List ℕ)) : Type 0 where
   pub has : HasRows modules rows
-  pub counts : (d : Definition) (name : StructName) → name_at modules d.place d.index ≡ Some name → capped (count_at rows d) ≡ capped (count (storage_of modules entries) name)
+  pub counts : (d : Definition) (name : StructName) → name_at modules d.place d.index ≡ Some name
+      → capped (count_at rows d) ≡ capped (count (storage_of modules entries) name)
 
 -- a tally is that of a struct of which so many values are stored, after so many runs
 abbrev pub IsTallied : List (List ℕ) → ℕ → Tally → Type 0

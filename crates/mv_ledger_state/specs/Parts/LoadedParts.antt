@@ -24,7 +24,8 @@ use Rattle.mv_machine.specs.State.{Storage}
 use Rattle.mv_storage.specs.FlatStorage.{FlatStorage}
 use Rattle.mv_certificate.specs.Certificate.{Certificate}
 use Rattle.mv_ledger_state.specs.declared.saved.loading.LoadError.{LoadError}
-use Rattle.mv_ledger_state.specs.declared.saved.loading.LoadError.TheVariants.{Head as NoHead, Module as NoModule, Link as NoLink, Body as NoBody, Tally as NoTally, Memory}
+use Rattle.mv_ledger_state.specs.declared.saved.loading.LoadError.TheVariants.{Head as NoHead, Module as NoModule, Link as NoLink}
+use Rattle.mv_ledger_state.specs.declared.saved.loading.LoadError.TheVariants.{Body as NoBody, Tally as NoTally, Memory}
 use Rattle.mv_ledger_state.specs.declared.saved.loading.head.Head.{Head}
 use Rattle.mv_ledger_state.specs.Asking.{offers_of}
 use Rattle.mv_ledger_state.specs.Parts.BodyParts.{form_of, tally_from, storage_into}

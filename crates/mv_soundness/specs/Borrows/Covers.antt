@@ -94,7 +94,9 @@ IsLent f r =
 pub record Covers (known : Known) (v : Seen) (acquires : List ℕ) : Type 0 where
   pub locals : (l : ℕ) (a : Availability) (local : Option Value) → slice_get known.locals l ≡ Some a → slice_get v.frame.locals l ≡ Some local → IsAs a local
   pub own : (n : Node) (r : Reference) (l : ℕ) → reference_at v n ≡ Some r → r.place.root ≡ Local v.frame.number l → HasEdge known v (Own l) n
-  pub acquired : (n : Node) (r : Reference) (key : Key) → reference_at v n ≡ Some r → r.place.root ≡ Stored key → IsAcquired v acquires key → HasEdge known v (Glob key.index) n
-  pub between : (m n : Node) (q r : Reference) → m ≢ n → reference_at v m ≡ Some q → reference_at v n ≡ Some r → IsTrue (overlap q.place r.place) → IsTrue q.is_mutable ⊎ IsTrue r.is_mutable →
-      (IsTrue q.is_mutable × HasEdge known v m n) ⊎ (IsTrue r.is_mutable × HasEdge known v n m)
+  pub acquired : (n : Node) (r : Reference) (key : Key)
+      → reference_at v n ≡ Some r → r.place.root ≡ Stored key → IsAcquired v acquires key → HasEdge known v (Glob key.index) n
+  pub between : (m n : Node) (q r : Reference) → m ≢ n → reference_at v m ≡ Some q → reference_at v n ≡ Some r
+      → IsTrue (overlap q.place r.place) → IsTrue q.is_mutable ⊎ IsTrue r.is_mutable
+      → (IsTrue q.is_mutable × HasEdge known v m n) ⊎ (IsTrue r.is_mutable × HasEdge known v n m)
   pub others : (n : Node) (r : Reference) → reference_at v n ≡ Some r → IsOwn v acquires r.place.root ⊎ IsLent v.frame r

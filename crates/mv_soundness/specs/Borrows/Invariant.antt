@@ -45,7 +45,8 @@ pub record IsCovered (modules : List Module) (certificates : List Certificate) (
 -- what an upper frame's function acquires
 abbrev pub acquires_of : List Module → Frame → List ℕ
 acquires_of modules f =
-    option_map_or (λ (d : FunctionDefinition). d.acquires) (option_and_then (λ (m : Module). slice_get m.functions f.function.index) (slice_get modules f.function.place)) []
+    option_map_or (λ (d : FunctionDefinition). d.acquires)
+    (option_and_then (λ (m : Module). slice_get m.functions f.function.index) (slice_get modules f.function.place)) []
 
 -- no reference of the lower frame leads into a struct that the upper one acquires
 abbrev pub KeepsOut : List Module → Frame → Frame → Type 0

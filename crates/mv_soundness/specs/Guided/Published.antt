@@ -15,7 +15,8 @@ use Rattle.mv_soundness.specs.Guided.Outcome.{ComesTo}
 -- the certificates that a store's modules were published with, in their order
 pub record AreCertificates (store : List PublishedModule) (certificates : List Certificate) : Type 0 where
   pub long : length certificates ≡ length store
-  pub each : (place : ℕ) (p : PublishedModule) → slice_get store place ≡ Some p → (c : Certificate) × (slice_get certificates place ≡ Some c) × IsCertificateText p.tables p.certificate c
+  pub each : (place : ℕ) (p : PublishedModule) → slice_get store place ≡ Some p
+      → (c : Certificate) × (slice_get certificates place ≡ Some c) × IsCertificateText p.tables p.certificate c
 
 -- over a typed storage no run of a typed call meets a fault, in any budget, and the storage that it returns is typed
 abbrev pub RunsAreFaultless : Type 0

@@ -63,7 +63,8 @@ module _ (table : Table) where
   -- a path leads from a type to the type of what is there
   pub data Leads : Tag → List ℕ → Tag → Type 0 where
     AtOnce : {t : Tag} → Leads t [] t
-    Through : {s : StructName} {f : ℕ} {path : List ℕ} {ts : List Tag} {t u : Tag} → table s ≡ Some ts → slice_get ts f ≡ Some t → Leads t path u → Leads (StructTag s) (f ∷ path) u
+    Through : {s : StructName} {f : ℕ} {path : List ℕ} {ts : List Tag} {t u : Tag}
+        → table s ≡ Some ts → slice_get ts f ≡ Some t → Leads t path u → Leads (StructTag s) (f ∷ path) u
 
   -- a root is there and holds a value of the type
   pub record Rooted (look : Roots) (root : Root) (t : Tag) : Type 0 where

@@ -15,4 +15,5 @@ StepTyped modules (Err failure) = Harmless failure
 
 -- a step from a typed state, where no live reference leads into what it removes
 abbrev pub EveryStepIsTyped : Type 0
-EveryStepIsTyped = (modules : List Module) (s : State) → StoreAccepted modules → StateTyped modules s → StepGuarded modules s → StepTyped modules (step modules s)
+EveryStepIsTyped =
+    (modules : List Module) (s : State) → StoreAccepted modules → StateTyped modules s → StepGuarded modules s → StepTyped modules (step modules s)

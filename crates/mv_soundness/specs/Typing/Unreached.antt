@@ -39,11 +39,13 @@ Unborrowed s l = (v : Value) → slice_get s.top.locals l ≡ Some (Some v) → 
 
 -- no live reference leads into what is stored at the address on top of the stack
 abbrev pub Unlent : State → ℕ → Type 0
-Unlent s k = (a : ℕ) (rest : List Value) → s.top.stack ≡ Leaf Address a ∷ rest → Unreached (λ root. root ≡ Stored (record { address = a; place = s.top.function.place; index = k })) s
+Unlent s k = (a : ℕ) (rest : List Value) → s.top.stack ≡ Leaf Address a ∷ rest
+    → Unreached (λ root. root ≡ Stored (record { address = a; place = s.top.function.place; index = k })) s
 
 -- no live reference of a result or of a waiting frame leads into the locals of the frame that returns
 abbrev pub Leaving : State → Type 0
-Leaving s = Avoid (λ root. (l : ℕ) × (root ≡ Local s.top.number l)) (references s.top.stack) × BelowAvoid (λ root. (l : ℕ) × (root ≡ Local s.top.number l)) [] s.below
+Leaving s = Avoid (λ root. (l : ℕ) × (root ≡ Local s.top.number l)) (references s.top.stack)
+    × BelowAvoid (λ root. (l : ℕ) × (root ≡ Local s.top.number l)) [] s.below
 
 -- what the borrow rules have to give at an instruction that removes something
 abbrev pub Guarded : Instruction → State → Type 0
@@ -56,5 +58,6 @@ Guarded _ s = Unit {0}
 -- at the instruction that comes next
 abbrev pub StepGuarded : List Module → State → Type 0
 StepGuarded modules s =
-    (home : Module) (function : FunctionDefinition) (i : Instruction) → slice_get modules s.top.function.place ≡ Some home → slice_get home.functions s.top.function.index ≡ Some function →
-    slice_get function.code s.top.at ≡ Some i → Guarded i s
+    (home : Module) (function : FunctionDefinition) (i : Instruction)
+    → slice_get modules s.top.function.place ≡ Some home → slice_get home.functions s.top.function.index ≡ Some function
+    → slice_get function.code s.top.at ≡ Some i → Guarded i s

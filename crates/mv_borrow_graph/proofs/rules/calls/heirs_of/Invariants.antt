@@ -1,6 +1,6 @@
 use Rattle.std.proofs.Common.{◌≡◌, ◌+◌, ◌++◌, List, drop}
 use Rattle.mv_edges.specs.Edges.{Edge}
-use Rattle.mv_edges.specs.Graph.{taken_over}
+use Rattle.mv_ways.specs.Graph.{taken_over}
 use Rattle.mv_borrow_graph.specs.BorrowRules.{result_edges}
 use Rattle.mv_borrow_graph.proofs.rules.calls.heirs_of.Given as goal
 

@@ -1,7 +1,0 @@
-use Rattle.mv_edges.proofs.Common.{◌≡◌, flat_map, into, sorted, take}
-use Rattle.mv_edges.specs.Ways.{edges_of}
-use Rattle.mv_edges.proofs.ways.WayGraph.led_into.Given as goal
-
--- the edges into the nodes so far
-abbrev pub invariant-loop-n : goal.invariant-loop-n
-invariant-loop-n l = sorted l.edges.items ≡ sorted (flat_map (λ n. into n (edges_of l.self)) (take l.n-index l.nodes))

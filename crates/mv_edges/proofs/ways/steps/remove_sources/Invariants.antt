@@ -1,5 +1,0 @@
-use Rattle.mv_edges.proofs.Common.{◌++◌, ◌≡◌, drop, map, take, but_at}
-use Rattle.mv_edges.proofs.ways.steps.remove_sources.Given as goal
-
-abbrev pub invariant-loop-source : goal.invariant-loop-source
-invariant-loop-source l = l.sources ≡ map (but_at l.n) (take l.source-index l.fn.sources) ++ drop l.source-index l.fn.sources

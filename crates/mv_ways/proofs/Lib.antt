@@ -1,0 +1,4 @@
+pub mod Held
+pub mod InPlace
+pub mod Piecewise
+pub mod WayGraph

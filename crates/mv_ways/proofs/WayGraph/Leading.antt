@@ -1,0 +1,180 @@
+-- How it is marked which ways lead to the last one, from there to the first.
+use Rattle.mv_edges.proofs.Common.{ℕ, ◌+◌, ◌<◌, ◌==◌, ◌||◌, ◌∙◌, ◌∷◌, ◌≡◌, ◌≤◌, ◌⊎◌, Contains, List, None, Option, Some, [], ap, arith, false, get_or, inl, inr, length, list_any, refl, slice_get, subst, sym, true, true≢false}
+use Rattle.mv_edges.proofs.Common.{cases_lt, eq-eqb, eqb-true, ltb, ltb-true, option_map_or, or_cases, or_left, or_right}
+use Rattle.std.proofs.lemmas.Option.{none-some, same_Some}
+use Rattle.mv_edges.proofs.Insertion.{all_contains, contains_cases, contains_here, contains_none, contains_there}
+use Rattle.mv_ways.specs.declared.ways.Way.{Way}
+use Rattle.mv_ways.specs.declared.ways.Way.TheVariants.{Stated, Lent, Field, Returned}
+use Rattle.mv_ways.specs.declared.ways.under.leading.Mark.{Mark}
+use Rattle.mv_ways.specs.Ways.{are_earlier, goes_below}
+use Rattle.mv_ways.specs.Going.{AreLeading, IsGiven, IsReturned, LeadsTo, given, goes_over, original}
+use Rattle.mv_ways.proofs.WayGraph.Terms.{AreMarked, LeadsBy}
+use Rattle.mv_ways.proofs.WayGraph.Terms.LeadsBy.{at_end, by_copy, by_return}
+use Rattle.mv_ways.specs.Going.LeadsTo.{itself, by_drawn, by_given}
+use Rattle.mv_ways.proofs.WayGraph.Covered.{drawn_later}
+use Rattle.mv_ways.proofs.WayGraph.Listing.{earlier_at}
+
+-- a number among others
+pub contains_number : (ns : List ℕ) (n : ℕ) → list_any (λ m. m == n) ns ≡ true → Contains ns n
+contains_number [] n h = absurd (true≢false (sym h))
+contains_number (m ∷ ns) n h = elim (or_cases (m == n) (list_any (λ j. j == n) ns) h) [
+  | inl g ↦ subst (λ j. Contains (m ∷ ns) j) (eqb-true m n g) (contains_here m ns)
+  | inr g ↦ contains_there m ns n (contains_number ns n g)
+]
+
+pub number_among : (ns : List ℕ) (n : ℕ) → Contains ns n → list_any (λ m. m == n) ns ≡ true
+number_among [] n c = absurd (contains_none n c)
+number_among (m ∷ ns) n c = elim (contains_cases m ns n c) [
+  | inl same ↦ or_left (m == n) (list_any (λ j. j == n) ns) (eq-eqb m n same)
+  | inr d ↦ or_right (m == n) (list_any (λ j. j == n) ns) (number_among ns n d)
+]
+
+-- what a function had is earlier than what it returned
+given_later : (ways : List Way) (place child : ℕ) (way : Way) → are_earlier 0 ways ≡ true → IsGiven ways place child way → place < child
+given_later ways place child way e d = by_way way (earlier_at ways 0 e child way d.at) d.has
+  where
+    by_way : (w : Way) → goes_below (0 + child) w ≡ true → Contains (given w) place → place < child
+    by_way (Stated leads) b c = absurd (contains_none place c)
+    by_way (Lent source over) b c = absurd (contains_none place c)
+    by_way (Field over position) b c = absurd (contains_none place c)
+    by_way (Returned givers) b c = let below = ltb-true place (0 + child) (all_contains (λ k. ltb k (0 + child)) givers.items place b c) in omega (arith, below)
+
+-- which ways the way at a place goes over
+copy_over : (o : Option ℕ) (n : ℕ) → option_map_or (λ over. over == n) o false ≡ true → o ≡ Some n
+copy_over None n h = absurd (true≢false (sym h))
+copy_over (Some over) n h = ap Some (eqb-true over n h)
+
+over_copy : (o : Option ℕ) (n : ℕ) → o ≡ Some n → option_map_or (λ over. over == n) o false ≡ true
+over_copy None n h = absurd (none-some n h)
+over_copy (Some over) n h = eq-eqb over n (same_Some over n h)
+
+module _ (ways : List Way) (last : ℕ) (earlier : are_earlier 0 ways ≡ true) where
+  -- what leads there isn't behind it
+  pub leads_before : {place : ℕ} → LeadsTo ways last place → place ≤ last
+  leads_before itself = omega arith
+  leads_before (by_drawn {place = place} {child = child} {way = way} d l) = let less = drawn_later ways place child way earlier d in let more = leads_before l in omega (arith, less, more)
+  leads_before (by_given {place = place} {child = child} {way = way} d l) = let less = given_later ways place child way earlier d in let more = leads_before l in omega (arith, less, more)
+
+  -- what can be told so leads there
+  pub leads_from_by : (from place : ℕ) → LeadsBy ways last from place → LeadsTo ways last place
+  leads_from_by from place (at_end h) = subst (LeadsTo ways last) (sym h) itself
+  leads_from_by from place (by_copy child way above d l) = by_drawn d l
+  leads_from_by from place (by_return r) = by_given r.giving r.leading
+
+  -- and it can be told from the ways behind it
+  pub leads_by : {place : ℕ} (from : ℕ) → from ≤ place + 1 → LeadsTo ways last place → LeadsBy ways last from place
+  leads_by from h itself = at_end refl
+  leads_by from h (by_drawn {place = place} {child = child} {way = way} d l) = let less = drawn_later ways place child way earlier d in by_copy child way (omega (arith, less, h)) d l
+  leads_by from h (by_given {place = place} {child = child} {way = way} d l) =
+      let less = given_later ways place child way earlier d in
+      by_return (record { child = child; way = way; behind = omega (arith, less, h); giving = d; leading = l })
+
+  -- at first the last one alone is marked
+  pub marked_first : (marks : List Mark) → length marks ≡ length ways → ((k : ℕ) (d : Mark) → k < length marks → (get_or marks k d).leads ≡ (k == last))
+      → ((k : ℕ) (d : Mark) → k < length marks → (get_or marks k d).is_returned ≡ false) → AreMarked ways last (last + 1) marks
+  marked_first marks room leads returned = record {
+    leads = λ k d inside. (λ h. at_end (eqb-true k last (sym (leads k d (omega (arith, inside, room))) ∙ h)), λ by. leads k d (omega (arith, inside, room)) ∙ alone k by);
+    returned = λ k d inside. (λ h. absurd (true≢false (sym h ∙ returned k d (omega (arith, inside, room)))), λ r. none_behind k r);
+  }
+    where
+      none_behind : {P : Type 0} (k : ℕ) → IsReturned ways last (last + 1) k → P
+      none_behind k r = let more = leads_before r.leading in let behind = r.behind in absurd (omega (arith, more, behind))
+
+      alone : (k : ℕ) → LeadsBy ways last (last + 1) k → (k == last) ≡ true
+      alone k (at_end h) = eq-eqb k last h
+      alone k (by_copy child way above d l) = let more = leads_before l in absurd (omega (arith, more, above))
+      alone k (by_return r) = none_behind k r
+
+  module _ (place : ℕ) (way : Way) (at : slice_get ways place ≡ Some way) where
+    same_way : (child : ℕ) (w : Way) → child ≡ place → slice_get ways child ≡ Some w → w ≡ way
+    same_way child w same h = same_Some w way (sym h ∙ ap (slice_get ways) same ∙ at)
+
+    returned_later : (k : ℕ) → IsReturned ways last (place + 1) k → IsReturned ways last place k
+    returned_later k r = record { child = r.child; way = r.way; behind = let more = r.behind in omega (arith, more); giving = r.giving; leading = r.leading }
+
+    leads_later : (k : ℕ) → LeadsBy ways last (place + 1) k → LeadsBy ways last place k
+    leads_later k (at_end h) = at_end h
+    leads_later k (by_copy child w above d l) = by_copy child w (omega (arith, above)) d l
+    leads_later k (by_return r) = by_return (returned_later k r)
+
+    -- what is told from one place further on, or by the way at the place
+    returned_cases : (k : ℕ) → IsReturned ways last place k → IsReturned ways last (place + 1) k ⊎ (Contains (given way) k × LeadsTo ways last place)
+    returned_cases k r = elim (cases_lt place r.child) [
+      | inl later ↦ inl (record { child = r.child; way = r.way; behind = omega (arith, later); giving = r.giving; leading = r.leading })
+      | inr here ↦
+          let behind = r.behind in
+          let same : r.child ≡ place = omega (arith, here, behind) in
+          inr (subst (λ w. Contains (given w) k) (same_way r.child r.way same r.giving.at) r.giving.has, subst (LeadsTo ways last) same r.leading)
+    ]
+
+    leads_cases : (k : ℕ) → LeadsBy ways last place k → LeadsBy ways last (place + 1) k ⊎ (((original way ≡ Some k) ⊎ Contains (given way) k) × LeadsTo ways last place)
+    leads_cases k (at_end h) = inl (at_end h)
+    leads_cases k (by_copy child w above d l) = elim (cases_lt place child) [
+      | inl later ↦ inl (by_copy child w (omega (arith, later)) d l)
+      | inr here ↦
+          let same : child ≡ place = omega (arith, here, above) in
+          inr (inl (subst (λ v. original v ≡ Some k) (same_way child w same d.at) d.over), subst (LeadsTo ways last) same l)
+    ]
+    leads_cases k (by_return r) = elim (returned_cases k r) [ inl later ↦ inl (by_return later) | inr here ↦ inr (inr here.0, here.1) ]
+
+    -- a way that doesn't lead there says nothing of those it goes over
+    pub marked_kept : (marks : List Mark) (d : Mark) → place < length ways → (get_or marks place d).leads ≡ false → AreMarked ways last (place + 1) marks → AreMarked ways last place marks
+    marked_kept marks d within unled marked = record {
+      leads = λ k e inside. (λ h. leads_later k ((marked.leads k e inside).0 h), λ by. elim (leads_cases k by) [ inl later ↦ (marked.leads k e inside).1 later | inr here ↦ absurd (not_here here.1) ]);
+      returned = λ k e inside. (λ h. returned_later k ((marked.returned k e inside).0 h), λ r. elim (returned_cases k r) [ inl later ↦ (marked.returned k e inside).1 later | inr here ↦ absurd (not_here here.1) ]);
+    }
+      where
+        not_here : LeadsTo ways last place → ⊥
+        not_here l = true≢false (sym ((marked.leads place d within).1 (leads_by (place + 1) (omega arith) l)) ∙ unled)
+
+    -- one that does passes it on
+    pub marked_over : (old new : List Mark) (d : Mark) → place < length ways → length old ≡ length ways → (get_or old place d).leads ≡ true
+        → ((k : ℕ) (e : Mark) → k < length old → (get_or new k e).leads ≡ ((get_or old k e).leads || goes_over way k))
+        → ((k : ℕ) (e : Mark) → k < length old → (get_or new k e).is_returned ≡ ((get_or old k e).is_returned || list_any (λ over. over == k) (given way)))
+        → AreMarked ways last (place + 1) old → AreMarked ways last place new
+    marked_over old new d within room led leads returned marked = record {
+      leads = λ k e inside. (λ h. to_leads k e inside (sym (leads k e (omega (arith, inside, room))) ∙ h), λ by. leads k e (omega (arith, inside, room)) ∙ from_leads k e inside (leads_cases k by));
+      returned = λ k e inside. (λ h. to_returned k e inside (sym (returned k e (omega (arith, inside, room))) ∙ h), λ r. returned k e (omega (arith, inside, room)) ∙ from_returned k e inside (returned_cases k r));
+    }
+      where
+        here_leads : LeadsTo ways last place
+        here_leads = leads_from_by (place + 1) place ((marked.leads place d within).0 led)
+
+        here_returned : (k : ℕ) → Contains (given way) k → IsReturned ways last place k
+        here_returned k c = record { child = place; way = way; behind = omega arith; giving = record { at = at; has = c }; leading = here_leads }
+
+        to_leads : (k : ℕ) (e : Mark) → k < length ways → ((get_or old k e).leads || goes_over way k) ≡ true → LeadsBy ways last place k
+        to_leads k e inside h = elim (or_cases (get_or old k e).leads (goes_over way k) h) [
+          | inl g ↦ leads_later k ((marked.leads k e inside).0 g)
+          | inr g ↦ elim (or_cases (option_map_or (λ over. over == k) (original way) false) (list_any (λ over. over == k) (given way)) g) [
+            | inl o ↦ by_copy place way (omega arith) (record { at = at; over = copy_over (original way) k o }) here_leads
+            | inr c ↦ by_return (here_returned k (contains_number (given way) k c))
+          ]
+        ]
+
+        from_leads : (k : ℕ) (e : Mark) → k < length ways → LeadsBy ways last (place + 1) k ⊎ (((original way ≡ Some k) ⊎ Contains (given way) k) × LeadsTo ways last place)
+            → ((get_or old k e).leads || goes_over way k) ≡ true
+        from_leads k e inside (inl later) = or_left (get_or old k e).leads (goes_over way k) ((marked.leads k e inside).1 later)
+        from_leads k e inside (inr here) = or_right (get_or old k e).leads (goes_over way k) (over here.0)
+          where
+            over : (original way ≡ Some k) ⊎ Contains (given way) k → goes_over way k ≡ true
+            over (inl o) = or_left (option_map_or (λ j. j == k) (original way) false) (list_any (λ j. j == k) (given way)) (over_copy (original way) k o)
+            over (inr c) = or_right (option_map_or (λ j. j == k) (original way) false) (list_any (λ j. j == k) (given way)) (number_among (given way) k c)
+
+        to_returned : (k : ℕ) (e : Mark) → k < length ways → ((get_or old k e).is_returned || list_any (λ over. over == k) (given way)) ≡ true → IsReturned ways last place k
+        to_returned k e inside h = elim (or_cases (get_or old k e).is_returned (list_any (λ over. over == k) (given way)) h) [
+          | inl g ↦ returned_later k ((marked.returned k e inside).0 g)
+          | inr g ↦ here_returned k (contains_number (given way) k g)
+        ]
+
+        from_returned : (k : ℕ) (e : Mark) → k < length ways → IsReturned ways last (place + 1) k ⊎ (Contains (given way) k × LeadsTo ways last place)
+            → ((get_or old k e).is_returned || list_any (λ over. over == k) (given way)) ≡ true
+        from_returned k e inside (inl later) = or_left (get_or old k e).is_returned (list_any (λ over. over == k) (given way)) ((marked.returned k e inside).1 later)
+        from_returned k e inside (inr here) = or_right (get_or old k e).is_returned (list_any (λ over. over == k) (given way)) (number_among (given way) k here.0)
+
+  -- at last all that lead there are marked
+  pub marked_all : (marks : List Mark) → AreMarked ways last 0 marks → AreLeading ways last marks
+  marked_all marks marked = record {
+    leads = λ k d inside. (λ h. leads_from_by 0 k ((marked.leads k d inside).0 h), λ l. (marked.leads k d inside).1 (leads_by 0 (omega arith) l));
+    returned = marked.returned;
+  }

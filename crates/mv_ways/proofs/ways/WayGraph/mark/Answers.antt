@@ -1,0 +1,82 @@
+use Rattle.mv_edges.proofs.Common.{◌<◌, ◌+◌, ◌-◌, ◌==◌, ◌||◌, ◌∙◌, ◌≡◌, ap, arith, false, get_or, get_or_default, length, refl, set, slice_get-get_or, subst, true}
+use Rattle.std.proofs.Math.ListN.{length-set}
+use Rattle.mv_ways.specs.declared.ways.under.leading.Mark.{Mark}
+use Rattle.mv_ways.proofs.WayGraph.Terms.{AreMarked}
+use Rattle.mv_ways.proofs.WayGraph.Leading.{marked_all, marked_first, marked_kept, marked_over}
+use Rattle.mv_ways.proofs.WayGraph.Noted.{goes_below_at, way_at}
+use Rattle.mv_ways.proofs.WayGraph.Tables.{eqb_swap, goes_below_more, kept_mark, read_mark}
+use Rattle.mv_ways.proofs.WayGraph.Under.{some_way}
+use Rattle.mv_ways.proofs.ways.WayGraph.mark.Goals as goal
+
+pub loop-place-init : goal.loop-place-init
+loop-place-init c =
+    let ways = c.args.self.now.ways in
+    let last = c.args.last in
+    let marks = c.unmark.new.marks in
+    let none : Mark = record { leads = false; is_returned = false } in
+    let yes : Mark = record { leads = true; is_returned = (get_or marks last none).is_returned } in
+    let long : length marks ≡ length ways = omega arith in
+    let room : last < length marks = omega (arith, long) in
+    let kept : length (set marks last yes) ≡ length ways = length-set marks last yes ∙ long in
+    record {
+      room = kept;
+      within = omega arith;
+      marked = marked_first ways last c.requires.earlier (set marks last yes) kept
+          (λ k d inside. read_mark (λ (m : Mark). m.leads) yes refl marks last k d room ∙ ap (λ b. b || (last == k)) (c.unmark.ensures.leads k d (omega (arith, inside, kept))) ∙ eqb_swap last k)
+          (λ k d inside. kept_mark (λ (m : Mark). m.is_returned) marks last k yes d room (ap (λ (m : Mark). m.is_returned) (get_or_default marks last none d room)) ∙ c.unmark.ensures.returned k d (omega (arith, inside, kept)));
+    }
+
+pub mark_over-requires : goal.mark_over-requires
+mark_over-requires c =
+    let ways = c.args.self.now.ways in
+    let way = c.index-ways-place.result in
+    let k = c.loop-place.place - 1 in
+    let within = c.loop-place.invariant.within in
+    let some = c.loop-place-test.true in
+    let last = c.requires.inside in
+    let inside : k < length ways = omega (arith, within, some, last) in
+    let read : way ≡ get_or ways k way = c.index-ways-place.is ∙ ap (λ ws. get_or ws k way) c.ways.ensures.value in
+    let room = c.loop-place.invariant.room in
+    goes_below_more k (length c.loop-place.marks) way (omega (arith, inside, room)) (goes_below_at ways k way c.requires.earlier inside read)
+
+pub loop-place-preserved-then-marks-place : goal.loop-place-preserved-then-marks-place
+loop-place-preserved-then-marks-place c =
+    let ways = c.args.self.now.ways in
+    let way = c.index-ways-place.result in
+    let k = c.loop-place.place - 1 in
+    let within = c.loop-place.invariant.within in
+    let some = c.loop-place-test.true in
+    let last = c.requires.inside in
+    let inside : k < length ways = omega (arith, within, some, last) in
+    let read : way ≡ get_or ways k way = c.index-ways-place.is ∙ ap (λ ws. get_or ws k way) c.ways.ensures.value in
+    let next : c.loop-place.place ≡ k + 1 = omega (arith, some) in
+    let marked = subst (λ n. AreMarked ways c.args.last n c.loop-place.marks) next c.loop-place.invariant.marked in
+    record {
+      room = omega arith;
+      within = omega (arith, within);
+      marked = marked_over ways c.args.last c.requires.earlier k way (way_at ways k way inside read) c.loop-place.marks c.mark_over.new.marks (record { leads = false; is_returned = false }) inside
+          c.loop-place.invariant.room c.if-marks-place.true c.mark_over.ensures.leads c.mark_over.ensures.returned marked;
+    }
+
+pub loop-place-preserved : goal.loop-place-preserved
+loop-place-preserved c =
+    let ways = c.args.self.now.ways in
+    let k = c.loop-place.place - 1 in
+    let within = c.loop-place.invariant.within in
+    let some = c.loop-place-test.true in
+    let last = c.requires.inside in
+    let inside : k < length ways = omega (arith, within, some, last) in
+    let next : c.loop-place.place ≡ k + 1 = omega (arith, some) in
+    let marked = subst (λ n. AreMarked ways c.args.last n c.loop-place.marks) next c.loop-place.invariant.marked in
+    record {
+      room = c.loop-place.invariant.room;
+      within = omega (arith, within);
+      marked = marked_kept ways c.args.last c.requires.earlier k (get_or ways k some_way) (slice_get-get_or ways k some_way inside) c.loop-place.marks (record { leads = false; is_returned = false }) inside
+          c.if-marks-place.false marked;
+    }
+
+pub returns : goal.returns
+returns c =
+    let end = c.loop-place-test.false in
+    let none : c.loop-place.place ≡ 0 = omega (arith, end) in
+    marked_all c.args.self.now.ways c.args.last c.requires.earlier c.loop-place.marks (subst (λ n. AreMarked c.args.self.now.ways c.args.last n c.loop-place.marks) none c.loop-place.invariant.marked)

@@ -1,0 +1,29 @@
+//! A borrow graph on its way through a block: not a list of edges, but the ways by which its references came about. The list
+//! of edges is its model, so that whoever calls it speaks of edges alone.
+//!
+//! ```
+//! use mv_edges::{Edge, Edges, Label};
+//! use mv_move_types::Node;
+//! use mv_ways::Graph;
+//! use std::alloc::{AllocError, Global};
+//!
+//! /// Local 1 is a reference, and the topmost operand one to the field 2 of what it leads to.
+//! fn example(alloc: Global) -> Result<bool, AllocError> {
+//!     let mut edges = Edges::new(alloc);
+//!     let field = Label::here(alloc).extended(alloc, 2)?;
+//!     edges.insert(Edge::new(Node::Slot(1), field, Node::Temp(0)))?;
+//!     // While that operand is there, what stands in the field 2 isn't written through local 1; field 3 may be.
+//!     let graph = Graph::of_edges(alloc, &edges)?;
+//!     let agrees = graph.has_agreeing_out_of(Node::Slot(1), 2);
+//!     let other = graph.has_agreeing_out_of(Node::Slot(1), 3);
+//!     Ok(agrees && !other)
+//! }
+//! ```
+#![tactic(auto)]
+
+mod graph;
+mod nodes;
+mod ways;
+
+pub use graph::{Graph, Heir};
+pub use nodes::{All, NodeSet, One};

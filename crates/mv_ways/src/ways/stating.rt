@@ -1,0 +1,152 @@
+// The odd cases, which no typed function meets: a reference that leads to itself is made one to a field, or a node that lends is
+// handed to a function. What leads to the new reference is listed before the nodes go, and then stated anew.
+ghost use Rattle.std.specs.Prelude.{◌≡◌, ◌++◌, ◌∷◌, [], length, map, flat_map, nat_lt, IfOk, OnOk, IsTrue};
+ghost use Rattle.std.specs.List.{list_all};
+ghost use Rattle.mv_move_types.specs.declared.borrow.Node.{Node as NodeRecord};
+ghost use Rattle.mv_edges.specs.Edges.{an_edge, changed, extended, inherited, into, without, without_each};
+ghost use Rattle.mv_ways.specs.Graph.{taken_over};
+ghost use Rattle.mv_ways.specs.Leads.{Lead as LeadRecord};
+ghost use Rattle.mv_edges.specs.Sorted.{sorted};
+ghost use Rattle.mv_ways.specs.Ways.{edges_of, lead_edges, opened_into};
+
+use super::super::graph::Heir;
+use super::{Lead, Way, WayGraph};
+use mv_edges::{Change, Edge, Edges, is_same};
+use mv_move_types::Node;
+use std::alloc::{AllocError, Global};
+
+impl WayGraph {
+    /// Adds the edges that lead into a node, in any order.
+    fn push_led_into(&self, alloc: Global, n: Node, edges: &mut Vec<Edge>) -> Result<(), AllocError>
+        ensures { OnOk result (sorted edges.new.items ≡ sorted (edges.old.items ++ into n (edges_of self.now))) }
+    {
+        for r in self.references() {
+            if is_same(r.node(), n) {
+                self.push_edges(alloc, r.way(), n, edges)?;
+            }
+        }
+        Ok(())
+    }
+
+    /// The edges that lead into some nodes.
+    fn led_into(&self, alloc: Global, nodes: &[Node]) -> Result<Edges, AllocError>
+        ensures { IfOk result (λ es. es ≡ sorted (flat_map (λ n. into n (edges_of self.now)) nodes.now)) }
+    {
+        let mut edges = Vec::new(alloc);
+        for n in nodes {
+            self.push_led_into(alloc, *n, &mut edges)?;
+        }
+        Edges::of_unordered(edges)
+    }
+
+    /// Adds where an edge comes from, with a change made to its label.
+    fn push_lead(
+        &mut self,
+        alloc: Global,
+        change: Change,
+        e: &Edge,
+        leads: &mut Vec<Lead>,
+    ) -> Result<(), AllocError>
+        requires { IsTrue (list_all (λ (l : LeadRecord). nat_lt l.source (length self.old.sources)) leads.old.items) }
+        ensures known { OnOk result (IsTrue (list_all (λ (l : LeadRecord). nat_lt l.source (length self.new.sources)) leads.new.items)) }
+        ensures kept { OnOk result ((self.new.ways ≡ self.old.ways) × (self.new.references ≡ self.old.references)) }
+        ensures edges { OnOk result (edges_of self.new ≡ edges_of self.old) }
+        ensures leads { OnOk result ((to : NodeRecord) → flat_map (lead_edges self.new.sources to) leads.new.items
+            ≡ flat_map (lead_edges self.old.sources to) leads.old.items ++ an_edge e.now.from (changed change e.now.label) to ∷ []) }
+    {
+        let source = self.source(e.from())?;
+        let label = e.label().changed(alloc, change)?;
+        leads.push(Lead { source, label })?;
+        Ok(())
+    }
+
+    /// Where edges come from, with a change made to their labels.
+    fn leads(
+        &mut self,
+        alloc: Global,
+        change: Change,
+        edges: &[Edge],
+    ) -> Result<Vec<Lead>, AllocError>
+        ensures known { IfOk result (λ leads. IsTrue (list_all (λ (l : LeadRecord). nat_lt l.source (length self.new.sources)) leads.items)) }
+        ensures kept { OnOk result ((self.new.ways ≡ self.old.ways) × (self.new.references ≡ self.old.references)) }
+        ensures edges { OnOk result (edges_of self.new ≡ edges_of self.old) }
+        ensures leads { IfOk result (λ leads. (to : NodeRecord) → flat_map (lead_edges self.new.sources to) leads.items
+            ≡ map (λ e. an_edge e.from (changed change e.label) to) edges.now) }
+    {
+        let mut leads = Vec::new(alloc);
+        for e in edges {
+            self.push_lead(alloc, change, e, &mut leads)?;
+        }
+        Ok(leads)
+    }
+
+    /// States of a node what edges lead into it, with a change made to their labels.
+    fn state(
+        &mut self,
+        alloc: Global,
+        change: Change,
+        to: Node,
+        edges: &Edges,
+    ) -> Result<(), AllocError>
+        ensures { OnOk result (edges_of self.new ≡ edges_of self.old ++ map (λ e. an_edge e.from (changed change e.label) to) edges.now) }
+    {
+        let leads = self.leads(alloc, change, edges.as_slice())?;
+        self.refer(to, Way::Stated(leads))
+    }
+
+    /// Makes of a reference one to a field, where something leads from it to itself.
+    pub(super) fn extend_anew(
+        &mut self,
+        alloc: Global,
+        position: u8,
+        n: Node,
+    ) -> Result<(), AllocError>
+        ensures { OnOk result (sorted (edges_of self.new) ≡ sorted (without n (edges_of self.old) ++ inherited (extended position) n n (edges_of self.old))) }
+    {
+        let edges = self.led_into(alloc, &[n])?;
+        self.remove(n);
+        self.state(alloc, Change::Extended(position), n, &edges)
+    }
+
+    /// What leads into each heir's givers.
+    fn given_to(&self, alloc: Global, heirs: &[Heir<'_>]) -> Result<Vec<Edges>, AllocError>
+        ensures { IfOk result (λ given. given.items ≡ map (λ h. sorted (flat_map (λ n. into n (edges_of self.now)) h.givers)) heirs.now) }
+    {
+        let mut given = Vec::new(alloc);
+        for heir in heirs {
+            let edges = self.led_into(alloc, heir.givers())?;
+            given.push(edges)?;
+        }
+        Ok(given)
+    }
+
+    /// States of each heir what was given to it, opened.
+    fn state_each(
+        &mut self,
+        alloc: Global,
+        heirs: &[Heir<'_>],
+        given: &[Edges],
+    ) -> Result<(), AllocError>
+        requires { length given.now ≡ length heirs.now }
+        ensures { OnOk result (edges_of self.new ≡ edges_of self.old ++ opened_into heirs.now given.now) }
+    {
+        for place in 0..heirs.len() {
+            self.state(alloc, Change::Opened, heirs[place].node(), &given[place])?;
+        }
+        Ok(())
+    }
+
+    /// Takes some nodes, out of which something leads, and lets heirs take over what leads into their givers, opened.
+    pub(super) fn tie_anew(
+        &mut self,
+        alloc: Global,
+        taken: &[Node],
+        heirs: &[Heir<'_>],
+    ) -> Result<(), AllocError>
+        ensures { OnOk result (sorted (edges_of self.new) ≡ sorted (without_each taken.now (edges_of self.old) ++ taken_over heirs.now (edges_of self.old))) }
+    {
+        let given = self.given_to(alloc, heirs)?;
+        self.remove_each(taken);
+        self.state_each(alloc, heirs, &given)
+    }
+}
