@@ -8,8 +8,7 @@ mod rows;
 mod saved;
 
 use fakes::{Pieces, Room};
-use moveledger::{EngineError, engine};
-use mv_ledger::Ledger;
+use moveledger::{EngineError, Ledger, engine};
 use rows::{Row, inputs, rows_of};
 use std::alloc::Global;
 use std::io::ErrorKind;

@@ -3,8 +3,7 @@
 use super::fakes::Room;
 use super::rows::{Row, rows_of};
 use super::{Answer, answered, printed, room, same, whole};
-use moveledger::{End, EngineError, loaded, migrated};
-use mv_ledger::LoadError;
+use moveledger::{End, EngineError, LoadError, loaded, migrated};
 use std::alloc::Global;
 use std::process::Abort;
 use std::test::Fail;
