@@ -42,8 +42,6 @@ pub use ending::{
 };
 pub use holding::{Before, Hold, Place, Seen, is_one};
 pub use keeping::{keep, may_keep};
-pub use mv_analyser::ProveError;
-pub use mv_ledger::{Ledger, LoadError};
 pub use pacing::{AfterRecord, Gathering, Prompt};
 pub use proving::prove_text;
 pub use reporting::report;

@@ -8,7 +8,8 @@ mod rows;
 mod saved;
 
 use fakes::{Pieces, Room};
-use moveledger::{EngineError, Ledger, engine};
+use moveledger::{EngineError, engine};
+use mv_ledger::Ledger;
 use rows::{Row, inputs, rows_of};
 use std::alloc::Global;
 use std::io::ErrorKind;

@@ -34,7 +34,7 @@ ghost use Rattle.mv_bounds.specs.Places.{IsBounded};
 pub use cycles::is_acyclic;
 use duplicates::well_defined;
 use indices::in_bounds;
-pub use mv_binary_format::{Constant, FunctionDefinition, Module, StructDefinition};
+use mv_binary_format::Module;
 use mv_move_types::{Instruction, Refusal};
 pub use places::{function_places, struct_places};
 use std::alloc::Global;

@@ -19,9 +19,9 @@ ghost use Rattle.mv_ledger_state.specs.View.{IsSmall};
 ghost use Rattle.mv_machine.specs.Tallies.{all_of};
 
 use crate::Reply;
-use mv_interface::{LinkedType, Part};
 use mv_interpreter::{Arg, FuncId, RunError, Tally, run};
-use mv_ledger_state::{Published, RunRecord, Store};
+use mv_ledger_state::{Published, RunRecord};
+use mv_linker::{LinkedType, Part, Store};
 use mv_machine::{Ending, Outcome};
 use mv_move_types::limits::{MOST_RUNS, MOST_STEPS};
 use mv_move_types::{Definition, LeafKind};

@@ -23,7 +23,8 @@ ghost use Rattle.mv_move_types.specs.Tokens.{width_bytes};
 ghost use Rattle.mv_move_types.specs.Refusals.{IsRefusedIn};
 ghost use Rattle.mv_signatures.specs.Signatures.{WellSigned, is_constant, may_be_field, handle_is_small, is_plain_argument, are_entry_parameters, has_no_results, entry_fits};
 
-use mv_bounds::{Bounded, Constant, FunctionDefinition, Module, StructDefinition};
+use mv_binary_format::{Constant, FunctionDefinition, Module, StructDefinition};
+use mv_bounds::Bounded;
 use mv_move_types::limits::{MOST_LOCALS, MOST_PARAMETERS, MOST_RESULTS};
 use mv_move_types::{FunctionHandle, LeafKind, Refusal, Token, ValueType, Width};
 

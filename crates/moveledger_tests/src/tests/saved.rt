@@ -3,7 +3,8 @@
 use super::fakes::Room;
 use super::rows::{Row, rows_of};
 use super::{Answer, answered, printed, room, same, whole};
-use moveledger::{End, EngineError, LoadError, loaded, migrated};
+use moveledger::{End, EngineError, loaded, migrated};
+use mv_ledger::LoadError;
 use std::alloc::Global;
 use std::process::Abort;
 use std::test::Fail;
