@@ -12,6 +12,7 @@ from typing import Dict, Mapping, NamedTuple, Optional, Sequence, Tuple, Union
 TOP = Path(__file__).resolve().parent.parent
 CRATES = TOP / "crates"
 TESTS = CRATES / "moveledger_tests/src/tests"
+COMMAND_TESTS = CRATES / "moveledger_command_tests/src/tests"
 EXAMPLES = TOP / "examples"
 TOOLS = TOP / "tools"
 # Where a build leaves the program, from the top.

@@ -6,7 +6,7 @@ from pathlib import Path
 from typing import Iterator, List, NamedTuple, Tuple
 
 TOP = Path(__file__).resolve().parents[2]
-ROWS = TOP / "crates/moveledger_tests/src/tests"
+CRATES = TOP / "crates"
 EXAMPLES = TOP / "examples"
 # What a call answers.
 DONE, REFUSED, LOAD_REFUSED, TOO_COMPLEX = range(4)
@@ -31,7 +31,9 @@ class Call(NamedTuple):
 
 def rows(file: str, text: str) -> List[Row]:
     """The rows of a text in one of the files."""
-    found = re.search(rf'const {text}: &str = r#*"\n(.*?)"#*;', (ROWS / file).read_text(encoding="utf-8"), re.S)
+    tests = "moveledger_tests" if file == "rows.rt" else "moveledger_command_tests"
+    source = (CRATES / tests / "src/tests" / file).read_text(encoding="utf-8")
+    found = re.search(rf'const {text}: &str = r#*"\n(.*?)"#*;', source, re.S)
     assert found, f"{file} has no {text}"
     parts = [part.split("\n") for part in f"\n{found[1]}".split("\n# ")[1:]]
     assert parts, f"{file} has no rows in {text}"

@@ -12,7 +12,6 @@ pub mod OneReport
 pub mod Writing
 pub mod HeadlineLemmas
 pub mod Lines
-pub mod Tasks
 pub mod Digits
 pub mod Texts
 pub mod Verdicts

@@ -5,11 +5,16 @@ use Rattle.std.proofs.Math.Seq.{take-append_seam, take-length}
 use Rattle.std.specs.Io.KnownBytes.{Consumes, IsAtEnd}
 use Rattle.mv_ledger_state.specs.Loading.{FailsLoad}
 use Rattle.mv_ledger_state.specs.Loading.FailsLoad.{no_head}
-use Rattle.moveledger.specs.Saved.{IsMark}
+use Rattle.mv_ledger_state.specs.SavedText.{Form, First, Second, form_byte}
+use Rattle.mv_commands.specs.Marks.{IsMark, mark}
+
+is_marked : (form : Form) (bytes : List ℕ) → bytes ≡ mark (form_byte form) → IsMark bytes
+is_marked First bytes e = inl e
+is_marked Second bytes e = inr e
 
 -- a text whose first four bytes are no mark has no head
 pub fails-unmarked : (xs : List ℕ) → ¬ IsMark (take 4 xs) → FailsLoad xs 1
-fails-unmarked xs unmarked = no_head (λ form runs offers h. unmarked (form, ap (take 4) h.text))
+fails-unmarked xs unmarked = no_head (λ form runs offers h. unmarked (is_marked form (take 4 xs) (ap (take 4) h.text)))
 
 -- what was read of a buffer of four bytes is what there was at first: all four, or all there is
 front-whole : (n : ℕ) (front ys : List ℕ) → length front ≡ 4 → (n ≡ length front) ⊎ ((n < length front) × (ys ≡ [])) → take 4 (take n front ++ ys) ≡ take n front

@@ -2,7 +2,7 @@
 use Rattle.std.proofs.Common.{◌≡◌, ℕ, List, [], ◌∷◌, ◌++◌, refl, sym, ◌∙◌, subst}
 use Rattle.mv_move_types.specs.Published.{PublishedModule}
 use Rattle.mv_binary_format.specs.Laws.{IsReadByText}
-use Rattle.mv_certificate.specs.Certificate.{Certificate}
+use Rattle.mv_certificate_rules.specs.Certificate.{Certificate}
 use Rattle.mv_machine.specs.Ledger.{Offer, LedgerState}
 use Rattle.mv_ledger_state.specs.Publishing.{Passes, FailsAt, phases, AllPass, IsLinked, HasRoom, IsPublished, IsRefusedAt, in_offer, in_linking, in_room}
 use Rattle.mv_ledger_state.proofs.Phases.{never-fails, one-first}

@@ -6,12 +6,12 @@ use Rattle.mv_move_types.specs.declared.refusal.Refusal.TheVariants.{Phase, Memo
 use Rattle.mv_move_types.specs.Module.{Module}
 use Rattle.mv_module_text.specs.Laws.{AreBytes}
 use Rattle.mv_binary_format.specs.Laws.{IsReadByText}
-use Rattle.mv_type_states.specs.Sound.{IsSound}
+use Rattle.mv_type_rules.specs.Sound.{IsSound}
 use Rattle.mv_acquires.specs.Acquires.{AcquiresHold}
 use Rattle.mv_certificate.specs.Answers.{bad_locals, bad_borrows, bad_acquires}
-use Rattle.mv_certificate.specs.Certificate.{Certificate, all_locals_hold, all_edges_hold, certificate_holds}
-use Rattle.mv_certificate.specs.CertificateText.{certificate_text}
-use Rattle.mv_certificate.specs.Shape.{AllStatedFit}
+use Rattle.mv_certificate_rules.specs.Certificate.{Certificate, all_locals_hold, all_edges_hold, certificate_holds}
+use Rattle.mv_certificate_rules.specs.CertificateText.{certificate_text}
+use Rattle.mv_certificate_rules.specs.Shape.{AllStatedFit}
 use Rattle.mv_analyser.specs.Principal.{IsOfLimits, IsProvable, IsUnproved, PassesCheck}
 use Rattle.mv_analyser.specs.declared.ProveError.{ProveError}
 use Rattle.mv_analyser.specs.declared.ProveError.TheVariants.{Refused, TooComplex, Memory}

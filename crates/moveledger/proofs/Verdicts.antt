@@ -3,7 +3,7 @@ use Rattle.std.proofs.Common.{◌≡◌, ℕ, List, ◌⊎◌, inl, inr, refl, s
 use Rattle.mv_move_types.specs.declared.refusal.Refusal.{Refusal}
 use Rattle.mv_move_types.specs.declared.refusal.Refusal.TheVariants.{Phase, Memory}
 use Rattle.mv_move_types.specs.Module.{Module}
-use Rattle.mv_type_states.specs.Sound.{IsSound}
+use Rattle.mv_type_rules.specs.Sound.{IsSound}
 use Rattle.hex.proofs.HexLemmas.{decode_of-same}
 use Rattle.moveledger.specs.Hexadecimal.{IsHexadecimal}
 use Rattle.mv_ledger_state.specs.Publishing.{Spells, FailsAt, IsRefusedOffer}

@@ -13,8 +13,8 @@ use Rattle.mv_move_types.specs.Limits.{most_certificate_bytes, most_module_bytes
 use Rattle.mv_move_types.specs.declared.refusal.Refusal.{Refusal}
 use Rattle.mv_move_types.specs.declared.refusal.Refusal.TheVariants.{Phase, Memory}
 use Rattle.mv_move_types.specs.Module.{Module}
-use Rattle.mv_type_states.specs.Sound.{IsSound}
-use Rattle.mv_certificate.specs.Certificate.{Certificate}
+use Rattle.mv_type_rules.specs.Sound.{IsSound}
+use Rattle.mv_certificate_rules.specs.Certificate.{Certificate}
 use Rattle.mv_machine.specs.Ledger.{Offer}
 use Rattle.hex.specs.declared.error.FromHexError.{FromHexError}
 use Rattle.hex.specs.declared.error.FromHexError.TheVariants.{OutOfMemory}

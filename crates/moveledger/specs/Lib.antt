@@ -8,10 +8,8 @@ pub mod Pacing
 pub mod Next
 pub mod Writing
 pub mod Answered
-pub mod Line
 pub mod Status
 pub mod Saved
-pub mod Keeping
 pub mod Hexadecimal
 pub mod Checking
 pub mod Proving

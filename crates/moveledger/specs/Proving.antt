@@ -11,9 +11,9 @@ use Rattle.mv_move_types.specs.Limits.{most_module_bytes}
 use Rattle.mv_move_types.specs.declared.refusal.Refusal.{Refusal}
 use Rattle.mv_move_types.specs.declared.refusal.Refusal.TheVariants.{Phase, Memory as OutOfMemory}
 use Rattle.mv_move_types.specs.Module.{Module}
-use Rattle.mv_type_states.specs.Sound.{IsSound}
-use Rattle.mv_certificate.specs.Certificate.{Certificate}
-use Rattle.mv_certificate.specs.CertificateText.{certificate_text}
+use Rattle.mv_type_rules.specs.Sound.{IsSound}
+use Rattle.mv_certificate_rules.specs.Certificate.{Certificate}
+use Rattle.mv_certificate_rules.specs.CertificateText.{certificate_text}
 use Rattle.mv_analyser.specs.Principal.{FailsEach, IsTooComplex, IsWithoutReferences}
 use Rattle.mv_analyser.specs.declared.ProveError.{ProveError}
 use Rattle.mv_analyser.specs.declared.ProveError.TheVariants.{Refused, TooComplex, Memory}

@@ -1,21 +1,13 @@
--- How a saved ledger begins, how the commands over saved ledgers end, and what they print.
-use Rattle.std.specs.Prelude.{◌≡◌, ℕ, List, [], ◌∷◌, Option}
+-- How the commands over saved ledgers end, and what they print.
+use Rattle.std.specs.Prelude.{◌≡◌, ℕ, List, Option}
 use Rattle.std.specs.Io.KnownBytes.{Appends}
 use Rattle.mv_machine.specs.Ledger.{LedgerState}
-use Rattle.mv_ledger_state.specs.SavedText.{Form, Second, IsSavedText, form_byte}
+use Rattle.mv_ledger_state.specs.SavedText.{Second, IsSavedText}
 use Rattle.mv_ledger_state.specs.Loading.{FailsLoad, IsLoaded}
 use Rattle.moveledger.specs.Printing.{line, load_refused_text}
 use Rattle.moveledger.specs.Writing.{BreaksOff}
 use Rattle.moveledger.specs.declared.ending.End.{End}
 use Rattle.moveledger.specs.declared.ending.End.TheVariants.{Done, Read, Write, Memory, Words, Refused, LoadRefused, TooComplex}
-
--- the four bytes that a saved ledger of this form begins with
-abbrev pub mark : Form → List ℕ
-mark form = 0x4D ∷ 0x56 ∷ 0x4C ∷ form_byte form ∷ []
-
--- these bytes are the mark of one of the forms
-abbrev pub IsMark : List ℕ → Type 0
-IsMark bytes = (form : Form) × (bytes ≡ mark form)
 
 -- Bytes are not loaded, and the line of the first reason against them is printed; or a write failed, and a beginning of that line is
 -- written, and not all of it; or a read failed, or memory ran out, and nothing is written.

@@ -9,12 +9,12 @@ use Rattle.std.specs.Prelude.{◌≡◌, ℕ, List, [], Bool, true, false, Resul
 use Rattle.std.specs.Io.{StartsWith}
 use Rattle.std.specs.Io.KnownBytes.{Appends}
 use Rattle.moveledger.specs.Printing.{line}
-use Rattle.moveledger.specs.declared.command_line.LineError.{LineError}
-use Rattle.moveledger.specs.declared.command_line.LineError.TheVariants as words
+use Rattle.mv_commands.specs.declared.command_line.LineError.{LineError}
+use Rattle.mv_commands.specs.declared.command_line.LineError.TheVariants as words
 use Rattle.moveledger.specs.declared.streaming.EngineError.{EngineError}
 use Rattle.moveledger.specs.declared.streaming.EngineError.TheVariants as error
-use Rattle.moveledger.specs.declared.saved.KeepError.{KeepError}
-use Rattle.moveledger.specs.declared.saved.KeepError.TheVariants as keep
+use Rattle.mv_commands.specs.declared.error.KeepError.{KeepError}
+use Rattle.mv_commands.specs.declared.error.KeepError.TheVariants as keep
 use Rattle.mv_analyser.specs.declared.ProveError.{ProveError}
 use Rattle.mv_analyser.specs.declared.ProveError.TheVariants as proof
 use Rattle.mv_move_types.specs.declared.refusal.Refusal.{Refusal}

@@ -5,10 +5,9 @@ ghost use Rattle.moveledger.specs.Writing.{BreaksOff};
 ghost use Rattle.moveledger.specs.Status.{EndsSo, end_after, end_after_check, end_after_keeping, end_after_proof, end_after_words, fault_line, fault_said, status_of};
 
 use crate::answering::write_text;
-use crate::command_line::LineError;
-use crate::saved::KeepError;
 use crate::streaming::EngineError;
 use mv_analyser::ProveError;
+use mv_commands::{KeepError, LineError};
 use mv_move_types::Refusal;
 use std::io::Write;
 

@@ -3,14 +3,11 @@ ghost use Rattle.std.specs.Prelude.{◌≡◌, ◌⊎◌, ◌↔◌, ◌++◌, �
 ghost use Rattle.std.specs.Io.KnownBytes.{Consumes, IsAtEnd};
 ghost use Rattle.std.specs.IoError.{error_kind};
 ghost use Rattle.mv_ledger_state.specs.Loading.{FailsLoad};
-ghost use Rattle.moveledger.specs.Saved.{IsMark};
 
 use crate::ending::End;
+use mv_commands::{MARK, filled, is_mark};
 use std::alloc::Global;
 use std::io::{self, ErrorKind, Read};
-
-/// The length in bytes of the mark that a saved ledger begins with.
-pub const MARK: usize = 4;
 
 /// The most bytes of a saved ledger that are read: 32 TiB. The format has no such limit. But a ledger is held in memory, so that a
 /// longer text is answered as a failed allocation. 4,096 modules with their certificates and tallies take less than 2^34.
@@ -64,30 +61,6 @@ pub fn first_bytes<R: Read + Drop>(alloc: Global, reader: R, most: u64) -> Resul
     ensures err { IfErr result (λ e. (e ≡ End.Read) ⊎ (e ≡ End.Memory)) }
 {
     with_rest(alloc, &[], reader.take(most), 0)
-}
-
-/// Fills the buffer, and returns how much was there.
-pub fn filled<R: Read>(reader: &mut R, buffer: &mut [u8]) -> io::Result<usize>
-    ensures within { IfOk result (λ n. n ≤ length buffer.new) }
-    ensures taken { IfOk result (λ n. Consumes (R.remaining reader.old) (R.remaining reader.new) (take n buffer.new)) }
-    ensures end { IfOk result (λ n. n < length buffer.new → IsAtEnd (R.remaining reader.new)) }
-{
-    let mut filled = 0;
-    while filled < buffer.len() {
-        match reader.read(&mut buffer[filled..]) {
-            Ok(0) => return Ok(filled),
-            Ok(n) => filled += n,
-            Err(e) => return Err(e),
-        }
-    }
-    Ok(filled)
-}
-
-/// Whether these are the bytes that a saved ledger of either form begins with.
-pub fn is_mark(bytes: &[u8]) -> bool
-    ensures { IsTrue result ↔ IsMark bytes.now }
-{
-    matches!(bytes, b"MVL1" | b"MVL2")
 }
 
 /// All bytes that a reader gives, of which so many are expected, if they begin with a ledger's mark. Otherwise no more of them

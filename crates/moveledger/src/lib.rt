@@ -16,13 +16,9 @@
 mod answering;
 mod authoring;
 mod checking;
-mod command_line;
 mod continuing;
 mod ending;
-mod holding;
 mod inputs;
-mod keeping;
-mod leftovers;
 mod modules;
 mod pacing;
 mod printing;
@@ -34,16 +30,19 @@ mod streaming;
 
 pub use authoring::{check_module, prove_module};
 pub use checking::check_text;
-pub use command_line::{LineError, Task, command, not_text};
 pub use continuing::answer_on;
 pub use ending::{
     End, end_of, end_of_check, end_of_keeping, end_of_proof, end_of_words, ended, fault_text,
     status,
 };
-pub use holding::{Before, Hold, Place, Seen, is_one};
-pub use keeping::{keep, may_keep};
+pub use mv_analyser::ProveError;
+pub use mv_commands::{
+    Before, Hold, KeepError, LineError, Place, Seen, Task, command, is_one, keep, may_keep,
+    not_text,
+};
+pub use mv_ledger::{Ledger, LoadError};
 pub use pacing::{AfterRecord, Gathering, Prompt};
 pub use proving::prove_text;
 pub use reporting::report;
-pub use saved::{KeepError, end_of_text, loaded, migrated, text_to_keep};
+pub use saved::{end_of_text, loaded, migrated, text_to_keep};
 pub use streaming::{EngineError, answer_all, engine, one_reading, one_report};

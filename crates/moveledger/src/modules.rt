@@ -1,11 +1,11 @@
 // The bytes of a module: phases 2 to 8.
 ghost use Rattle.std.specs.Prelude.{IfOk, IfErr};
-ghost use Rattle.mv_type_states.specs.Sound.{IsSound};
+ghost use Rattle.mv_type_rules.specs.Sound.{IsSound};
 ghost use Rattle.mv_ledger_state.specs.Publishing.{Spells};
 ghost use Rattle.moveledger.specs.Checking.{IsRefusedAlone};
 
 use mv_move_types::Refusal;
-use mv_type_states::Typed;
+use mv_type_rules::Typed;
 use std::alloc::Global;
 
 /// The module that bytes spell, with what it passed: phases 2 to 8 in order.

@@ -6,61 +6,16 @@ ghost use Rattle.mv_ledger_state.specs.SavedText.{IsSavedText, Second};
 ghost use Rattle.mv_ledger_state.specs.View.{state_of};
 ghost use Rattle.moveledger.specs.Saved.{IsMigrated, IsNotLoaded};
 ghost use Rattle.moveledger.specs.Status.{end_after_keeping};
-ghost use Rattle.moveledger.specs.declared.saved.KeepError.{KeepError};
+ghost use Rattle.mv_commands.specs.declared.error.KeepError.{KeepError};
 
 use crate::authoring::printed;
 use crate::ending::{End, end_of_keeping};
 use crate::inputs::ledger_bytes;
 use crate::printing::load_refused_line;
+use mv_commands::KeepError;
 use mv_ledger::{Ledger, LoadError};
 use std::alloc::{AllocError, Global};
-use std::io::{self, ErrorKind, Read, Write};
-use thiserror::Error;
-
-/// Why a text isn't kept.
-#[derive(Clone, Copy, Debug, PartialEq, Eq, Error)]
-pub enum KeepError {
-    /// The file can't be made, written, synced or put into its place.
-    #[error("fault: write")]
-    Write,
-    /// What stands there is no saved ledger, and isn't empty.
-    #[error("fault: write")]
-    NoLedger,
-    /// What stands there is a ledger that another program has in use.
-    #[error("fault: write")]
-    InUse,
-    /// An allocation failed.
-    #[error("fault: memory")]
-    Memory,
-}
-
-impl From<AllocError> for KeepError {
-    ghost use Rattle.std.specs.Prelude.{◌≡◌};
-    ghost use Rattle.moveledger.specs.declared.saved.KeepError.TheVariants.{Memory};
-
-    ghost from_gives = { λ _ e. e ≡ Memory };
-
-    fn from(_: AllocError) -> Self {
-        KeepError::Memory
-    }
-}
-
-impl From<io::Error> for KeepError {
-    ghost use Rattle.std.specs.Prelude.{◌≡◌, ◌↔◌};
-    ghost use Rattle.std.specs.IoError.{error_kind};
-    ghost use Rattle.std.specs.declared.io.ErrorKind.TheVariants.{OutOfMemory};
-    ghost use Rattle.moveledger.specs.declared.saved.KeepError.TheVariants.{Memory};
-
-    ghost from_gives = { λ e fault. (fault ≡ Memory) ↔ (error_kind e ≡ OutOfMemory) };
-
-    fn from(e: io::Error) -> Self {
-        if e.kind() == ErrorKind::OutOfMemory {
-            KeepError::Memory
-        } else {
-            KeepError::Write
-        }
-    }
-}
+use std::io::{Read, Write};
 
 /// Loads the ledger whose text a reader gives. `expected` is the expected number of bytes. If the first four bytes aren't the mark
 /// of a saved ledger, no more are read.

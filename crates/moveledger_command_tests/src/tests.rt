@@ -1,6 +1,8 @@
-// What the program's words ask for, what it says where it ends, how it loads a ledger and how it keeps one. Tests of the engine
-// are a crate of their own.
+// What the program's words ask for, what it prints of modules, what it says where it ends, how it loads a ledger, and what saved ledgers answer. Tests of the
+// engine, and of how a ledger is kept, are crates of their own.
 
-mod keeping;
+mod authoring;
 mod line;
 mod loading;
+mod rows;
+mod saved;

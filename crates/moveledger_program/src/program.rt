@@ -6,11 +6,10 @@ use crate::kinds::{FRONT, Kind, kind_of};
 use crate::meter::{Counted, Meter, Report, Screen, Whole};
 use crate::told::Told;
 use moveledger::{
-    AfterRecord, Before, End, Gathering, Hold, KeepError, LineError, Place, Prompt, Seen, Task,
-    check_module, command, end_of_keeping, end_of_text, end_of_words, ended, is_one, keep, loaded,
-    may_keep, migrated, not_text, prove_module, report, text_to_keep,
+    AfterRecord, Before, End, Gathering, Hold, KeepError, Ledger, LineError, Place, Prompt, Seen,
+    Task, check_module, command, end_of_keeping, end_of_text, end_of_words, ended, is_one, keep,
+    loaded, may_keep, migrated, not_text, prove_module, report, text_to_keep,
 };
-use mv_ledger::Ledger;
 use std::fs::{self, File, Metadata, OpenOptions};
 use std::io::{self, BufReader, BufWriter, ErrorKind, IsTerminal, Read, Write};
 use std::path::Path;

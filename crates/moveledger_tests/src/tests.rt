@@ -1,15 +1,12 @@
 // Inputs through the engine, and the reports that come out.
 
 mod altered;
-mod authoring;
 mod fakes;
 mod faults;
 mod rows;
-mod saved;
 
 use fakes::{Pieces, Room};
-use moveledger::{EngineError, engine};
-use mv_ledger::Ledger;
+use moveledger::{EngineError, Ledger, engine};
 use rows::{Row, inputs, rows_of};
 use std::alloc::Global;
 use std::io::ErrorKind;
@@ -52,11 +49,6 @@ fn roomy(alloc: Global) -> Option<Room> {
         }),
         Err(_) => None,
     }
-}
-
-// What was printed.
-fn printed(writer: &Room) -> Result<&str, Fail> {
-    Ok(std::str::from_utf8(writer.taken.as_slice())?)
 }
 
 fn answered(reader: &mut Pieces<'_>, writer: &mut Room, ledger: &mut Ledger) -> Answer {

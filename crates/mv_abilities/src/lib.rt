@@ -23,8 +23,7 @@ ghost use Rattle.mv_move_types.specs.Module.{struct_abilities};
 ghost use Rattle.mv_move_types.specs.AbilitySets.{leaf_abilities, no_abilities};
 ghost use Rattle.mv_abilities.specs.Abilities.{AbilitiesHold, token_abilities, field_is_able, struct_is_able};
 
-use mv_binary_format::StructDefinition;
-use mv_bounds::Bounded;
+use mv_bound_rules::{Bounded, StructDefinition};
 use mv_move_types::{Abilities, Field, LeafKind, Refusal, Token, ValueType};
 
 /// Accepts exactly the modules for which the rules of phase 6 hold.

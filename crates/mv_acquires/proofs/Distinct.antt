@@ -4,7 +4,7 @@ use Rattle.std.specs.List.{list_any}
 use Rattle.std.proofs.Math.Seq.{drop-cons}
 use Rattle.std.proofs.lemmas.Bool.{and_parts, false_from_ne_true, both_ways}
 use Rattle.std.proofs.lemmas.Bool.Decides.{same_from_decides, Decides-eqb}
-use Rattle.mv_bounds.specs.Definitions.{all_differ}
+use Rattle.mv_bound_rules.specs.Definitions.{all_differ}
 use Rattle.mv_acquires.specs.Acquires.{has_member}
 use Rattle.std.specs.Cmp.{nat_eq_equiv}
 

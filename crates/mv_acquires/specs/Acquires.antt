@@ -4,7 +4,7 @@ use Rattle.std.specs.List.{list_any, list_all}
 use Rattle.mv_move_types.specs.declared.instruction.Instruction.{Instruction}
 use Rattle.mv_move_types.specs.declared.instruction.Instruction.TheVariants.{Call, MutBorrowGlobal, ImmBorrowGlobal, MoveFrom}
 use Rattle.mv_move_types.specs.Module.{Module, FunctionDefinition, has_key, own_acquires}
-use Rattle.mv_bounds.specs.Definitions.{all_differ}
+use Rattle.mv_bound_rules.specs.Definitions.{all_differ}
 
 -- the struct definitions that an instruction reaches in the storage, itself or by a call in the own module
 abbrev pub reached_by : Module → Instruction → List ℕ

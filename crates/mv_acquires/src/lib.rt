@@ -19,12 +19,12 @@ ghost use Rattle.std.specs.Prelude.{◌≡◌, ℕ, ◌||◌, ◌==◌, ◌<◌,
 ghost use Rattle.std.specs.List.{list_all, list_any};
 ghost use Rattle.mv_move_types.specs.Refusals.{IsRefusedIn};
 ghost use Rattle.mv_move_types.specs.Module.{has_key, own_acquires};
-ghost use Rattle.mv_bounds.specs.Definitions.{all_differ};
+ghost use Rattle.mv_bound_rules.specs.Definitions.{all_differ};
 ghost use Rattle.mv_acquires.specs.Acquires.{AcquiresHold, reached_by, has_member, same_members, acquires_are_right};
 ghost use Rattle.mv_acquires.specs.Marks.{is_marked, AreFollowed};
 
 use marks::{are_same, is_member, mark, mark_all, marks_of};
-use mv_bounds::Bounded;
+use mv_bound_rules::Bounded;
 use mv_move_types::{Instruction, Refusal};
 use std::alloc::{AllocError, Global};
 

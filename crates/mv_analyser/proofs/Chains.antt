@@ -9,20 +9,20 @@ use Rattle.mv_move_types.specs.declared.borrow.Node.{Node}
 use Rattle.mv_move_types.specs.declared.borrow.Node.TheVariants.{Slot, Own, Glob, Temp}
 use Rattle.mv_move_types.specs.declared.token.Token.{Token}
 use Rattle.mv_move_types.specs.Module.{Module, FunctionDefinition, local_type}
-use Rattle.mv_bounds.specs.Bounds.{local_count}
+use Rattle.mv_bound_rules.specs.Bounds.{local_count}
 use Rattle.mv_edges.specs.Edges.{Edge, edges_leq}
 use Rattle.mv_edges.specs.Ascending.{are_ascending}
 use Rattle.mv_lattice.specs.Flow.{IsRisen}
 use Rattle.mv_lattice.specs.Work.{HasLarge, HasChain}
-use Rattle.mv_locals_safety.specs.LocalsRules.{locals_leq}
+use Rattle.mv_certificate_rules.specs.LocalsRules.{locals_leq}
 use Rattle.mv_locals_safety.specs.Domain.{IsOfLocals}
-use Rattle.mv_locals_safety.specs.Laws.{leq_reflexive}
-use Rattle.mv_borrow_graph.specs.BorrowRules.{is_reference_token}
-use Rattle.mv_borrow_graph.specs.Nodes.{leads_in, edge_is_there, may_begin_with, are_few}
+use Rattle.mv_certificate_rules.proofs.LocalsOrder.{leq_reflexive}
+use Rattle.mv_certificate_rules.specs.BorrowRules.{is_reference_token}
+use Rattle.mv_certificate_rules.specs.Nodes.{leads_in, edge_is_there, may_begin_with, are_few}
 use Rattle.mv_borrow_graph.specs.Laws.There.{there_parts}
 use Rattle.mv_analyser.specs.Principal.{HasPlainLocals}
 use Rattle.mv_lattice.proofs.Rises.{risen_has}
-use Rattle.mv_type_states.specs.TypesHold.{point_at}
+use Rattle.mv_type_rules.specs.TypesHold.{point_at}
 
 -- how many are unknown
 abbrev maybes : List Availability → ℕ

@@ -9,7 +9,7 @@ use Rattle.mv_move_types.specs.Module.{Module, StructDefinition}
 use Rattle.mv_module_text.specs.Fits.{is_index, field_fits, struct_definition_fits}
 use Rattle.mv_signatures.specs.Signatures.{may_be_field}
 use Rattle.mv_edges.proofs.Insertion.{all_weaker}
-use Rattle.mv_borrow_graph.specs.BorrowRules.{is_reference_token}
+use Rattle.mv_certificate_rules.specs.BorrowRules.{is_reference_token}
 
 pub few_fields : (n m : Module) → n ≡ m → IsTrue (list_all (struct_definition_fits n.version) n.structs) → IsTrue (list_all (λ (d : StructDefinition). nat_le (length d.fields) 32) m.structs)
 few_fields n m same h =

@@ -14,19 +14,19 @@ use Rattle.mv_move_types.specs.Module.{Module, FunctionDefinition, StructDefinit
 use Rattle.mv_cfg.specs.declared.Cfg.{Cfg}
 use Rattle.mv_cfg.specs.Blocks.{blocks}
 use Rattle.mv_cfg.specs.FlowGraph.{IsFlowGraph, basic_block_of}
-use Rattle.mv_type_states.specs.TypesHold.{function_is_typed, point_at}
+use Rattle.mv_type_rules.specs.TypesHold.{function_is_typed, point_at}
 use Rattle.mv_lattice.specs.Flow.{IsFlow, IsClosed, IsStated, IsFlowBelow}
 use Rattle.mv_lattice.specs.Work.{AllStated}
-use Rattle.mv_locals_safety.specs.LocalsRules.{locals_after, locals_leq}
+use Rattle.mv_certificate_rules.specs.LocalsRules.{locals_after, locals_leq}
 use Rattle.mv_edges.specs.Edges.{Edge, same_node, edges_leq}
 use Rattle.mv_edges.specs.Ascending.{are_ascending}
-use Rattle.mv_borrow_graph.specs.BorrowRules.{is_reference_token}
+use Rattle.mv_certificate_rules.specs.BorrowRules.{is_reference_token}
 use Rattle.mv_borrow_graph.specs.Domain.{edges_step}
-use Rattle.mv_borrow_graph.specs.Nodes.{edge_is_there, may_begin_with, are_few, IsGraphOf}
-use Rattle.mv_certificate.specs.Certificate.{Known, Stated, flow_holds, known_at_start}
+use Rattle.mv_certificate_rules.specs.Nodes.{edge_is_there, may_begin_with, are_few, IsGraphOf}
+use Rattle.mv_certificate_rules.specs.Certificate.{Known, Stated, flow_holds, known_at_start}
 use Rattle.mv_certificate.specs.Functions.{LocalsHoldAt, EdgesHoldAt}
 use Rattle.mv_certificate.specs.Reads.{FitsAt}
-use Rattle.mv_certificate.specs.Shape.{StatedFits, known_fits, edge_fits}
+use Rattle.mv_certificate_rules.specs.Shape.{StatedFits, known_fits, edge_fits}
 use Rattle.mv_certificate.proofs.Texts.{block_fits}
 use Rattle.mv_certificate.proofs.Marks.{stated-fits}
 use Rattle.mv_certificate.proofs.States.{edges-flow-at}

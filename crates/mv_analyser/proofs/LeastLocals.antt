@@ -5,23 +5,23 @@ use Rattle.std.specs.List.{list_all}
 use Rattle.std.specs.Option.{option_map_or}
 use Rattle.std.proofs.lemmas.Bool.{and_from}
 use Rattle.std.proofs.lemmas.Option.{same_Some}
-use Rattle.mv_type_states.proofs.HeightLemmas.{bind_some}
+use Rattle.mv_type_rules.proofs.Steps.{bind_some}
 use Rattle.mv_move_types.specs.declared.borrow.Availability.{Availability}
 use Rattle.mv_move_types.specs.declared.token.Token.{Token}
 use Rattle.mv_move_types.specs.Module.{Module, FunctionDefinition, local_tokens, parameter_tokens}
-use Rattle.mv_bounds.specs.Bounds.{local_count}
+use Rattle.mv_bound_rules.specs.Bounds.{local_count}
 use Rattle.mv_cfg.specs.declared.Cfg.{Cfg}
 use Rattle.mv_cfg.specs.FlowGraph.{IsFlowGraph}
-use Rattle.mv_type_states.specs.TypesHold.{function_is_typed}
+use Rattle.mv_type_rules.specs.TypesHold.{function_is_typed}
 use Rattle.mv_lattice.specs.Flow.{IsFlow, IsClosed, IsStated, IsFlowBelow}
 use Rattle.mv_lattice.specs.declared.search.SolveError.{SolveError}
 use Rattle.mv_lattice.specs.declared.search.SolveError.TheVariants.{Need as NeedFails, TooComplex as SearchTooComplex, Memory as MemoryOut}
-use Rattle.mv_locals_safety.specs.LocalsRules.{locals_leq, start_locals}
+use Rattle.mv_certificate_rules.specs.LocalsRules.{locals_leq, start_locals}
 use Rattle.mv_locals_safety.specs.Domain.{IsOfLocals, locals_step}
-use Rattle.mv_certificate.specs.Certificate.{Stated}
+use Rattle.mv_certificate_rules.specs.Certificate.{Stated}
 use Rattle.mv_certificate.specs.Functions.{LocalsHoldAt}
 use Rattle.mv_certificate.specs.Reads.{FitsAt}
-use Rattle.mv_certificate.specs.Shape.{StatedFits, known_fits}
+use Rattle.mv_certificate_rules.specs.Shape.{StatedFits, known_fits}
 use Rattle.mv_certificate.proofs.Texts.{block_fits}
 use Rattle.mv_certificate.proofs.Marks.{stated-fits}
 use Rattle.mv_certificate.proofs.States.{locals-flow-at}

@@ -7,10 +7,10 @@ use Rattle.mv_move_types.specs.Module.{Module, FunctionDefinition}
 use Rattle.mv_move_types.specs.declared.refusal.Refusal.TheVariants.{Phase, Memory as OutOfMemory}
 use Rattle.mv_acquires.specs.Acquires.{AcquiresHold}
 use Rattle.mv_certificate.specs.Answers.{FailsCertificate, bad_locals, bad_borrows, bad_acquires}
-use Rattle.mv_certificate.specs.Certificate.{Stated, Certificate, locals_hold, edges_hold, all_locals_hold, all_edges_hold, certificate_holds}
+use Rattle.mv_certificate_rules.specs.Certificate.{Stated, Certificate, locals_hold, edges_hold, all_locals_hold, all_edges_hold, certificate_holds}
 use Rattle.mv_certificate.specs.Functions.{LocalsHoldAt, EdgesHoldAt}
 use Rattle.mv_certificate.specs.Reads.{FitsAt}
-use Rattle.mv_certificate.specs.Shape.{StatedFits, AllStatedFit}
+use Rattle.mv_certificate_rules.specs.Shape.{StatedFits, AllStatedFit}
 use Rattle.mv_certificate.proofs.States.{fit-length, fit-at}
 use Rattle.mv_certificate.proofs.Holds.{each-passes, passes-each}
 use Rattle.mv_analyser.specs.Principal.{FailsEach, no_locals, no_edges, no_lists, IsUnproved, IsOfLimits, IsProvable, PassesCheck}
@@ -18,7 +18,7 @@ use Rattle.mv_analyser.specs.Principal.{FindsLocals, FindsEdges, AllBefore}
 use Rattle.mv_analyser.specs.States.{EndsLocals, EndsEdges, IsErrorAt, IsComplexAt}
 use Rattle.mv_analyser.specs.declared.ProveError.{ProveError}
 use Rattle.mv_analyser.specs.declared.ProveError.TheVariants.{Refused, TooComplex, Memory}
-use Rattle.mv_bounds.proofs.Entries.{last_or_before, element_at}
+use Rattle.mv_bound_rules.proofs.Entries.{last_or_before, element_at}
 
 -- what is stated of the first functions
 pub record UpTo (P : ℕ → Stated → Type 0) (n : ℕ) (cs : List Stated) : Type 0 where

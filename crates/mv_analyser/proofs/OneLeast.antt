@@ -6,15 +6,15 @@ use Rattle.mv_move_types.specs.declared.borrow.Availability.{Availability}
 use Rattle.mv_move_types.specs.declared.borrow.Availability.TheVariants.{Unavailable, Available, Maybe}
 use Rattle.mv_move_types.specs.Module.{Module}
 use Rattle.mv_lattice.specs.Flow.{IsFlowBelow}
-use Rattle.mv_locals_safety.specs.LocalsRules.{availability_leq, locals_leq}
+use Rattle.mv_certificate_rules.specs.LocalsRules.{availability_leq, locals_leq}
 use Rattle.mv_certificate.proofs.OneCertificate.{one-marks}
-use Rattle.mv_certificate.specs.Certificate.{Stated, Certificate, locals_hold, edges_hold, all_locals_hold, all_edges_hold}
+use Rattle.mv_certificate_rules.specs.Certificate.{Stated, Certificate, locals_hold, edges_hold, all_locals_hold, all_edges_hold}
 use Rattle.mv_certificate.specs.Functions.{LocalsHoldAt, EdgesHoldAt}
 use Rattle.mv_certificate.specs.Reads.{FitsAt}
 use Rattle.mv_certificate.proofs.States.{fit-at, fit-length}
 use Rattle.mv_certificate.proofs.Holds.{passes-each}
 use Rattle.mv_analyser.specs.Least.{stated_locals, IsPrincipal, LeastIsOne}
-use Rattle.mv_bounds.proofs.Entries.{element_at}
+use Rattle.mv_bound_rules.proofs.Entries.{element_at}
 
 -- ---- availabilities that are below each other are the same
 

@@ -10,12 +10,12 @@ use Rattle.std.specs.Prelude.{◌≡◌, ℕ, List, Option, Some, slice_get, IsT
 use Rattle.mv_move_types.specs.declared.borrow.Availability.{Availability}
 use Rattle.mv_move_types.specs.Module.{Module}
 use Rattle.mv_lattice.specs.Flow.{IsFlowBelow, states_of}
-use Rattle.mv_locals_safety.specs.LocalsRules.{locals_leq}
+use Rattle.mv_certificate_rules.specs.LocalsRules.{locals_leq}
 use Rattle.mv_edges.specs.Edges.{Edge, edges_leq}
-use Rattle.mv_certificate.specs.Certificate.{Known, Stated, Certificate, certificate_holds}
+use Rattle.mv_certificate_rules.specs.Certificate.{Known, Stated, Certificate, certificate_holds}
 use Rattle.mv_certificate.specs.Functions.{LocalsHoldAt, EdgesHoldAt}
 use Rattle.mv_certificate.specs.Reads.{FitsAt}
-use Rattle.mv_certificate.specs.Shape.{AllStatedFit}
+use Rattle.mv_certificate_rules.specs.Shape.{AllStatedFit}
 
 -- the stated availabilities, block by block, and the stated edges
 abbrev pub stated_locals : Stated → List (Option (List Availability))

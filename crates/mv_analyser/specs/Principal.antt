@@ -22,17 +22,17 @@ use Rattle.mv_acquires.specs.Acquires.{AcquiresHold}
 use Rattle.mv_cfg.specs.declared.Cfg.{Cfg}
 use Rattle.mv_cfg.specs.FlowGraph.{IsFlowGraph}
 use Rattle.mv_lattice.specs.Search.{EndsWith, MeetsNeed, MeetsLimit}
-use Rattle.mv_locals_safety.specs.LocalsRules.{locals_leq, start_locals}
+use Rattle.mv_certificate_rules.specs.LocalsRules.{locals_leq, start_locals}
 use Rattle.mv_locals_safety.specs.Domain.{joined, locals_step}
 use Rattle.mv_edges.specs.Edges.{Edge, edges_leq}
 use Rattle.mv_edges.specs.Sorted.{sorted}
-use Rattle.mv_borrow_graph.specs.BorrowRules.{is_reference_token}
+use Rattle.mv_certificate_rules.specs.BorrowRules.{is_reference_token}
 use Rattle.mv_borrow_graph.specs.Domain.{edges_step}
-use Rattle.mv_borrow_graph.specs.Nodes.{are_few}
+use Rattle.mv_certificate_rules.specs.Nodes.{are_few}
 use Rattle.mv_certificate.specs.Answers.{IsRefusedByCertificate}
-use Rattle.mv_certificate.specs.Certificate.{Certificate, all_locals_hold, all_edges_hold}
-use Rattle.mv_certificate.specs.Shape.{AllStatedFit}
-use Rattle.mv_certificate.specs.Verified.{HasCertificate}
+use Rattle.mv_certificate_rules.specs.Certificate.{Certificate, all_locals_hold, all_edges_hold}
+use Rattle.mv_certificate_rules.specs.Shape.{AllStatedFit}
+use Rattle.mv_certificate_rules.specs.Verified.{HasCertificate}
 use Rattle.mv_analyser.specs.declared.ProveError.{ProveError}
 use Rattle.mv_analyser.specs.declared.ProveError.TheVariants.{Refused, TooComplex, Memory}
 

@@ -11,7 +11,7 @@ use Rattle.mv_move_types.specs.Module.{Module, FunctionDefinition}
 use Rattle.mv_edges.specs.Edges.{Edge}
 use Rattle.mv_lattice.specs.declared.search.SolveError.{SolveError}
 use Rattle.mv_lattice.specs.declared.search.SolveError.TheVariants.{Need as NeedFails, TooComplex as SearchTooComplex, Memory as MemoryOut}
-use Rattle.mv_certificate.specs.Certificate.{Known, Stated}
+use Rattle.mv_certificate_rules.specs.Certificate.{Known, Stated}
 use Rattle.mv_certificate.specs.Reads.{FitsAt}
 use Rattle.mv_analyser.specs.Principal.{HasPlainLocals, FailsLocals, FailsEdges, MeetsLimitAt}
 use Rattle.mv_analyser.specs.declared.ProveError.{ProveError}

@@ -1,22 +1,22 @@
 // The least edges of each function that hold.
 ghost use Rattle.std.specs.Prelude.{◌≡◌, ◌<◌, not, length, Option, Some, slice_get, nat_le, IfOk, IfErr, OnOk, IsTrue};
 ghost use Rattle.std.specs.List.{list_all};
-ghost use Rattle.mv_borrow_graph.specs.BorrowRules.{is_reference_token};
-ghost use Rattle.mv_certificate.specs.Certificate.{all_locals_hold, certificate_holds};
+ghost use Rattle.mv_certificate_rules.specs.BorrowRules.{is_reference_token};
+ghost use Rattle.mv_certificate_rules.specs.Certificate.{all_locals_hold, certificate_holds};
 ghost use Rattle.mv_certificate.specs.Functions.{LocalsHoldAt, EdgesHoldAt};
 ghost use Rattle.mv_certificate.specs.Reads.{FitsAt};
-ghost use Rattle.mv_certificate.specs.Shape.{AllStatedFit};
+ghost use Rattle.mv_certificate_rules.specs.Shape.{AllStatedFit};
 ghost use Rattle.mv_analyser.specs.Least.{HasLeastLocals, HasLeastEdges, AreLeastLocals, IsLeastCertificate};
 ghost use Rattle.mv_analyser.specs.Principal.{AllBefore, FindsEdges, FindsLocals, IsUnproved};
 ghost use Rattle.mv_analyser.specs.States.{known_with, with_edges, EndsEdges, IsErrorAt, IsComplexAt};
-ghost use Rattle.mv_certificate.specs.Certificate.{Known as KnownRecord};
+ghost use Rattle.mv_certificate_rules.specs.Certificate.{Known as KnownRecord};
 
 use crate::{ProveError, error_in};
 use mv_borrow_graph::BorrowDomain;
 use mv_certificate::{Cert, Known, Stated, function_at, function_count, graph_of, has_start};
 use mv_edges::Edges;
 use mv_lattice::{search_is_least, solve_by_passage};
-use mv_type_states::Typed;
+use mv_type_rules::Typed;
 use std::alloc::{AllocError, Global};
 
 /// What is stated of a block, with these edges.

@@ -2,7 +2,7 @@
 //!
 //! ```
 //! use mv_analyser::ProveError;
-//! use mv_type_states::Typed;
+//! use mv_type_rules::Typed;
 //! use std::alloc::Global;
 //!
 //! /// The bytes of the least certificate of a module.
@@ -18,8 +18,8 @@ mod locals;
 
 ghost use Rattle.std.specs.Prelude.{◌≡◌, IfOk, IfErr, OnOk, IsTrue};
 ghost use Rattle.mv_acquires.specs.Acquires.{AcquiresHold};
-ghost use Rattle.mv_certificate.specs.Certificate.{certificate_holds};
-ghost use Rattle.mv_certificate.specs.Shape.{AllStatedFit};
+ghost use Rattle.mv_certificate_rules.specs.Certificate.{certificate_holds};
+ghost use Rattle.mv_certificate_rules.specs.Shape.{AllStatedFit};
 ghost use Rattle.mv_analyser.specs.Least.{IsLeastCertificate, LeastIsOne};
 ghost use Rattle.mv_analyser.specs.Principal.{IsUnproved, IsOfLimits, IsProvable, PassesCheck};
 ghost use Rattle.mv_analyser.specs.States.{error_of};
@@ -27,7 +27,7 @@ ghost use Rattle.mv_analyser.specs.States.{error_of};
 use mv_certificate::Cert;
 use mv_lattice::SolveError;
 use mv_move_types::Refusal;
-use mv_type_states::Typed;
+use mv_type_rules::Typed;
 use std::alloc::{AllocError, Global};
 use thiserror::Error;
 

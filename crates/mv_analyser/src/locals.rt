@@ -1,9 +1,9 @@
 // The least availabilities of each function that hold.
 ghost use Rattle.std.specs.Prelude.{◌≡◌, ◌<◌, length, IfOk, IfErr, OnOk, IsTrue};
-ghost use Rattle.mv_certificate.specs.Certificate.{all_locals_hold};
+ghost use Rattle.mv_certificate_rules.specs.Certificate.{all_locals_hold};
 ghost use Rattle.mv_certificate.specs.Functions.{LocalsHoldAt};
 ghost use Rattle.mv_certificate.specs.Reads.{FitsAt};
-ghost use Rattle.mv_certificate.specs.Shape.{AllStatedFit};
+ghost use Rattle.mv_certificate_rules.specs.Shape.{AllStatedFit};
 ghost use Rattle.mv_analyser.specs.Least.{HasLeastLocals, AreLeastLocals};
 ghost use Rattle.mv_analyser.specs.Principal.{AllBefore, FindsLocals, IsUnproved};
 ghost use Rattle.mv_analyser.specs.States.{locals_alone, EndsLocals, IsErrorAt};
@@ -13,7 +13,7 @@ use mv_certificate::{Cert, Known, Stated, function_at, function_count, graph_of}
 use mv_edges::Edges;
 use mv_lattice::{search_is_least, solve};
 use mv_locals_safety::{Availabilities, LocalsDomain};
-use mv_type_states::Typed;
+use mv_type_rules::Typed;
 use std::alloc::{AllocError, Global};
 
 /// The availabilities, with no edges.

@@ -2,11 +2,11 @@
 use Rattle.std.proofs.Common.{◌≡◌, ℕ, Bool, true, false, ◌&&◌, ◌||◌, List, Some, None, refl, sym, ◌∙◌}
 use Rattle.std.specs.List.{list_any}
 use Rattle.mv_move_types.specs.declared.borrow.Node.{Node}
-use Rattle.mv_type_states.specs.TypesHold.{Point}
+use Rattle.mv_type_rules.specs.TypesHold.{Point}
 use Rattle.mv_edges.specs.Edges.{Edge, same_node, agrees, out_of}
 use Rattle.mv_ways.specs.Between.{any_between}
 use Rattle.mv_edges.proofs.Any.{list_any-alike, list_any-filter}
-use Rattle.mv_borrow_graph.specs.BorrowRules.{is_mutable, is_root_node, is_temp}
+use Rattle.mv_certificate_rules.specs.BorrowRules.{is_mutable, is_root_node, is_temp}
 use Rattle.std.proofs.Math.Bool.{and_comm}
 
 swapped_behind : (b x y : Bool) → (b && (x && y)) ≡ (b && (y && x))

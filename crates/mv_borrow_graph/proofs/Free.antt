@@ -13,7 +13,7 @@ use Rattle.mv_move_types.specs.declared.borrow.Node.TheVariants.{Slot, Own, Glob
 use Rattle.mv_edges.specs.Edges.{Edge, same_node, out_of}
 use Rattle.mv_ways.specs.Between.{any_between}
 use Rattle.mv_edges.proofs.Any.{any_at_all, list_any-filter}
-use Rattle.mv_borrow_graph.specs.BorrowRules.{is_mutable_token, no_edge_out, reference_nodes}
+use Rattle.mv_certificate_rules.specs.BorrowRules.{is_mutable_token, no_edge_out, reference_nodes}
 use Rattle.mv_borrow_graph.specs.Calls.{AreMarks, is_marked, needed_free}
 
 -- ---- some edge leads out of one of the nodes, or each of them is free

@@ -5,7 +5,7 @@ use Rattle.mv_move_types.specs.declared.borrow.Node.{Node}
 use Rattle.mv_move_types.specs.declared.token.Token.{Token}
 use Rattle.mv_edges.specs.Edges.{Edge}
 use Rattle.mv_ways.specs.Graph.{Heir, taken_over}
-use Rattle.mv_borrow_graph.specs.BorrowRules.{result_edges}
+use Rattle.mv_certificate_rules.specs.BorrowRules.{result_edges}
 use Rattle.mv_borrow_graph.proofs.Rows.{result_edges-first}
 
 -- one result more

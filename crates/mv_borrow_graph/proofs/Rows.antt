@@ -14,14 +14,14 @@ use Rattle.mv_move_types.specs.declared.borrow.Node.TheVariants.{Slot, Glob, Tem
 use Rattle.mv_move_types.specs.declared.tables.FunctionHandle.{FunctionHandle}
 use Rattle.mv_move_types.specs.Options.{◌>>=◌}
 use Rattle.mv_move_types.specs.Module.{own_acquires}
-use Rattle.mv_type_states.specs.TypesHold.{Point}
+use Rattle.mv_type_rules.specs.TypesHold.{Point}
 use Rattle.mv_lattice.specs.declared.StepError.{StepError}
 use Rattle.mv_edges.specs.Edges.{Edge, here, inherited, an_edge, without_each}
 use Rattle.mv_edges.specs.Ascending.{are_ascending}
 use Rattle.mv_edges.specs.Sorted.{sorted}
 use Rattle.mv_edges.proofs.Sorting.{ascending-sorted}
-use Rattle.mv_borrow_graph.specs.BorrowRules.{next_temp, no_edge_out, copy_edges, field_edges, position_of, opened_edges, result_edges}
-use Rattle.mv_borrow_graph.specs.BorrowRules.{reference_nodes, call_edges, is_mutable_token, is_reference_token}
+use Rattle.mv_certificate_rules.specs.BorrowRules.{next_temp, no_edge_out, copy_edges, field_edges, position_of, opened_edges, result_edges}
+use Rattle.mv_certificate_rules.specs.BorrowRules.{reference_nodes, call_edges, is_mutable_token, is_reference_token}
 use Rattle.mv_borrow_graph.specs.Domain.{ordered, Follows}
 use Rattle.mv_edges.proofs.InOrder.{sorted_first}
 pub use Rattle.mv_edges.proofs.Sorting.{sorted-ascending as kept_order}

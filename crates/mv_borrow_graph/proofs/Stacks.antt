@@ -12,17 +12,17 @@ use Rattle.mv_move_types.specs.declared.instruction.Instruction.{Instruction}
 use Rattle.mv_move_types.specs.Options.{◌>>=◌}
 use Rattle.mv_move_types.specs.Module.{Module, FunctionDefinition}
 use Rattle.mv_cfg.specs.Blocks.{BasicBlock, blocks}
-use Rattle.mv_type_states.specs.TypeRules.{Types, types_after}
-use Rattle.mv_type_states.specs.TypesHold.{Point, types_through, block_is_typed, function_is_typed, TypesHold, point_at}
-use Rattle.mv_type_states.specs.Sound.{types_each, types_before}
+use Rattle.mv_type_rules.specs.TypeRules.{Types, types_after}
+use Rattle.mv_type_rules.specs.TypesHold.{Point, types_through, block_is_typed, function_is_typed, TypesHold, point_at}
+use Rattle.mv_type_rules.specs.Sound.{types_each, types_before}
 use Rattle.mv_borrow_graph.specs.Domain.{is_low, ordered, edges_step, places_reference, Follows}
-use Rattle.mv_borrow_graph.specs.BorrowRules.{edges_after}
+use Rattle.mv_certificate_rules.specs.BorrowRules.{edges_after}
 use Rattle.mv_edges.specs.Edges.{Edge}
 use Rattle.mv_edges.specs.Ascending.{are_ascending}
 use Rattle.mv_edges.proofs.Sorting.{sorted-ascending}
 use Rattle.mv_lattice.specs.declared.StepError.{StepError}
 use Rattle.mv_lattice.specs.declared.StepError.TheVariants.{Need, Memory}
-use Rattle.mv_bounds.proofs.Entries.{all_at}
+use Rattle.mv_bound_rules.proofs.Entries.{all_at}
 
 module _ (m : Module) (d : FunctionDefinition) where
   -- the types after an instruction, and before each of those that follow

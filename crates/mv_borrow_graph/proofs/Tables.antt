@@ -8,9 +8,9 @@ use Rattle.mv_move_types.specs.declared.token.Token.{Token}
 use Rattle.mv_move_types.specs.declared.tables.FieldHandle.{FieldHandle}
 use Rattle.mv_move_types.specs.Module.{Module, StructDefinition}
 use Rattle.mv_module_text.specs.Fits.{is_index, field_fits, struct_definition_fits, signature_fits, token_fits}
-use Rattle.mv_type_states.specs.TypesHold.{Point}
-use Rattle.mv_bounds.specs.Bounds.{below, InBounds, field_handle_in}
-use Rattle.mv_bounds.proofs.Entries.{all_at}
+use Rattle.mv_type_rules.specs.TypesHold.{Point}
+use Rattle.mv_bound_rules.specs.Bounds.{below, InBounds, field_handle_in}
+use Rattle.mv_bound_rules.proofs.Entries.{all_at}
 
 -- the position of a field handle fits a byte, since a struct has at most 32 fields
 pub small_position : (p : Point) (m n : Module) (i : ℕ) (found : Option FieldHandle) (h : FieldHandle) → m ≡ p.home → n ≡ m → InBounds m → list_all (struct_definition_fits n.version) n.structs ≡ true

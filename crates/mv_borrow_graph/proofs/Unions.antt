@@ -1,9 +1,9 @@
 -- The edges of two states lead between nodes that are there, where those of each do.
 use Rattle.std.proofs.Common.{◌≡◌, true, List, ◌++◌, Result, Ok, Err, IfOk, IsTrue, sym, subst}
-use Rattle.mv_type_states.specs.TypesHold.{Point}
+use Rattle.mv_type_rules.specs.TypesHold.{Point}
 use Rattle.mv_edges.specs.Edges.{Edge}
 use Rattle.mv_edges.specs.Sorted.{sorted}
-use Rattle.mv_borrow_graph.specs.Nodes.{edge_is_there, are_there}
+use Rattle.mv_certificate_rules.specs.Nodes.{edge_is_there, are_there}
 use Rattle.mv_borrow_graph.specs.There.{each_append, each_sorted}
 
 pub union_there : {E : Type 0} (p : Point) (a b : List Edge) (r : Result (List Edge) E) → IfOk r (λ s. s ≡ sorted (a ++ b))

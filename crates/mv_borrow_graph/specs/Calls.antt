@@ -7,7 +7,7 @@ use Rattle.std.specs.List.{list_any}
 use Rattle.mv_move_types.specs.declared.token.Token.{Token}
 use Rattle.mv_move_types.specs.declared.borrow.Node.{Node}
 use Rattle.mv_move_types.specs.declared.borrow.Node.TheVariants.{Glob}
-use Rattle.mv_borrow_graph.specs.BorrowRules.{is_mutable_token, reference_nodes}
+use Rattle.mv_certificate_rules.specs.BorrowRules.{is_mutable_token, reference_nodes}
 
 -- the mutable arguments, and the globals that the function acquires
 abbrev pub needed_free : ℕ → List Token → List ℕ → List Node

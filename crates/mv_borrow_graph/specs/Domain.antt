@@ -17,14 +17,14 @@ use Rattle.mv_move_types.specs.Module.{Module, FunctionDefinition, local_type}
 use Rattle.mv_move_types.specs.declared.instruction.Instruction.{Instruction}
 use Rattle.mv_move_types.specs.declared.instruction.Instruction.TheVariants.{CopyLoc, MoveLoc, StLoc, MutBorrowLoc, ImmBorrowLoc, MutBorrowField}
 use Rattle.mv_move_types.specs.declared.instruction.Instruction.TheVariants.{ImmBorrowField, Call, MutBorrowGlobal, ImmBorrowGlobal}
-use Rattle.mv_type_states.specs.TypeRules.{Types}
-use Rattle.mv_type_states.specs.TypesHold.{point_at}
-use Rattle.mv_type_states.specs.Sound.{types_before}
+use Rattle.mv_type_rules.specs.TypeRules.{Types}
+use Rattle.mv_type_rules.specs.TypesHold.{point_at}
+use Rattle.mv_type_rules.specs.Sound.{types_before}
 use Rattle.mv_edges.specs.Edges.{Edge}
 use Rattle.mv_edges.specs.Sorted.{sorted}
 use Rattle.mv_lattice.specs.declared.StepError.{StepError}
 use Rattle.mv_lattice.specs.declared.StepError.TheVariants.{Need, Memory}
-use Rattle.mv_borrow_graph.specs.BorrowRules.{edges_after, is_mutable_token, is_reference_token}
+use Rattle.mv_certificate_rules.specs.BorrowRules.{edges_after, is_mutable_token, is_reference_token}
 
 -- a function, and the tables of its module
 pub record Function : Type 0 where

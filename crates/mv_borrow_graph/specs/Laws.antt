@@ -25,21 +25,21 @@ use Rattle.std.specs.Prelude.{◌≡◌, List, [], ◌++◌, true, Option, Some,
 use Rattle.std.proofs.Common.{refl, subst}
 use Rattle.mv_move_types.specs.Options.{◌>>=◌}
 use Rattle.mv_move_types.specs.Module.{Module, FunctionDefinition}
-use Rattle.mv_type_states.specs.Sound.{types_before}
+use Rattle.mv_type_rules.specs.Sound.{types_before}
 use Rattle.mv_edges.specs.Edges.{Edge, edges_leq}
 use Rattle.mv_edges.specs.Ascending.{are_ascending}
 use Rattle.mv_edges.specs.Sorted.{sorted}
 use Rattle.mv_edges.proofs.Sorting.{ascending-sorted}
 use Rattle.mv_edges.proofs.Order.{edges_leq_itself, edges_leq-transitive, join-sorted}
 use Rattle.mv_lattice.specs.Laws.{IsLawful}
-use Rattle.mv_borrow_graph.specs.BorrowRules.{edges_after}
+use Rattle.mv_certificate_rules.specs.BorrowRules.{edges_after}
 use Rattle.mv_borrow_graph.specs.Laws.Rising.{step_below}
-use Rattle.mv_borrow_graph.specs.Nodes.{edge_is_there, may_begin_with, IsGraphOf}
+use Rattle.mv_certificate_rules.specs.Nodes.{edge_is_there, may_begin_with, IsGraphOf}
 use Rattle.mv_borrow_graph.specs.Laws.There.{each_append, each_sorted}
 use Rattle.mv_borrow_graph.specs.Laws.BlocksThere.{begins_again}
 use Rattle.mv_borrow_graph.specs.Domain.{edges_step, ordered}
 use Rattle.mv_module_text.proofs.Texts.{on_bind}
-use Rattle.mv_type_states.specs.TypesHold.{point_at}
+use Rattle.mv_type_rules.specs.TypesHold.{point_at}
 
 ordered_ascend : (found : Option (List Edge)) (b : List Edge) → ordered found ≡ Some b → IsTrue (are_ascending b)
 ordered_ascend None b e = cc

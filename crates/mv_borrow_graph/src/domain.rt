@@ -3,19 +3,19 @@ ghost use Rattle.std.specs.Prelude.{◌≡◌, ◌<◌, nat_le, [], length, reve
 ghost use Rattle.std.specs.List.{list_all};
 ghost use Rattle.std.specs.Option.{option_map_or};
 ghost use Rattle.mv_edges.specs.Ascending.{are_ascending};
-ghost use Rattle.mv_type_states.specs.Sound.{types_before};
-ghost use Rattle.mv_type_states.specs.TypesHold.{TypesHold, point_at};
+ghost use Rattle.mv_type_rules.specs.Sound.{types_before};
+ghost use Rattle.mv_type_rules.specs.TypesHold.{TypesHold, point_at};
 ghost use Rattle.mv_borrow_graph.specs.Domain.{is_low, edges_step, places_reference};
-ghost use Rattle.mv_borrow_graph.specs.Nodes.{are_few as few};
+ghost use Rattle.mv_certificate_rules.specs.Nodes.{are_few as few};
 
 use super::site::{Site, leaves_edges};
 use mv_binary_format::FunctionDefinition;
-use mv_bounds::Bounded;
+use mv_bound_rules::Bounded;
 use mv_edges::{Edge, Edges};
 use mv_lattice::{Domain, Passage, StepError};
 use mv_move_types::limits::{MOST_EDGES, MOST_POSITIONS};
 use mv_move_types::{Instruction, Node};
-use mv_type_states::{StackTypes, Typed};
+use mv_type_rules::{StackTypes, Typed};
 use mv_ways::Graph;
 use std::alloc::{AllocError, Global};
 use std::marker::Model;
@@ -43,7 +43,7 @@ pub struct BorrowDomain<'t, 'm> {
 impl<'t, 'm> Model for BorrowDomain<'t, 'm> {
     ghost use Rattle.std.specs.Prelude.{◌≡◌, Some, slice_get, IsTrue};
     ghost use Rattle.std.specs.List.{list_all};
-    ghost use Rattle.mv_type_states.specs.Sound.{types_before};
+    ghost use Rattle.mv_type_rules.specs.Sound.{types_before};
     ghost use Rattle.mv_borrow_graph.specs.Domain.{Function, is_low};
 
     ghost Value = { Function };
@@ -157,7 +157,7 @@ impl<'t, 'm> Domain for BorrowDomain<'t, 'm> {
     ghost use Rattle.mv_edges.specs.Ascending.{are_ascending};
     ghost use Rattle.mv_borrow_graph.specs.Domain.{edges_step, places_reference};
     ghost use Rattle.mv_borrow_graph.specs.Laws.{edges_lawful};
-    ghost use Rattle.mv_borrow_graph.specs.Nodes.{may_begin_with, are_few, IsGraphOf};
+    ghost use Rattle.mv_certificate_rules.specs.Nodes.{may_begin_with, are_few, IsGraphOf};
 
     type State = Edges;
 

@@ -3,7 +3,7 @@
 //! ```
 //! use mv_borrow_graph::BorrowDomain;
 //! use mv_lattice::{SolveError, solve_by_passage};
-//! use mv_type_states::Typed;
+//! use mv_type_rules::Typed;
 //! use std::alloc::Global;
 //!
 //! /// Whether the search finds edges that show the borrows of a function to be safe. The function has to be there.

@@ -3,7 +3,7 @@ ghost use Rattle.std.specs.Prelude.{◌≡◌, ◌==◌, ◌||◌, ◌&&◌, ℕ
 ghost use Rattle.std.specs.List.{list_all, list_any};
 ghost use Rattle.mv_move_types.specs.declared.borrow.Node.TheVariants.{Glob, Temp};
 ghost use Rattle.mv_edges.specs.Edges.{same_node};
-ghost use Rattle.mv_borrow_graph.specs.BorrowRules.{is_mutable_token, no_edge_out, reference_nodes};
+ghost use Rattle.mv_certificate_rules.specs.BorrowRules.{is_mutable_token, no_edge_out, reference_nodes};
 ghost use Rattle.mv_borrow_graph.specs.Calls.{AreMarks, is_marked, needed_free};
 
 use crate::nodes::is_mutable_reference;

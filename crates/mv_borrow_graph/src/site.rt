@@ -3,16 +3,16 @@ ghost use Rattle.std.specs.Prelude.{◌≡◌, ◌-◌, List, length, reverse, s
 ghost use Rattle.std.specs.List.{list_any};
 ghost use Rattle.mv_move_types.specs.declared.borrow.Node.TheVariants.{Temp};
 ghost use Rattle.mv_move_types.specs.Module.{local_type as type_of_local};
-ghost use Rattle.mv_type_states.specs.TypesHold.{Point};
+ghost use Rattle.mv_type_rules.specs.TypesHold.{Point};
 ghost use Rattle.mv_edges.specs.Edges.{Edge as EdgeRecord, out_of};
 ghost use Rattle.mv_edges.specs.Ascending.{are_ascending};
-ghost use Rattle.mv_borrow_graph.specs.BorrowRules.{edges_after, is_mutable, next_temp, top_temp, no_mutable_from};
+ghost use Rattle.mv_certificate_rules.specs.BorrowRules.{edges_after, is_mutable, next_temp, top_temp, no_mutable_from};
 ghost use Rattle.mv_borrow_graph.specs.Domain.{Follows, ordered, places_reference};
 
 use crate::changes::{keep, release};
 use crate::nodes::{is_free, is_mutable_reference};
 use mv_binary_format::FunctionDefinition;
-use mv_bounds::Bounded;
+use mv_bound_rules::Bounded;
 use mv_lattice::StepError;
 use mv_move_types::{Instruction, Node, Token};
 use mv_ways::{Graph, NodeSet, One};
@@ -20,7 +20,7 @@ use std::alloc::Global;
 use std::marker::Model;
 
 /// Whether an instruction leaves all edges as they are wherever it stands, and needs nothing of them.
-#[tactic(auto, unfolding(crate::specs::BorrowRules::edges_after))]
+#[tactic(auto, unfolding(mv_certificate_rules::specs::BorrowRules::edges_after))]
 pub fn leaves_edges(instruction: &Instruction) -> bool
     ensures { IsTrue result → (p : Point) (s : List EdgeRecord) → edges_after p instruction.now s ≡ Some s }
 {
@@ -57,7 +57,7 @@ pub struct Site<'d, 'm> {
 
 impl<'d, 'm> Model for Site<'d, 'm> {
     ghost use Rattle.std.specs.Prelude.{◌≡◌, ◌≤◌, Some, length, reverse, slice_get};
-    ghost use Rattle.mv_type_states.specs.TypesHold.{Point, point_at};
+    ghost use Rattle.mv_type_rules.specs.TypesHold.{Point, point_at};
 
     ghost Value = { Point };
 
@@ -73,7 +73,7 @@ pub struct MutableAt<'s, 'd, 'm> {
 }
 
 impl<'s, 'd, 'm> Model for MutableAt<'s, 'd, 'm> {
-    ghost use Rattle.mv_type_states.specs.TypesHold.{Point};
+    ghost use Rattle.mv_type_rules.specs.TypesHold.{Point};
 
     ghost Value = { Point };
 
@@ -81,7 +81,7 @@ impl<'s, 'd, 'm> Model for MutableAt<'s, 'd, 'm> {
 }
 
 impl<'s, 'd, 'm> NodeSet for MutableAt<'s, 'd, 'm> {
-    ghost use Rattle.mv_borrow_graph.specs.BorrowRules.{is_mutable};
+    ghost use Rattle.mv_certificate_rules.specs.BorrowRules.{is_mutable};
 
     ghost test = { λ p n. is_mutable p n };
 
@@ -160,7 +160,7 @@ impl<'d, 'm> Site<'d, 'm> {
     /// # Errors
     /// `Need` if a need of the instruction fails. Otherwise `Memory` if an allocation failed; an instruction that doesn't put a
     /// reference where none stood allocates nothing. In either case nothing is known of the edges afterwards.
-    #[tactic(auto, using(crate::proofs::Rows::kept_order), unfolding(crate::specs::BorrowRules::edges_after))]
+    #[tactic(auto, using(crate::proofs::Rows::kept_order), unfolding(mv_certificate_rules::specs::BorrowRules::edges_after))]
     pub fn step(
         &self,
         alloc: Global,

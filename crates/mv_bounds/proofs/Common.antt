@@ -20,11 +20,12 @@ pub use Rattle.mv_move_types.specs.declared.tables.StructHandle.{StructHandle}
 pub use Rattle.mv_move_types.specs.declared.token.Token.{Token}
 pub use Rattle.mv_move_types.specs.declared.token.Token.TheVariants.{MutableReference, Plain, Reference}
 pub use Rattle.mv_move_types.specs.declared.token.ValueType.TheVariants.{OfLeaf, OfStruct}
-pub use Rattle.mv_bounds.specs.Bounds.{InBounds, function_in, token_in}
+pub use Rattle.mv_bound_rules.specs.Bounds.{InBounds, function_in, token_in}
 pub use Rattle.mv_bounds.specs.Codes.{token_code}
 pub use Rattle.mv_bounds.specs.Containment.{places_of}
 pub use Rattle.mv_bounds.specs.Cycles.{IsAcyclic, LeadsTo, directly, further}
-pub use Rattle.mv_bounds.specs.Definitions.{Holds, all_differ, defined_once}
-pub use Rattle.mv_bounds.specs.Functions.{IsDefined}
-pub use Rattle.mv_bounds.specs.Places.{ArePlaces}
-pub use Rattle.mv_bounds.specs.Removal.{Released, are_nodes, as_number, edges_to, is_zero, times}
+pub use Rattle.mv_bound_rules.specs.Definitions.{Holds, all_differ, defined_once}
+pub use Rattle.mv_bound_rules.specs.Functions.{IsDefined}
+pub use Rattle.mv_bound_rules.specs.Places.{ArePlaces}
+pub use Rattle.mv_bounds.specs.Removal.{Released, are_nodes, edges_to}
+pub use Rattle.mv_bound_rules.specs.Times.{as_number, is_zero, times}

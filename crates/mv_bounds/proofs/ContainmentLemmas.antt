@@ -3,11 +3,11 @@ use Rattle.mv_bounds.proofs.Common.{[], ℕ, ◌==◌, ◌↔◌, ◌∙◌, ◌
 use Rattle.mv_bounds.proofs.Common.{ltb-true, none-some, same_Some, slice_get-map, slice_get_within, unwrap_or-slice_get, list_all, slice_get, option_map, Module, StructDefinition, Field, Token}
 use Rattle.mv_bounds.proofs.Common.{Plain, OfLeaf, OfStruct, InBounds, token_in, places_of, IsAcyclic, LeadsTo, directly, further, Holds}
 use Rattle.std.specs.List.{cons_option}
-use Rattle.mv_bounds.specs.Bounds.{field_in, struct_in}
-use Rattle.mv_bounds.specs.Definitions.{directly as holds_directly, further as holds_further, defined_by}
+use Rattle.mv_bound_rules.specs.Bounds.{field_in, struct_in}
+use Rattle.mv_bound_rules.specs.Definitions.{directly as holds_directly, further as holds_further, defined_by}
 use Rattle.mv_bounds.specs.Containment.{held_by, containment, place_of}
-use Rattle.mv_bounds.specs.Places.{AreStructPlaces}
-use Rattle.mv_bounds.proofs.HandleLemmas.{find-map}
+use Rattle.mv_bound_rules.specs.Places.{AreStructPlaces}
+use Rattle.mv_bound_rules.proofs.HandleLemmas.{find-map}
 
 module _ (m : Module) (bounds : InBounds m) (places : List (Option ℕ)) (p : AreStructPlaces m places) where
   -- a type's place is its definition's

@@ -3,7 +3,7 @@ use Rattle.mv_bounds.proofs.Common.{[], ℕ, ◌++◌, ◌+◌, ◌<◌, ◌∙�
 use Rattle.mv_bounds.proofs.Common.{refl, set, subst, sym, take, true, and_from, cases_eq, cases_lt, lt-ltb, list_all-append, are_nodes, edges_to, is_zero, times}
 use Rattle.std.proofs.lemmas.Bool.{le-ltb}
 use Rattle.std.proofs.lemmas.List.{map_more}
-use Rattle.mv_bounds.proofs.TimesLemmas.{times_push, times_more, is_one, is_none, zero_is_one, other_is_none}
+use Rattle.mv_bound_rules.proofs.TimesLemmas.{times_push, times_more, is_one, is_none, zero_is_one, other_is_none}
 use Rattle.mv_bounds.proofs.EdgeLemmas.{edges_more}
 
 -- one target more, which is a node

@@ -3,8 +3,8 @@ use Rattle.mv_bounds.proofs.Common.{[], ℕ, ◌++◌, ◌+◌, ◌<◌, ◌==�
 use Rattle.mv_bounds.proofs.Common.{replicate, set, subst, suc, sym, true, zero, and_parts, cases_eq, cases_lt, eqb-true, false≢true, none-some, same_Some, slice_get_within, list_all}
 use Rattle.mv_bounds.proofs.Common.{slice_get, IsAcyclic, LeadsTo, directly, further, edges_to, times}
 use Rattle.std.proofs.Common.{◌⊎◌}
-use Rattle.mv_bounds.proofs.TimesLemmas.{times_of, contains_from_times}
-use Rattle.mv_bounds.proofs.Entries.{none_within}
+use Rattle.mv_bound_rules.proofs.TimesLemmas.{times_of, contains_from_times}
+use Rattle.mv_bound_rules.proofs.Entries.{none_within}
 
 -- a node that is removed takes its edges with it
 pub edges_removed : (graph : List (List ℕ)) (removed : List Bool) (i j : ℕ) (successors : List ℕ) → length removed ≡ length graph

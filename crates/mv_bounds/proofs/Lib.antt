@@ -1,12 +1,7 @@
 pub mod Common
-pub mod PlaceLemmas
-pub mod HandleLemmas
-pub mod FunctionLemmas
-pub mod Entries
 pub mod Distinct
 pub mod Defined
 pub mod TypeLemmas
-pub mod TimesLemmas
 pub mod EdgeLemmas
 pub mod ReleaseLemmas
 pub mod RemovalLemmas

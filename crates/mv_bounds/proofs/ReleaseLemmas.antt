@@ -1,7 +1,7 @@
 -- Edges are taken away, target by target.
 use Rattle.mv_bounds.proofs.Common.{[], ℕ, ◌++◌, ◌+◌, ◌<◌, ◌∙◌, ◌∷◌, ◌≡◌, ◌≤◌, List, ap, arith, get_or, get_or-set_other, get_or-set_same, inl, inr, length, length-set, nat_lt, refl, set}
 use Rattle.mv_bounds.proofs.Common.{sym, take, true, and_from, cases_eq, lt-ltb, list_all-append, Released, is_zero, times}
-use Rattle.mv_bounds.proofs.TimesLemmas.{times_push, times_more, times_take, is_one, is_none, zero_is_one, other_is_none}
+use Rattle.mv_bound_rules.proofs.TimesLemmas.{times_push, times_more, times_take, is_one, is_none, zero_is_one, other_is_none}
 
 -- a target that is no node
 pub released_past : (n : ℕ) (before after ready ready' targets : List ℕ) (k x : ℕ) → Released n before after ready ready' (take k targets)

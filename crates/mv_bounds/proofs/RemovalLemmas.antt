@@ -4,7 +4,7 @@ use Rattle.mv_bounds.proofs.Common.{length, length-set, nat_lt, refl, replicate,
 use Rattle.mv_bounds.proofs.Common.{slice_get_within, list_all, slice_get, IsAcyclic, LeadsTo, directly, further, Released, are_nodes, as_number, edges_to, is_zero, times}
 use Rattle.std.proofs.lemmas.Bool.{true_from_ne_false}
 use Rattle.std.proofs.lemmas.List.{length-replicate, get_or-replicate}
-use Rattle.mv_bounds.proofs.TimesLemmas.{times_push, is_one, is_none, zero_is_one, other_is_none, is_zero_at_most}
+use Rattle.mv_bound_rules.proofs.TimesLemmas.{times_push, is_one, is_none, zero_is_one, other_is_none, is_zero_at_most}
 use Rattle.mv_bounds.proofs.EdgeLemmas.{edges_removed, removed_before, one_before, unmarked_edges, last_edge, begins_within, none_remains, HasBefore, EndsBy}
 use Rattle.std.specs.Prelude.{slice_index, slice_index_or, IsTrue}
 

@@ -3,8 +3,8 @@ use Rattle.std.specs.Prelude.{⊤, ℕ}
 use Rattle.mv_move_types.specs.declared.refusal.Refusal.{Refusal}
 use Rattle.mv_move_types.specs.declared.refusal.Refusal.TheVariants.{Phase, Memory}
 use Rattle.mv_move_types.specs.Module.{Module}
-use Rattle.mv_bounds.specs.Bounds.{InBounds}
-use Rattle.mv_bounds.specs.Definitions.{WellDefined}
+use Rattle.mv_bound_rules.specs.Bounds.{InBounds}
+use Rattle.mv_bound_rules.specs.Definitions.{WellDefined}
 
 -- the phase is the first of 3 and 4 whose rules the module fails
 pub data FailsBounds (m : Module) : ℕ → Type 0 where

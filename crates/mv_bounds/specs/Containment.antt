@@ -6,7 +6,7 @@ use Rattle.mv_move_types.specs.declared.token.Token.TheVariants.{Plain}
 use Rattle.mv_move_types.specs.declared.token.ValueType.TheVariants.{OfStruct}
 use Rattle.mv_move_types.specs.declared.tables.Field.{Field}
 use Rattle.mv_move_types.specs.Module.{Module, StructDefinition}
-use Rattle.mv_bounds.specs.Definitions.{defined_by}
+use Rattle.mv_bound_rules.specs.Definitions.{defined_by}
 
 -- the struct definitions that fields hold
 abbrev pub held_by : Module → List Field → List ℕ

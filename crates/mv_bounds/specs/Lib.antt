@@ -1,9 +1,5 @@
-pub mod Bounds
 pub mod Codes
-pub mod Definitions
 pub mod Answers
-pub mod Places
-pub mod Functions
 pub mod Cycles
 pub mod Removal
 pub mod Containment

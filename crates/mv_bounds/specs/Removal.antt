@@ -1,29 +1,15 @@
 -- Nodes are removed from a graph one by one, each once no edge from those that remain leads to it.
---   times j nodes            how often node j stands in a list
 --   edges_to graph removed j how many edges lead to node j from nodes that are not removed
 --   Released ..              edges to some targets are gone
-use Rattle.std.specs.Prelude.{◌≡◌, ◌+◌, ◌<◌, ◌==◌, ℕ, Bool, true, false, cond, List, [], ◌∷◌, length, slice_index, nat_lt, IsTrue}
+use Rattle.std.specs.Prelude.{◌≡◌, ◌+◌, ◌<◌, ℕ, Bool, cond, List, [], ◌∷◌, length, slice_index, nat_lt, IsTrue}
 use Rattle.std.specs.List.{list_all}
-
--- one for a test that holds, and zero for one that doesn't
-abbrev pub as_number : Bool → ℕ
-as_number true = 1
-as_number false = 0
-
--- how often a node stands in a list
-abbrev pub times : ℕ → List ℕ → ℕ
-times j [] = 0
-times j (x ∷ xs) = as_number (x == j) + times j xs
+use Rattle.mv_bound_rules.specs.Times.{times, is_zero}
 
 -- how many edges lead to a node from nodes that are not removed; a node without a mark is not
 abbrev pub edges_to : List (List ℕ) → List Bool → ℕ → ℕ
 edges_to [] removed j = 0
 edges_to (successors ∷ graph) [] j = times j successors + edges_to graph [] j
 edges_to (successors ∷ graph) (r ∷ removed) j = cond r 0 (times j successors) + edges_to graph removed j
-
--- one for zero, and zero for the others
-abbrev pub is_zero : ℕ → ℕ
-is_zero n = as_number (n == 0)
 
 -- whether all are nodes, where there are so many
 abbrev pub are_nodes : ℕ → List ℕ → Bool

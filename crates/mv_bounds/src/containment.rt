@@ -1,12 +1,12 @@
 // Which structs of a module hold which, and that none holds itself.
 ghost use Rattle.std.specs.Prelude.{◌≡◌, ◌↔◌, ℕ, map, IsTrue, IfOk};
-ghost use Rattle.mv_bounds.specs.Bounds.{InBounds};
-ghost use Rattle.mv_bounds.specs.Definitions.{Holds};
+ghost use Rattle.mv_bound_rules.specs.Bounds.{InBounds};
+ghost use Rattle.mv_bound_rules.specs.Definitions.{Holds};
 ghost use Rattle.mv_bounds.specs.Containment.{place_of, places_of, containment};
 
 use super::cycles::is_acyclic;
-use super::places::{place_at, struct_places};
 use mv_binary_format::Module;
+use mv_bound_rules::{place_at, struct_places};
 use mv_move_types::{Field, Token, ValueType};
 use std::alloc::{AllocError, Global};
 

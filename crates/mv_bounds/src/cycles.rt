@@ -2,7 +2,8 @@
 ghost use Rattle.std.specs.Prelude.{◌≡◌, ◌+◌, ◌*◌, ◌^◌, ◌≤◌, ◌<◌, ◌↔◌, ℕ, length, map, slice_index, vec_len, IsTrue, IfOk, OnOk, nat_lt, ◌==◌, []};
 ghost use Rattle.std.specs.List.{list_all};
 ghost use Rattle.mv_bounds.specs.Cycles.{IsAcyclic};
-ghost use Rattle.mv_bounds.specs.Removal.{times, edges_to, is_zero, Released};
+ghost use Rattle.mv_bounds.specs.Removal.{edges_to, Released};
+ghost use Rattle.mv_bound_rules.specs.Times.{times, is_zero};
 
 use std::alloc::{AllocError, Global};
 

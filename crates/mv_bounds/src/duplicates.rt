@@ -10,14 +10,14 @@ ghost use Rattle.mv_move_types.specs.declared.tables.StructHandle.{StructHandle}
 ghost use Rattle.mv_move_types.specs.declared.tables.FunctionHandle.{FunctionHandle};
 ghost use Rattle.mv_move_types.specs.declared.tables.FieldHandle.{FieldHandle};
 ghost use Rattle.mv_move_types.specs.declared.tables.Field.{Field as FieldEntry};
-ghost use Rattle.mv_bounds.specs.Bounds.{InBounds};
+ghost use Rattle.mv_bound_rules.specs.Bounds.{InBounds};
 ghost use Rattle.mv_bounds.specs.Codes.{token_code};
-ghost use Rattle.mv_bounds.specs.Definitions.{all_differ, same_constant, defined_once, struct_home, function_home, WellDefined};
+ghost use Rattle.mv_bound_rules.specs.Definitions.{all_differ, same_constant, defined_once, struct_home, function_home, WellDefined};
 
 use super::codes::{token_code, token_codes};
 use super::containment::are_finite;
-use super::places::{defined_functions, defined_structs};
 use mv_binary_format::{Constant, Module};
+use mv_bound_rules::{defined_functions, defined_structs};
 use mv_move_types::Field;
 use std::alloc::{AllocError, Global};
 use std::collections::BTreeSet;

@@ -2,8 +2,8 @@
 ghost use Rattle.std.specs.Prelude.{◌≡◌, ◌↔◌, length, IsTrue};
 ghost use Rattle.std.specs.List.{list_all};
 ghost use Rattle.mv_move_types.specs.Module.{Constant as ConstantEntry};
-ghost use Rattle.mv_bounds.specs.Bounds.{InBounds, below, value_type_in, token_in, module_handle_in, struct_handle_in, function_handle_in, field_in};
-ghost use Rattle.mv_bounds.specs.Bounds.{struct_in, field_handle_in, immediate_in, instruction_in, local_count, function_in};
+ghost use Rattle.mv_bound_rules.specs.Bounds.{InBounds, below, value_type_in, token_in, module_handle_in, struct_handle_in, function_handle_in, field_in};
+ghost use Rattle.mv_bound_rules.specs.Bounds.{struct_in, field_handle_in, immediate_in, instruction_in, local_count, function_in};
 
 use mv_binary_format::{FunctionDefinition, Module, StructDefinition};
 use mv_move_types::{

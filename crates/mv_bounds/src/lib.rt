@@ -21,62 +21,20 @@ mod codes;
 mod containment;
 mod cycles;
 mod duplicates;
-mod functions;
 mod indices;
-mod places;
 
-ghost use Rattle.std.specs.Prelude.{◌≡◌, ◌<◌, length, slice_get, IfOk, IfErr, IfSome};
-ghost use Rattle.mv_bounds.specs.Bounds.{InBounds};
-ghost use Rattle.mv_bounds.specs.Definitions.{WellDefined};
+ghost use Rattle.std.specs.Prelude.{◌≡◌, IfOk, IfErr};
 ghost use Rattle.mv_bounds.specs.Answers.{IsRefusedByBounds};
-ghost use Rattle.mv_bounds.specs.Places.{IsBounded};
+ghost use Rattle.mv_bound_rules.specs.Places.{IsBounded};
 
 pub use cycles::is_acyclic;
 use duplicates::well_defined;
 use indices::in_bounds;
-use mv_binary_format::Module;
-use mv_move_types::{Instruction, Refusal};
-pub use places::{function_places, struct_places};
+pub use mv_bound_rules::{
+    Bounded, Constant, FunctionDefinition, Module, StructDefinition, function_places, struct_places,
+};
+use mv_move_types::Refusal;
 use std::alloc::Global;
-use std::marker::Model;
-
-/// A module whose indices are in bounds and whose definitions are well formed.
-#[derive(Drop)]
-pub struct Bounded<'a> {
-    module: Module<'a>,
-    places: Vec<Option<usize>>,
-}
-
-impl<'a> Model for Bounded<'a> {
-    ghost use Rattle.mv_move_types.specs.Module.{Module as Tables};
-    ghost use Rattle.mv_bounds.specs.Places.{IsBounded};
-
-    ghost Value = { Tables };
-
-    ghost view = { λ b. b.module };
-
-    ghost invariant = { λ b. IsBounded b.module b.places.items };
-}
-
-impl<'a> Bounded<'a> {
-    /// The module.
-    pub fn module(&self) -> &Module<'a>
-        ensures value { result.now ≡ self.now }
-        ensures bounds { InBounds self.now }
-        ensures definitions { WellDefined self.now }
-    {
-        &self.module
-    }
-
-    /// The instructions of function `f`.
-    pub fn code(&self, f: usize) -> &[Instruction]
-        requires { f < length self.now.functions }
-        ensures { IfSome (slice_get self.now.functions f) (λ d. result.now ≡ d.code) }
-    {
-        let functions = self.module().functions();
-        functions[f].instructions()
-    }
-}
 
 /// Tries phases 3 and 4 on a module.
 ///
@@ -90,7 +48,7 @@ pub fn check<'a>(alloc: Global, m: Module<'a>) -> Result<Bounded<'a>, Refusal>
     ensures refused { IfErr result (IsRefusedByBounds m.entry) }
 {
     let places = bounded_places(alloc, &m)?;
-    Ok(Bounded { module: m, places })
+    Ok(Bounded::new(m, places))
 }
 
 // Tries both phases, and gives the definition of each function handle, if the module has one.

@@ -4,9 +4,9 @@ use Rattle.mv_certificate.proofs.Common.{false≢true, option_map_or, FunctionDe
 use Rattle.mv_certificate.proofs.Common.{types_before, Types, function_is_typed, block_at, Rule, instructions_of, through}
 use Rattle.std.proofs.Common.{option_and_then}
 use Rattle.mv_cfg.specs.Graph.{IsBlock}
-use Rattle.mv_type_states.specs.TypeRules.{types_after}
-use Rattle.mv_type_states.specs.TypesHold.{types_through, block_is_typed}
-use Rattle.mv_type_states.specs.Sound.{types_each}
+use Rattle.mv_type_rules.specs.TypeRules.{types_after}
+use Rattle.mv_type_rules.specs.TypesHold.{types_through, block_is_typed}
+use Rattle.mv_type_rules.specs.Sound.{types_each}
 use Rattle.mv_lattice.specs.Flow.{carried}
 use Rattle.mv_borrow_graph.specs.Laws.Standing.{Stands, Stands-head, Stands-tail, Stands-range, Stands-types, length-range, some-height, typed_some}
 

@@ -31,7 +31,7 @@ pub use Rattle.mv_module_text.proofs.Entries.{ReadsOn, ReadsOn-next}
 pub use Rattle.mv_module_text.specs.Entries.{counted}
 pub use Rattle.mv_module_text.specs.Laws.{AreBytes}
 pub use Rattle.mv_module_text.specs.Parsing.{counted_from, entries_from}
-pub use Rattle.mv_bounds.specs.Bounds.{local_count}
+pub use Rattle.mv_bound_rules.specs.Bounds.{local_count}
 pub use Rattle.mv_cfg.specs.Blocks.{BasicBlock, blocks}
 pub use Rattle.mv_cfg.specs.FlowGraph.{IsFlowGraph, basic_block_of}
 pub use Rattle.mv_cfg.specs.Graph.{along, at_entry}
@@ -40,17 +40,17 @@ pub use Rattle.mv_cfg.specs.declared.Cfg.{Cfg}
 pub use Rattle.mv_edges.specs.Ascending.{are_ascending}
 pub use Rattle.mv_edges.specs.Edges.{Edge, Label, edges_leq, extended, opened}
 pub use Rattle.mv_lattice.specs.Flow.{IsClosed, IsFlow, IsStated, states_of}
-pub use Rattle.mv_type_states.specs.Sound.{types_before}
-pub use Rattle.mv_type_states.specs.TypeRules.{Types}
-pub use Rattle.mv_type_states.specs.TypesHold.{Point, function_is_typed}
+pub use Rattle.mv_type_rules.specs.Sound.{types_before}
+pub use Rattle.mv_type_rules.specs.TypeRules.{Types}
+pub use Rattle.mv_type_rules.specs.TypesHold.{Point, function_is_typed}
 pub use Rattle.mv_locals_safety.specs.Domain.{IsOfLocals}
-pub use Rattle.mv_borrow_graph.specs.BorrowRules.{edges_after}
+pub use Rattle.mv_certificate_rules.specs.BorrowRules.{edges_after}
 pub use Rattle.mv_borrow_graph.specs.Domain.{ordered}
 pub use Rattle.mv_borrow_graph.specs.Laws.Standing.{block_at}
-pub use Rattle.mv_certificate.specs.Certificate.{Certificate, Known, Rule, Stated, all_edges_hold, all_locals_hold, flow_holds, instructions_of, through}
-pub use Rattle.mv_certificate.specs.CertificateText.{IsCertificateText, availability_code, certificate_text, edge_text, known_text, node_text, stated_text}
+pub use Rattle.mv_certificate_rules.specs.Certificate.{Certificate, Known, Rule, Stated, all_edges_hold, all_locals_hold, flow_holds, instructions_of, through}
+pub use Rattle.mv_certificate_rules.specs.CertificateText.{IsCertificateText, availability_code, certificate_text, edge_text, known_text, node_text, stated_text}
 pub use Rattle.mv_certificate.specs.Functions.{EdgesHoldAt, LocalsHoldAt}
 pub use Rattle.mv_certificate.specs.Parsing.{availability_from, block_from, edge_from, edges_from, known_from, label_from, node_from, openness_from, stated_from}
 pub use Rattle.mv_certificate.specs.Reads.{IsUnreadAt}
-pub use Rattle.mv_certificate.specs.Shape.{AllStatedFit, StatedFits, edge_fits, known_fits}
-pub use Rattle.mv_bounds.proofs.Entries.{all_at}
+pub use Rattle.mv_certificate_rules.specs.Shape.{AllStatedFit, StatedFits, edge_fits, known_fits}
+pub use Rattle.mv_bound_rules.proofs.Entries.{all_at}

@@ -9,11 +9,11 @@ use Rattle.std.proofs.lemmas.List.Elements.{All-contains_itself, All-cons}
 use Rattle.mv_cfg.specs.FlowGraph.{first_of}
 use Rattle.mv_cfg.proofs.Tiling.{Tiles, blocks-tile}
 use Rattle.mv_lattice.specs.Flow.{IsClosedAt, through as carried_through}
-use Rattle.mv_certificate.specs.Certificate.{stated_at, flows_into, block_holds}
+use Rattle.mv_certificate_rules.specs.Certificate.{stated_at, flows_into, block_holds}
 use Rattle.mv_borrow_graph.specs.Laws.Standing.{tiles_after}
 use Rattle.mv_certificate.proofs.Carried.{Alike, DoAlike, Ends, block_alike}
 use Rattle.mv_certificate.proofs.Marks.{block_of}
-use Rattle.mv_bounds.proofs.Entries.{element_at}
+use Rattle.mv_bound_rules.proofs.Entries.{element_at}
 
 -- one test of each pair
 pub zip_all : {A B : Type 0} (p : A × B → Bool) (xs : List A) (ys : List B) → ((k : ℕ) (x : A) (y : B) → slice_get xs k ≡ Some x → slice_get ys k ≡ Some y → p (x, y) ≡ true)

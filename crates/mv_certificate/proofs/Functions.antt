@@ -11,7 +11,7 @@ use Rattle.mv_certificate.proofs.Texts.{stated-parts}
 use Rattle.mv_certificate.proofs.Marks.{stated-fits}
 use Rattle.mv_certificate.proofs.States.{fit-length, fit-at}
 use Rattle.mv_certificate.proofs.Whole.{stated-whole, marks-fit}
-use Rattle.mv_bounds.proofs.Entries.{element_at}
+use Rattle.mv_bound_rules.proofs.Entries.{element_at}
 
 module _ (m : Module) (d : FunctionDefinition) (g : Cfg) (few : length m.structs ≤ 65536) (small : local_count m d ≤ 64) (fg : IsFlowGraph d.code g) where
   -- what fits the function is read, whatever follows

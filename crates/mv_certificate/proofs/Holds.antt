@@ -9,14 +9,14 @@ use Rattle.mv_move_types.specs.declared.instruction.Instruction.TheVariants.{Ret
 use Rattle.mv_move_types.specs.Module.{parameter_tokens, local_type}
 use Rattle.mv_lattice.specs.declared.StepError.{StepError}
 use Rattle.mv_lattice.specs.declared.StepError.TheVariants.{Need}
-use Rattle.mv_locals_safety.specs.LocalsRules.{locals_after, locals_leq, may_overwrite, may_leave, has_drop, start_locals}
+use Rattle.mv_certificate_rules.specs.LocalsRules.{locals_after, locals_leq, may_overwrite, may_leave, has_drop, start_locals}
 use Rattle.mv_locals_safety.specs.Domain.{locals_step}
 use Rattle.mv_borrow_graph.specs.Domain.{edges_step}
-use Rattle.mv_certificate.specs.Certificate.{known_at_start, each_function, locals_hold, edges_hold}
+use Rattle.mv_certificate_rules.specs.Certificate.{known_at_start, each_function, locals_hold, edges_hold}
 use Rattle.mv_certificate.proofs.Carried.{Alike, DoAlike}
 use Rattle.mv_certificate.proofs.Flows.{holds_from_closed, closed_from_holds}
 use Rattle.mv_certificate.proofs.SameEdges.{SameEdges, SameEdges-self, Alike-ordered, rule_alike, leq_same}
-use Rattle.mv_type_states.specs.TypesHold.{point_at}
+use Rattle.mv_type_rules.specs.TypesHold.{point_at}
 
 module _ (m : Module) (d : FunctionDefinition) (types : Types) where
   abbrev point : Point

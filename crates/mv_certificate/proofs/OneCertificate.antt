@@ -8,7 +8,7 @@ use Rattle.mv_binary_format.specs.ModuleText.{HasText}
 use Rattle.mv_binary_format.proofs.Fitting.{few_structs}
 use Rattle.mv_certificate.proofs.Whole.{stated-whole, same_marks}
 use Rattle.mv_edges.proofs.Settled.{same_truth}
-use Rattle.mv_bounds.proofs.Entries.{all_at, element_at}
+use Rattle.mv_bound_rules.proofs.Entries.{all_at, element_at}
 
 -- a signature that is there is short
 pub signature_short : (version : ℕ) (signatures : List (List Token)) (i : ℕ) (tokens : List Token) → list_all (signature_fits version) signatures ≡ true

@@ -1,7 +1,7 @@
 -- Which phase refuses a certificate.
 use Rattle.mv_certificate.proofs.Common.{◌≡◌, IsTrue, subst, sym, Module, IsRefusedIn, Refusal, Memory, Phase, Certificate, all_edges_hold, all_locals_hold}
 use Rattle.mv_acquires.specs.Acquires.{AcquiresHold}
-use Rattle.mv_certificate.specs.Certificate.{certificate_holds}
+use Rattle.mv_certificate_rules.specs.Certificate.{certificate_holds}
 use Rattle.mv_certificate.specs.Answers.{FailsCertificate, bad_locals, bad_borrows, bad_acquires, IsRefusedByCertificate}
 
 -- a refusal in phase 10, 11 or 12 is one of the certificate

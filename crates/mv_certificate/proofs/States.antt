@@ -7,7 +7,7 @@ use Rattle.mv_cfg.specs.Graph.{IsGraph, IsReached as IsReachedBlock}
 use Rattle.mv_certificate.specs.Reads.{FitsAt}
 use Rattle.mv_certificate.proofs.Texts.{block_fits}
 use Rattle.mv_certificate.proofs.Marks.{comes}
-use Rattle.mv_bounds.proofs.Entries.{element_at}
+use Rattle.mv_bound_rules.proofs.Entries.{element_at}
 
 -- a reached block is there
 reached_below : (g : Cfg) (size : ℕ) → IsGraph g size → (k : ℕ) → IsReachedBlock g k → k < length g.blocks.items

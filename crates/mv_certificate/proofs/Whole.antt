@@ -8,13 +8,13 @@ use Rattle.mv_certificate.proofs.Common.{availability_from, block_from, edge_fro
 use Rattle.mv_certificate.proofs.Common.{known_fits}
 use Rattle.std.proofs.Common.{not}
 use Rattle.std.proofs.lemmas.Bool.{ltb-true}
-use Rattle.mv_borrow_graph.specs.BorrowRules.{is_mutable_token, is_reference_token}
+use Rattle.mv_certificate_rules.specs.BorrowRules.{is_mutable_token, is_reference_token}
 use Rattle.mv_module_text.proofs.Texts.{Whole, number-whole, index-whole, entries-whole, counted-whole}
-use Rattle.mv_borrow_graph.specs.Nodes.{has_local, leads_in, leads_out, edge_is_there}
+use Rattle.mv_certificate_rules.specs.Nodes.{has_local, leads_in, leads_out, edge_is_there}
 use Rattle.mv_borrow_graph.specs.Laws.There.{there_parts}
 use Rattle.mv_certificate.proofs.Texts.{availability_text, any, node_fits, is_small, path_fits, openness_text, label_text, label_fits, edge_as, edges_fit, block_fits}
 use Rattle.mv_edges.proofs.Settled.{same_truth}
-use Rattle.mv_type_states.specs.TypesHold.{point_at}
+use Rattle.mv_type_rules.specs.TypesHold.{point_at}
 
 -- a step that gives something
 bind_is : {A B : Type 0} (o : Option A) (f : A → Option B) (x : A) → o ≡ Some x → (o >>= f) ≡ f x

@@ -6,7 +6,7 @@ use Rattle.std.specs.Prelude.{◌≡◌, List, [], ◌∷◌, Option, Some, None
 use Rattle.mv_move_types.specs.declared.borrow.Availability.{Availability}
 use Rattle.mv_lattice.specs.Flow.{states_of}
 use Rattle.mv_edges.specs.Edges.{Edge}
-use Rattle.mv_certificate.specs.Certificate.{Known, Stated}
+use Rattle.mv_certificate_rules.specs.Certificate.{Known, Stated}
 
 -- what is known of a reached block
 abbrev pub known_of : List Availability → List Edge → Known

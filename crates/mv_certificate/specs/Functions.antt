@@ -1,7 +1,7 @@
 -- What is stated of the function at a place holds.
 use Rattle.std.specs.Prelude.{◌≡◌, ℕ, Some, slice_get, IsTrue}
 use Rattle.mv_move_types.specs.Module.{Module, FunctionDefinition}
-use Rattle.mv_certificate.specs.Certificate.{Stated, locals_hold, edges_hold}
+use Rattle.mv_certificate_rules.specs.Certificate.{Stated, locals_hold, edges_hold}
 
 -- the stated availabilities of the function at a place hold
 abbrev pub LocalsHoldAt : Module → ℕ → Stated → Type 0

@@ -4,11 +4,11 @@ use Rattle.mv_move_types.specs.declared.instruction.Instruction.{Instruction}
 use Rattle.mv_move_types.specs.Options.{◌>>=◌}
 use Rattle.mv_move_types.specs.Module.{Module, FunctionDefinition}
 use Rattle.mv_cfg.specs.Blocks.{BasicBlock, blocks}
-use Rattle.mv_type_states.specs.TypeRules.{Types}
-use Rattle.mv_type_states.specs.TypesHold.{Point}
-use Rattle.mv_locals_safety.specs.LocalsRules.{locals_after}
-use Rattle.mv_borrow_graph.specs.BorrowRules.{edges_after}
-use Rattle.mv_certificate.specs.Certificate.{Known, Stated, through}
+use Rattle.mv_type_rules.specs.TypeRules.{Types}
+use Rattle.mv_type_rules.specs.TypesHold.{Point}
+use Rattle.mv_certificate_rules.specs.LocalsRules.{locals_after}
+use Rattle.mv_certificate_rules.specs.BorrowRules.{edges_after}
+use Rattle.mv_certificate_rules.specs.Certificate.{Known, Stated, through}
 
 -- what is known after an instruction
 abbrev pub known_after : Point → Instruction → Known → Option Known

@@ -2,9 +2,9 @@
 use Rattle.std.specs.Prelude.{◌≡◌, ℕ, List}
 use Rattle.mv_move_types.specs.Module.{Module}
 use Rattle.mv_binary_format.specs.ModuleText.{HasText}
-use Rattle.mv_certificate.specs.Certificate.{Certificate}
-use Rattle.mv_certificate.specs.Shape.{AllStatedFit}
-use Rattle.mv_certificate.specs.CertificateText.{IsCertificateText}
+use Rattle.mv_certificate_rules.specs.Certificate.{Certificate}
+use Rattle.mv_certificate_rules.specs.Shape.{AllStatedFit}
+use Rattle.mv_certificate_rules.specs.CertificateText.{IsCertificateText}
 
 -- for a module that has a text, no bytes are texts of two certificates
 abbrev pub IsOfOneCertificate : Type 0

@@ -21,8 +21,8 @@ use Rattle.mv_move_types.specs.declared.borrow.Node.TheVariants.{Slot, Own, Glob
 use Rattle.mv_move_types.specs.Module.{Module, FunctionDefinition, local_tokens}
 use Rattle.mv_edges.specs.Edges.{Label, Edge}
 use Rattle.mv_edges.specs.Ascending.{are_ascending}
-use Rattle.mv_certificate.specs.Certificate.{Known, Stated}
-use Rattle.mv_certificate.specs.Shape.{edge_fits}
+use Rattle.mv_certificate_rules.specs.Certificate.{Known, Stated}
+use Rattle.mv_certificate_rules.specs.Shape.{edge_fits}
 
 -- an availability by its byte
 abbrev pub availability_of : ℕ → Option Availability

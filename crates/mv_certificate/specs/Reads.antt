@@ -2,9 +2,9 @@
 use Rattle.std.specs.Prelude.{◌≡◌, ℕ, List, ◌++◌, flat_map, slice_get, Some}
 use Rattle.mv_module_text.specs.Laws.{AreBytes}
 use Rattle.mv_move_types.specs.Module.{Module, FunctionDefinition}
-use Rattle.mv_certificate.specs.Certificate.{Stated}
-use Rattle.mv_certificate.specs.CertificateText.{stated_text}
-use Rattle.mv_certificate.specs.Shape.{StatedFits}
+use Rattle.mv_certificate_rules.specs.Certificate.{Stated}
+use Rattle.mv_certificate_rules.specs.CertificateText.{stated_text}
+use Rattle.mv_certificate_rules.specs.Shape.{StatedFits}
 
 -- bytes begin with the text of what is stated of a function, which fits it, and with the text of nothing else that does
 pub record IsFunctionRead (m : Module) (d : FunctionDefinition) (bytes rest : List ℕ) (stated : Stated) : Type 0 where

@@ -16,7 +16,7 @@ pub struct Known {
 }
 
 impl Model for Known {
-    ghost use Rattle.mv_certificate.specs.Certificate.{Known as KnownRecord};
+    ghost use Rattle.mv_certificate_rules.specs.Certificate.{Known as KnownRecord};
 
     ghost Value = { KnownRecord };
 
@@ -43,7 +43,7 @@ pub struct Stated {
 }
 
 impl Model for Stated {
-    ghost use Rattle.mv_certificate.specs.Certificate.{Stated as StatedList};
+    ghost use Rattle.mv_certificate_rules.specs.Certificate.{Stated as StatedList};
     ghost use Rattle.mv_certificate.specs.Flows.{ArePaired, paired};
 
     ghost Value = { StatedList };
@@ -118,7 +118,7 @@ pub struct Cert {
 }
 
 impl Model for Cert {
-    ghost use Rattle.mv_certificate.specs.Certificate.{Certificate};
+    ghost use Rattle.mv_certificate_rules.specs.Certificate.{Certificate};
 
     ghost Value = { Certificate };
 

@@ -4,9 +4,9 @@ ghost use Rattle.std.specs.Prelude.{◌≡◌, ◌<◌, ◌⊎◌, length, slice
 ghost use Rattle.mv_move_types.specs.Refusals.{IsRefusedIn};
 ghost use Rattle.mv_acquires.specs.Acquires.{AcquiresHold};
 ghost use Rattle.mv_certificate.specs.Answers.{IsRefusedByCertificate};
-ghost use Rattle.mv_certificate.specs.Certificate.{Certificate, all_locals_hold, all_edges_hold, certificate_holds};
+ghost use Rattle.mv_certificate_rules.specs.Certificate.{Certificate, all_locals_hold, all_edges_hold, certificate_holds};
 ghost use Rattle.mv_certificate.specs.Functions.{LocalsHoldAt, EdgesHoldAt};
-ghost use Rattle.mv_certificate.specs.Shape.{AllStatedFit};
+ghost use Rattle.mv_certificate_rules.specs.Shape.{AllStatedFit};
 ghost use Rattle.mv_certificate.specs.Reads.{FitsAt};
 
 use super::certificate::{Cert, Stated};
@@ -15,7 +15,7 @@ use mv_borrow_graph::BorrowDomain;
 use mv_lattice::{StepError, check_flow, check_flow_by_passage};
 use mv_locals_safety::LocalsDomain;
 use mv_move_types::Refusal;
-use mv_type_states::Typed;
+use mv_type_rules::Typed;
 use std::alloc::Global;
 
 /// A flow that is not accepted is refused in the phase.

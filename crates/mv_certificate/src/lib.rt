@@ -24,63 +24,19 @@ mod writing;
 
 ghost use Rattle.std.specs.Prelude.{◌≡◌, Err, IfOk, IfErr, OnOk, IsTrue, ◌⊎◌};
 ghost use Rattle.mv_acquires.specs.Acquires.{AcquiresHold};
-ghost use Rattle.mv_certificate.specs.Shape.{AllStatedFit};
-ghost use Rattle.mv_certificate.specs.Certificate.{Certificate, certificate_holds};
-ghost use Rattle.mv_certificate.specs.CertificateText.{certificate_text, IsCertificateText};
+ghost use Rattle.mv_certificate_rules.specs.Shape.{AllStatedFit};
+ghost use Rattle.mv_certificate_rules.specs.Certificate.{Certificate, certificate_holds};
+ghost use Rattle.mv_certificate_rules.specs.CertificateText.{certificate_text, IsCertificateText};
 ghost use Rattle.mv_certificate.specs.Answers.{IsRefusedByCertificate};
 ghost use Rattle.mv_certificate.specs.Laws.{IsReadBackAs};
 
 pub use certificate::{Cert, Known, Stated};
 pub use laws::texts_are_of_one_certificate;
-use mv_binary_format::Module;
+pub use mv_certificate_rules::Verified;
 use mv_move_types::Refusal;
-use mv_type_states::{Tops, Typed};
+use mv_type_rules::Typed;
 pub use shape::{function_at, function_count, graph_of, has_start};
 use std::alloc::{AllocError, Global};
-use std::marker::Model;
-
-/// A module that passed phases 3 to 12, with the two topmost types before each instruction.
-#[derive(Drop)]
-pub struct Verified<'a> {
-    tops: Tops<'a>,
-}
-
-impl<'a> Model for Verified<'a> {
-    ghost use Rattle.mv_move_types.specs.Module.{Module as Tables};
-    ghost use Rattle.mv_type_states.specs.Sound.{IsSound};
-    ghost use Rattle.mv_acquires.specs.Acquires.{AcquiresHold};
-    ghost use Rattle.mv_certificate.specs.Verified.{HasCertificate};
-
-    ghost Value = { Tables };
-
-    ghost view = { λ v. v.tops };
-
-    ghost invariant = { λ v. IsSound v.tops × AcquiresHold v.tops × HasCertificate v.tops };
-}
-
-impl<'a> Verified<'a> {
-    ghost use Rattle.std.specs.Prelude.{◌≡◌};
-    ghost use Rattle.mv_type_states.specs.Sound.{IsSound};
-    ghost use Rattle.mv_acquires.specs.Acquires.{AcquiresHold};
-    ghost use Rattle.mv_certificate.specs.Verified.{HasCertificate};
-
-    /// The module.
-    pub fn module(&self) -> &Module<'a>
-        ensures value { result.now ≡ self.now }
-        ensures sound { IsSound self.now }
-        ensures acquires { AcquiresHold self.now }
-        ensures certificate { HasCertificate self.now }
-    {
-        self.tops.module()
-    }
-
-    /// The module with the two topmost types before each instruction, which linking reads.
-    pub fn tops(&self) -> &Tops<'a>
-        ensures { result.now ≡ self.now }
-    {
-        &self.tops
-    }
-}
 
 /// Reads a certificate of the module. Bytes are refused in phase 9 exactly where they are no text of one.
 pub fn decode(alloc: Global, m: &Typed<'_>, bytes: &[u8]) -> Result<Cert, Refusal>
@@ -130,7 +86,5 @@ pub fn check<'a>(alloc: Global, m: Typed<'a>, c: &Cert) -> Result<Verified<'a>, 
     ensures refused { IfErr result (IsRefusedByCertificate m.entry c.now) }
 {
     try_phases(alloc, &m, c)?;
-    Ok(Verified {
-        tops: m.into_tops(alloc)?,
-    })
+    Ok(Verified::new(m.into_tops(alloc)?))
 }

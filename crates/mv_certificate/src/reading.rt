@@ -5,8 +5,8 @@ ghost use Rattle.mv_edges.specs.Ascending.{are_ascending};
 ghost use Rattle.mv_uleb.specs.Parsing.{number_from};
 ghost use Rattle.mv_module_text.specs.Parsing.{entries_from, counted_from};
 ghost use Rattle.mv_module_text.specs.Reads.{Reads};
-ghost use Rattle.mv_certificate.specs.CertificateText.{IsCertificateText};
-ghost use Rattle.mv_certificate.specs.Certificate.{Certificate};
+ghost use Rattle.mv_certificate_rules.specs.CertificateText.{IsCertificateText};
+ghost use Rattle.mv_certificate_rules.specs.Certificate.{Certificate};
 ghost use Rattle.mv_certificate.specs.Reads.{IsReadAt, IsUnreadAt};
 ghost use Rattle.mv_certificate.specs.Parsing.{availability_from, node_from, openness_from, label_from, edge_from, edges_from, block_from, stated_from};
 
@@ -19,7 +19,7 @@ use mv_locals_safety::Availabilities;
 use mv_module_text::Reader;
 use mv_move_types::limits::{MOST_EDGES, MOST_FIELDS, MOST_POSITIONS};
 use mv_move_types::{Availability, Node, Refusal};
-use mv_type_states::Typed;
+use mv_type_rules::Typed;
 use std::alloc::Global;
 
 // What the reader refuses malformed bytes with. So do the functions here.

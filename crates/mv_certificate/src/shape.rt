@@ -3,21 +3,21 @@
 ghost use Rattle.std.specs.Prelude.{◌≡◌, [], ◌++◌, length, ◌<◌, ◌≤◌, Some, slice_get, option_map, nat_lt, IsSome, IsTrue};
 ghost use Rattle.std.specs.List.{list_all};
 ghost use Rattle.mv_move_types.specs.Limits.{most_locals};
-ghost use Rattle.mv_bounds.specs.Bounds.{local_count as function_locals};
+ghost use Rattle.mv_bound_rules.specs.Bounds.{local_count as function_locals};
 ghost use Rattle.mv_cfg.specs.FlowGraph.{IsFlowGraph};
 ghost use Rattle.mv_move_types.specs.Module.{local_tokens, local_type as type_of_local};
-ghost use Rattle.mv_type_states.specs.TypesHold.{function_is_typed, point_at};
-ghost use Rattle.mv_borrow_graph.specs.BorrowRules.{is_mutable_token, is_reference_token};
-ghost use Rattle.mv_certificate.specs.Certificate.{known_at_start};
-ghost use Rattle.mv_borrow_graph.specs.Nodes.{leads_in, leads_out};
-ghost use Rattle.mv_certificate.specs.Shape.{edge_fits};
+ghost use Rattle.mv_type_rules.specs.TypesHold.{function_is_typed, point_at};
+ghost use Rattle.mv_certificate_rules.specs.BorrowRules.{is_mutable_token, is_reference_token};
+ghost use Rattle.mv_certificate_rules.specs.Certificate.{known_at_start};
+ghost use Rattle.mv_certificate_rules.specs.Nodes.{leads_in, leads_out};
+ghost use Rattle.mv_certificate_rules.specs.Shape.{edge_fits};
 
 use mv_binary_format::{FunctionDefinition, Module};
 use mv_cfg::Cfg;
 use mv_edges::Edge;
 use mv_move_types::limits::{MOST_FIELDS, MOST_POSITIONS};
 use mv_move_types::{Node, Token};
-use mv_type_states::Typed;
+use mv_type_rules::Typed;
 
 /// How many functions the module has.
 pub fn function_count(m: &Typed<'_>) -> usize

@@ -4,8 +4,8 @@ ghost use Rattle.std.specs.Prelude.{◌≡◌, ◌<◌, ◌++◌, ◌∷◌, [],
 ghost use Rattle.mv_uleb.specs.Uleb.{uleb};
 ghost use Rattle.mv_module_text.specs.Entries.{counted};
 ghost use Rattle.mv_edges.specs.Ascending.{node_kind, node_index};
-ghost use Rattle.mv_certificate.specs.CertificateText.{availability_code, node_text, edge_text, known_text, stated_text};
-ghost use Rattle.mv_certificate.specs.Certificate.{Known as KnownRecord};
+ghost use Rattle.mv_certificate_rules.specs.CertificateText.{availability_code, node_text, edge_text, known_text, stated_text};
+ghost use Rattle.mv_certificate_rules.specs.Certificate.{Known as KnownRecord};
 
 use super::certificate::Stated;
 use mv_edges::{Edge, Edges};

@@ -15,7 +15,7 @@ use Rattle.mv_cfg.specs.Steps.{starts, BranchesInside, IsPlaced, IsSplit, IsLink
 use Rattle.mv_cfg.proofs.Beginnings.{ascending-at, ascending-same, blocks_at-get, length-blocks_at}
 use Rattle.mv_cfg.proofs.Leads.{starts-ascending, leads-begin}
 use Rattle.mv_cfg.proofs.Tables.{placed-at}
-use Rattle.mv_bounds.proofs.Entries.{element_at, Contains-at, at-Contains, mapped-at}
+use Rattle.mv_bound_rules.proofs.Entries.{element_at, Contains-at, at-Contains, mapped-at}
 
 -- lists with the same elements
 same_elements : {A : Type 0} (xs ys : List A) → length xs ≡ length ys → ((k : ℕ) (x y : A) → slice_get xs k ≡ Some x → slice_get ys k ≡ Some y → x ≡ y) → xs ≡ ys

@@ -9,7 +9,7 @@ use Rattle.mv_cfg.specs.Graph.{IsBlock, HasEdge}
 use Rattle.mv_cfg.specs.FlowGraph.{IsFlowGraph}
 use Rattle.mv_cfg.specs.Steps.{starts, BranchesInside, IsPlaced, IsSplit, IsReachedMarks, IsMarkedAs}
 use Rattle.mv_cfg.proofs.Graphs.{reached_along, IsFlowGraph-from_marks}
-use Rattle.mv_bounds.proofs.Entries.{element_at}
+use Rattle.mv_bound_rules.proofs.Entries.{element_at}
 
 module _ (g new : Cfg) (marks : List Bool) (same : IsMarkedAs g.blocks.items marks new.blocks.items) where
   -- the block before it was marked, and after

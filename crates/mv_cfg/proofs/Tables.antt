@@ -12,7 +12,7 @@ use Rattle.mv_cfg.specs.declared.Block.{Block}
 use Rattle.mv_cfg.specs.Blocks.{is_target}
 use Rattle.std.proofs.lemmas.List.Elements.{All-head}
 use Rattle.mv_cfg.specs.Steps.{IsPlaced, IsPart, IsBlockMarkedAs, BranchesInside}
-use Rattle.mv_bounds.proofs.Entries.{last_or_before}
+use Rattle.mv_bound_rules.proofs.Entries.{last_or_before}
 
 -- the marks of the branches of the instructions up to a place
 pub record IsMarkedUpTo (code : List Instruction) (k : ℕ) (marks : List Bool) : Type 0 where

@@ -7,9 +7,9 @@ use Rattle.mv_move_types.specs.declared.instruction.Instruction.{Instruction}
 use Rattle.mv_move_types.specs.declared.instruction.Instruction.TheVariants.{BrTrue, BrFalse, Branch}
 use Rattle.mv_move_types.specs.Module.{Module, FunctionDefinition}
 use Rattle.mv_move_types.specs.Flow.{targets}
-use Rattle.mv_bounds.specs.Bounds.{InBounds, below, instruction_in, function_in, local_count}
+use Rattle.mv_bound_rules.specs.Bounds.{InBounds, below, instruction_in, function_in, local_count}
 use Rattle.mv_cfg.specs.Steps.{BranchesInside}
-use Rattle.mv_bounds.proofs.Entries.{all_at}
+use Rattle.mv_bound_rules.proofs.Entries.{all_at}
 use Rattle.std.proofs.lemmas.Option.{slice_get-get_or}
 
 targets-inside : (m : Module) (locals size : ℕ) (c : Instruction) → instruction_in m locals size c ≡ true → All (λ t. t < size) (targets c)

@@ -24,7 +24,7 @@ ghost use Rattle.mv_cfg.specs.Blocks.{ends_well, leads_to};
 ghost use Rattle.mv_cfg.specs.FlowGraph.{IsFlowGraph};
 ghost use Rattle.mv_cfg.specs.Steps.{starts as starts_of, BranchesInside, IsTargetMarks, IsPlaced, IsSplit, IsLinked, IsReachedMarks, IsMarkedAs};
 
-use mv_bounds::Bounded;
+use mv_bound_rules::Bounded;
 use mv_move_types::{Exit, Instruction, Refusal};
 use std::alloc::{AllocError, Global};
 

@@ -2,10 +2,10 @@
 ghost use Rattle.std.specs.Prelude.{◌≡◌, ◌≤◌, length, true, IfOk};
 ghost use Rattle.std.specs.Ordering.{ordering_then, nat_cmp, bool_cmp};
 ghost use Rattle.std.specs.Cmp.Lexicographic.{slice_cmp};
-ghost use Rattle.mv_edges.specs.Edges.{here, an_edge, same_node, renamed_node, changed, edge_leq, opened_at};
+ghost use Rattle.mv_edges.specs.Edges.{here, an_edge, same_node, renamed_node, edge_leq, opened_at};
 ghost use Rattle.mv_edges.specs.Ascending.{node_code, nodes_code, edge_before, edge_order};
 
-use super::label::{Change, Label};
+use super::Label;
 use mv_move_types::Node;
 use std::alloc::{AllocError, Global};
 use std::cmp::Ordering;
@@ -130,26 +130,6 @@ impl Edge {
         is_same(self.from, other.from)
             && is_same(self.to, other.to)
             && self.label.is_below(&other.label)
-    }
-
-    /// The edge with one node in place of another.
-    pub(crate) fn renamed(self, old: Node, new: Node) -> Self
-        ensures { result ≡ an_edge (renamed_node old new self.from) self.label (renamed_node old new self.to) }
-    {
-        let Edge { from, label, to } = self;
-        Edge::new(renamed(from, old, new), label, renamed(to, old, new))
-    }
-
-    /// The edge for another node, with a change made to its label.
-    pub(crate) fn inherited(
-        &self,
-        alloc: Global,
-        change: Change,
-        new: Node,
-    ) -> Result<Self, AllocError>
-        ensures { IfOk result (λ e. e ≡ an_edge self.now.from (changed change self.now.label) new) }
-    {
-        Ok(Edge::new(self.from, self.label.changed(alloc, change)?, new))
     }
 
     /// The edge, with its positions where they are.

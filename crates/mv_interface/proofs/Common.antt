@@ -35,8 +35,8 @@ pub use Rattle.mv_move_types.specs.declared.token.Token.{Token}
 pub use Rattle.mv_move_types.specs.declared.token.Token.TheVariants.{MutableReference, Plain, Reference}
 pub use Rattle.mv_move_types.specs.declared.token.ValueType.TheVariants.{OfLeaf, OfStruct}
 pub use Rattle.mv_binary_format.specs.ModuleText.{HasText}
-pub use Rattle.mv_bounds.specs.Bounds.{InBounds, below, field_in, function_handle_in, module_handle_in, struct_handle_in, struct_in}
-pub use Rattle.mv_bounds.specs.Definitions.{WellDefined, all_differ, defined_once, function_home, struct_home}
+pub use Rattle.mv_bound_rules.specs.Bounds.{InBounds, below, field_in, function_handle_in, module_handle_in, struct_handle_in, struct_in}
+pub use Rattle.mv_bound_rules.specs.Definitions.{WellDefined, all_differ, defined_once, function_home, struct_home}
 pub use Rattle.mv_module_text.proofs.Texts.{on_bind}
 pub use Rattle.mv_module_text.specs.Fits.{identifier_fits, is_identifier, struct_definition_fits}
 pub use Rattle.mv_interface.specs.Handles.{AreStructsAt}
@@ -44,7 +44,7 @@ pub use Rattle.mv_interface.specs.Interface.{AreTypes, AreTypesOf, IsInterface, 
 pub use Rattle.mv_interface.specs.Outline.{AreEach, AreFieldNames, FunctionOutline, IsFunctionOutline, IsOutline, IsStructOutline, OutlineView}
 pub use Rattle.mv_interface.specs.Outline.{function_by, function_kept, identifier_at, names_by, outline_kept, struct_by, struct_kept}
 pub use Rattle.mv_interface.specs.Shapes.{AreParts, IsPart, part_by, parts_by}
-pub use Rattle.mv_interface.specs.TypesByName.{both_there, same_types, token_named, tokens_named}
+pub use Rattle.mv_bound_rules.specs.TypesByName.{both_there, same_types, token_named, tokens_named}
 pub use Rattle.mv_interface.specs.declared.interface.Interface.{Interface}
 pub use Rattle.mv_interface.specs.declared.interface.LinkedType.{LinkedType}
 pub use Rattle.mv_interface.specs.declared.interface.Signature.{Signature}

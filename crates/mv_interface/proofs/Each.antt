@@ -2,7 +2,7 @@
 --   each-more      one more of both
 --   each-mapped    entries that are made of the others
 use Rattle.mv_interface.proofs.Common.{[], ℕ, ◌++◌, ◌+◌, ◌∙◌, ◌∷◌, ◌≡◌, AreEach, List, Some, ap, arith, inl, inr, length-map, length_push, map, option_map, same_Some, slice_get, slice_get-map, slice_get_within, subst, sym}
-use Rattle.mv_bounds.proofs.Entries.{last_or_before}
+use Rattle.mv_bound_rules.proofs.Entries.{last_or_before}
 
 -- one more of both
 pub each-more : {A B : Type 0} (R : A → B → Type 0) (xs : List A) (ys : List B) (x : A) (y : B) → AreEach R xs ys → R x y → AreEach R (xs ++ x ∷ []) (ys ++ y ∷ [])

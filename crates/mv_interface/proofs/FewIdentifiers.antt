@@ -7,7 +7,7 @@ use Rattle.std.proofs.lemmas.List.Sums.{sum_by-cons}
 use Rattle.mv_module_text.specs.Entries.{identifier_text}
 use Rattle.mv_module_text.proofs.Sizes.{uleb-some}
 use Rattle.mv_binary_format.specs.ModuleText.{Table, all_tables, tables}
-use Rattle.mv_bounds.proofs.Entries.{all_at}
+use Rattle.mv_bound_rules.proofs.Entries.{all_at}
 
 -- how many bytes a table has
 abbrev size_of : Table → ℕ

@@ -1,7 +1,7 @@
 -- The module that a handle names, by the parts that it is read from.
 use Rattle.mv_interface.proofs.Common.{ℕ, ◌∙◌, ◌≡◌, IsItemAt, List, Module, ModuleHandle, None, Option, Some, ap, module_name, option_map, refl, slice_get, sym}
-use Rattle.mv_interface.proofs.Found.{got}
-use Rattle.mv_interface.proofs.NameLemmas.{module_of}
+use Rattle.mv_bound_rules.proofs.Found.{got}
+use Rattle.mv_bound_rules.proofs.NameLemmas.{module_of}
 
 -- nothing stands there in the list that was read
 pub not-at : {A : Type 0} (xs ys : List A) (i : ℕ) → ys ≡ xs → IsItemAt ys i None → slice_get xs i ≡ None

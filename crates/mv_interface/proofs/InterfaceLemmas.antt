@@ -5,10 +5,10 @@ use Rattle.mv_interface.proofs.Common.{[], ℕ, ◌∙◌, ◌∷◌, ◌≡◌,
 use Rattle.mv_interface.proofs.Common.{IsSignatureAt, IsSignatureOf, IsType, List, Module, MutableReference, Option, Plain, Reference, Signature, Some, StructDefinition, Token, ap, arith}
 use Rattle.mv_interface.proofs.Common.{map, parameter_tokens, parts_by, slice_get, slice_get_within, subst, sym, type_by, types_by, unwrap_or}
 use Rattle.mv_move_types.specs.Module.{result_tokens}
-use Rattle.mv_bounds.proofs.FunctionLemmas.{handle_below, signatures_below}
+use Rattle.mv_bound_rules.proofs.FunctionLemmas.{handle_below, signatures_below}
 use Rattle.mv_interface.proofs.Each.{each-mapped}
 use Rattle.mv_interface.proofs.ShapeLemmas.{part-is, parts-are}
-use Rattle.mv_bounds.proofs.Entries.{element_at}
+use Rattle.mv_bound_rules.proofs.Entries.{element_at}
 
 module _ (modules : List Module) (m : Module) (structs : List Definition) (are : AreStructsAt modules m structs) where
   type-is : (t : Token) → IsType modules m t (type_by structs t)

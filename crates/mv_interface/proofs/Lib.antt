@@ -9,8 +9,6 @@
 --   InterfaceLemmas    `interface-is`, `signature-at`: the interfaces of modules
 pub mod Common
 pub mod Each
-pub mod Found
-pub mod NameLemmas
 pub mod HandleNames
 pub mod OwnDefinitions
 pub mod TypeTests

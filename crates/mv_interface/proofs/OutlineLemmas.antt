@@ -8,10 +8,10 @@ use Rattle.mv_interface.proofs.Common.{below, bytes_eq, bytes_eq-Decides, false,
 use Rattle.mv_interface.proofs.Common.{name_of_function, names_by, none-some, option_map_or, outline_kept, refl, same_Some, slice_get, slice_get_within, struct_by, struct_handle_in}
 use Rattle.mv_interface.proofs.Common.{struct_in, struct_kept, subst, sym, true, unwrap_or}
 use Rattle.std.specs.List.{AllZip}
-use Rattle.mv_bounds.proofs.FunctionLemmas.{handle_below}
+use Rattle.mv_bound_rules.proofs.FunctionLemmas.{handle_below}
 use Rattle.mv_interface.proofs.Each.{each-mapped}
-use Rattle.mv_bounds.proofs.Entries.{all_at, element_at}
-use Rattle.mv_interface.proofs.Found.{found_at}
+use Rattle.mv_bound_rules.proofs.Entries.{all_at, element_at}
+use Rattle.mv_bound_rules.proofs.Found.{found_at}
 use Rattle.mv_interface.proofs.OwnDefinitions.{function-at, function_named_so}
 
 -- what is made of a module's tables

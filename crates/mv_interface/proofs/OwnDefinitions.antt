@@ -12,9 +12,9 @@ use Rattle.mv_interface.proofs.Common.{find_index, first_so, function_home, func
 use Rattle.mv_interface.proofs.Common.{module_named, name_of_function, name_of_struct, nat_tests, none-some, on_bind, option_and_then, option_map, option_map_or, own_name, refl, same_struct}
 use Rattle.mv_interface.proofs.Common.{second_so, slice_get, slice_get-map, slice_get_within, struct_handle_in, struct_home, struct_in, struct_name, suc, sym, true, zero}
 use Rattle.std.proofs.lemmas.List.Recursion.{is_count_by}
-use Rattle.mv_interface.proofs.Found.{find_first, one_place, passing}
-use Rattle.mv_interface.proofs.NameLemmas.{module_parts, module_place-from, same_struct-is, same_struct-same, struct_parts, named_in}
-use Rattle.mv_bounds.proofs.Entries.{all_at, there_below}
+use Rattle.mv_bound_rules.proofs.Found.{find_first, one_place, passing}
+use Rattle.mv_bound_rules.proofs.NameLemmas.{module_parts, module_place-from, same_struct-is, same_struct-same, struct_parts, named_in}
+use Rattle.mv_bound_rules.proofs.Entries.{all_at, there_below}
 
 bytes-same : (xs : List ℕ) → bytes_eq xs xs ≡ true
 bytes-same xs = (bytes_eq-Decides xs xs).1 refl

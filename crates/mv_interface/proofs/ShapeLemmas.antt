@@ -7,9 +7,9 @@ use Rattle.mv_interface.proofs.Common.{[], ℕ, ◌++◌, ◌+◌, ◌<◌, ◌�
 use Rattle.mv_interface.proofs.Common.{OfLeaf, OfStruct, Option, Part, Plain, Reference, Some, Struct, StructDefinition, StructName, Token, and_parts, ap, append-nil, append_assoc, false}
 use Rattle.mv_interface.proofs.Common.{get_or, is_some, leb-true, length, list_all, map, map-append, module_name, option_map_or, part_by, parts_by, refl}
 use Rattle.mv_interface.proofs.Common.{slice_get, slice_get_past, struct_definition_fits, struct_name, sym, take, take_all, take_more, true}
-use Rattle.mv_bounds.proofs.Entries.{all_at}
-use Rattle.mv_interface.proofs.Found.{past_from}
-use Rattle.mv_interface.proofs.NameLemmas.{struct_parts}
+use Rattle.mv_bound_rules.proofs.Entries.{all_at}
+use Rattle.mv_bound_rules.proofs.Found.{past_from}
+use Rattle.mv_bound_rules.proofs.NameLemmas.{struct_parts}
 
 -- a struct has at most 32 fields
 pub few-fields : (m : Module) (i : ℕ) (d : StructDefinition) → list_all (struct_definition_fits m.version) m.structs ≡ true → slice_get m.structs i ≡ Some d → length d.fields ≤ 32

@@ -6,4 +6,3 @@ pub mod Outline
 pub mod Shapes
 pub mod Spans
 pub mod TypesByDefinition
-pub mod TypesByName

@@ -2,7 +2,7 @@
 ghost use Rattle.std.specs.Prelude.{◌≡◌, ◌≤◌, List, [], length, map, slice_get, unwrap_or, IfOk, IfNone, IfSome, OnOk};
 ghost use Rattle.mv_move_types.specs.Limits.{most_types};
 ghost use Rattle.mv_move_types.specs.Module.{Module as Tables};
-ghost use Rattle.mv_bounds.specs.Bounds.{InBounds};
+ghost use Rattle.mv_bound_rules.specs.Bounds.{InBounds};
 ghost use Rattle.mv_interface.specs.Handles.{AreStructsAt};
 ghost use Rattle.mv_interface.specs.Interface.{IsInterface, IsSignatureOf, tokens_on, type_by, types_by};
 ghost use Rattle.mv_interface.specs.Outline.{IsOutline};

@@ -5,7 +5,7 @@ ghost use Rattle.mv_move_types.specs.Names.{same_module, same_struct};
 ghost use Rattle.std.specs.Str.{bytes_eq};
 ghost use Rattle.mv_move_types.specs.Module.{module_name as name_of_module, own_name, struct_name as name_at_handle, name_of_function};
 ghost use Rattle.mv_move_types.specs.Named.{function_place as place_of_function, have_one_name as are_of_one_name, is_module as has_this_name};
-ghost use Rattle.mv_interface.specs.TypesByName.{both_there};
+ghost use Rattle.mv_bound_rules.specs.TypesByName.{both_there};
 
 use mv_binary_format::{FunctionDefinition, Module};
 use mv_move_types::Address;

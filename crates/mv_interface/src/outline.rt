@@ -3,7 +3,7 @@ ghost use Rattle.std.specs.Prelude.{◌≡◌, ◌≤◌, ◌<◌, ℕ, length, 
 ghost use Rattle.std.specs.Option.{option_map_or};
 ghost use Rattle.std.specs.Str.{bytes_eq};
 ghost use Rattle.mv_move_types.specs.Limits.{most_name_bytes};
-ghost use Rattle.mv_bounds.specs.Bounds.{InBounds};
+ghost use Rattle.mv_bound_rules.specs.Bounds.{InBounds};
 ghost use Rattle.mv_interface.specs.ByName.{IsByName, names_at};
 ghost use Rattle.mv_interface.specs.Outline.{IsOutline, are_names, IsStructNamed, IsFunctionNamed, identifier_at, struct_by, function_by, names_by};
 

@@ -5,7 +5,7 @@ ghost use Rattle.mv_move_types.specs.Module.{struct_name as name_at_handle};
 ghost use Rattle.mv_move_types.specs.AbilitySets.{same_abilities};
 ghost use Rattle.mv_move_types.specs.Tags.{same_tag};
 ghost use Rattle.mv_move_types.specs.Tokens.{kind_code as code_of, same_kind as is_one_kind, width_bits};
-ghost use Rattle.mv_interface.specs.TypesByName.{value_type_named, token_named, same_signature as is_one_signature, same_types, both_there};
+ghost use Rattle.mv_bound_rules.specs.TypesByName.{value_type_named, token_named, same_signature as is_one_signature, same_types, both_there};
 
 use crate::names::struct_name;
 use mv_binary_format::Module;

@@ -6,8 +6,8 @@ use Rattle.std.proofs.lemmas.Bool.{cases_eq}
 use Rattle.std.proofs.lemmas.List.{length-set, length-replicate}
 use Rattle.std.proofs.lemmas.List.Elements.{Contains-get_or}
 use Rattle.std.proofs.lemmas.Option.{slice_get_within}
-use Rattle.mv_bounds.specs.Removal.{times}
-use Rattle.mv_bounds.proofs.TimesLemmas.{is_one, is_none}
+use Rattle.mv_bound_rules.specs.Times.{times}
+use Rattle.mv_bound_rules.proofs.TimesLemmas.{is_one, is_none}
 use Rattle.mv_cfg.specs.declared.Block.{Block}
 use Rattle.mv_cfg.specs.declared.Cfg.{Cfg}
 use Rattle.mv_cfg.specs.Graph.{IsBlock, HasEdge, IsReached, at_entry, along, IsGraph}

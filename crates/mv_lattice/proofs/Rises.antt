@@ -4,8 +4,8 @@ use Rattle.std.proofs.Common.{◌⊎◌, ⊎_elim, inl, inr, Contains, refl, ap,
 use Rattle.std.proofs.lemmas.Bool.{cases_eq}
 use Rattle.std.proofs.lemmas.List.Sums.{sum_by-set}
 use Rattle.std.proofs.lemmas.Option.{slice_get-get_or, option_and_then_some}
-use Rattle.mv_bounds.specs.Removal.{times}
-use Rattle.mv_bounds.proofs.TimesLemmas.{times_of, contains_from_times}
+use Rattle.mv_bound_rules.specs.Times.{times}
+use Rattle.mv_bound_rules.proofs.TimesLemmas.{times_of, contains_from_times}
 use Rattle.mv_cfg.specs.declared.Block.{Block}
 use Rattle.mv_cfg.specs.declared.Cfg.{Cfg}
 use Rattle.mv_lattice.specs.Laws.{IsLawful}

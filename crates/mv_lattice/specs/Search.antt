@@ -12,7 +12,7 @@
 --   MeetsLimit, MeetsNeed         otherwise a limit ends it, or a need that fails
 -- The others are parts of these.
 use Rattle.std.specs.Prelude.{◌≡◌, ℕ, ◌<◌, Bool, true, false, List, [], ◌∷◌, length, replicate, slice_get, slice_set, Option, Some, None}
-use Rattle.mv_bounds.specs.Removal.{times}
+use Rattle.mv_bound_rules.specs.Times.{times}
 use Rattle.mv_cfg.specs.declared.Block.{Block}
 use Rattle.mv_cfg.specs.declared.Cfg.{Cfg}
 use Rattle.mv_cfg.specs.Graph.{IsBlock, HasEdge}

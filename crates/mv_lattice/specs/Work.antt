@@ -7,7 +7,7 @@
 --   IsSearch, IsUnderway      the code has come to these states and marks by visits from a start state
 -- AllStated is a part of these.
 use Rattle.std.specs.Prelude.{◌≡◌, ℕ, ◌+◌, Bool, List, Option, Some, None}
-use Rattle.mv_bounds.specs.Removal.{times}
+use Rattle.mv_bound_rules.specs.Times.{times}
 use Rattle.mv_cfg.specs.declared.Cfg.{Cfg}
 use Rattle.mv_lattice.specs.Flow.{IsAt, IsStated, IsFlow, IsClosed, IsFlowBelow, IsRisen}
 use Rattle.mv_lattice.specs.Search.{Search, Raises, Reaches}

@@ -3,7 +3,7 @@
 //! ```
 //! use mv_lattice::{SolveError, solve};
 //! use mv_locals_safety::LocalsDomain;
-//! use mv_type_states::Typed;
+//! use mv_type_rules::Typed;
 //! use std::alloc::Global;
 //!
 //! /// In how many blocks of a function availabilities are stated by the least flow. The function has to be there.

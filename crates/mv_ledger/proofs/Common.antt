@@ -44,15 +44,14 @@ pub use Rattle.mv_machine.specs.State.{Event, Storage}
 pub use Rattle.mv_machine.specs.Typed.{leaf_fits}
 pub use Rattle.mv_machine.specs.Value.{Leaf, Value}
 pub use Rattle.mv_machine.specs.declared.Ending.TheVariants.{Aborted as HasAborted, Exhausted as HasExhausted, Returned as HasReturned}
-pub use Rattle.mv_interface.proofs.Found.{found_at, some-of}
+pub use Rattle.mv_bound_rules.proofs.Found.{found_at, some-of}
 pub use Rattle.mv_link_rules.specs.Link.{IsPublishable, IsStore, tables_in}
 pub use Rattle.mv_interface.specs.declared.shapes.Part.TheVariants.{Leaf as LeafPart, Nothing, Struct as StructPart}
-pub use Rattle.mv_soundness.proofs.Typing.Admitted.{Ranged}
-pub use Rattle.mv_soundness.proofs.Typing.Fine.{leaf_ranges}
+pub use Rattle.mv_ledger_state.proofs.Common.{Ranged, leaf_ranges}
 pub use Rattle.mv_machine.specs.Tallies.{nameless}
 pub use Rattle.mv_machine.specs.Arguments.{arg_value}
 pub use Rattle.mv_interpreter.specs.Runs.{Agrees, Tallies, call_of}
-pub use Rattle.mv_soundness.specs.Words.{IsFineWords}
+pub use Rattle.mv_ledger_state.specs.View.{IsFineWords}
 pub use Rattle.mv_ledger_state.specs.Accepted.Records.{EachRecordIsWell}
 pub use Rattle.mv_ledger_state.specs.Accepted.SoundLedger.{IsSoundLedger}
 pub use Rattle.mv_ledger.specs.Answering.{AnswersRecord, Replies, told, told_ending}
@@ -74,4 +73,4 @@ pub use Rattle.mv_ledger.specs.declared.executing.Barred.{Barred}
 pub use Rattle.mv_ledger.specs.declared.executing.Barred.TheVariants.{Rejected, Rejected as BarredRejected}
 pub use Rattle.mv_ledger.specs.declared.executing.Call.{Call}
 pub use Rattle.mv_machine.specs.declared.Tally.{Tally}
-pub use Rattle.mv_bounds.proofs.Entries.{place_below}
+pub use Rattle.mv_bound_rules.proofs.Entries.{place_below}

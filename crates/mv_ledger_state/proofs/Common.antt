@@ -66,13 +66,13 @@ pub use Rattle.mv_binary_format.proofs.Fitting.{few_structs}
 pub use Rattle.mv_binary_format.specs.Laws.{IsReadByText}
 pub use Rattle.mv_binary_format.specs.ModuleText.{HasText, IsModuleText, headers_from, ordered_text, tables}
 pub use Rattle.mv_binary_format.specs.Parsing.{module_of}
-pub use Rattle.mv_bounds.specs.Bounds.{InBounds, below, field_in, struct_handle_in, struct_in}
-pub use Rattle.mv_bounds.specs.Definitions.{Holds, WellDefined, all_differ, defined_by, directly, further}
+pub use Rattle.mv_bound_rules.specs.Bounds.{InBounds, below, field_in, struct_handle_in, struct_in}
+pub use Rattle.mv_bound_rules.specs.Definitions.{Holds, WellDefined, all_differ, defined_by, directly, further}
 pub use Rattle.mv_signatures.specs.Signatures.{WellSigned, are_entry_parameters, entry_fits, has_no_results}
 pub use Rattle.mv_cfg.specs.Blocks.{BasicBlock, FlowHolds, IsReached, at_start, blocks}
 pub use Rattle.mv_acquires.specs.Acquires.{AcquiresHold}
 pub use Rattle.mv_abilities.specs.Abilities.{AbilitiesHold, field_is_able, implies, struct_is_able, token_abilities, value_type_abilities}
-pub use Rattle.mv_type_states.specs.Sound.{FailsTypes, IsRefusedByTypes, IsSound, endless, ill_signed, ill_typed, unable}
+pub use Rattle.mv_type_rules.specs.Sound.{FailsTypes, IsRefusedByTypes, IsSound, endless, ill_signed, ill_typed, unable}
 pub use Rattle.mv_module_text.proofs.Addresses.{address-parts, address-whole}
 pub use Rattle.mv_module_text.proofs.Entries.{ReadsOn, ReadsOn-next, ReadsOn-stops, after}
 pub use Rattle.mv_module_text.proofs.Numbers.{number_of-front, number_of-whole}
@@ -113,12 +113,12 @@ pub use Rattle.mv_machine.specs.Typing.{Aborts, Failure, Faults, abilities_of, e
 pub use Rattle.mv_machine.specs.Value.{Leaf, Local, More, NoMore, Place, Ref, Root, Stored, Struct, Value, Values, field, field_of, fields_of, list_of, value_at, with_field}
 pub use Rattle.mv_machine.specs.Value.{with_field_of, with_value_at}
 pub use Rattle.mv_certificate.proofs.Marks.{all-bytes}
-pub use Rattle.mv_certificate.specs.Certificate.{Certificate, Known, all_edges_hold, all_locals_hold}
-pub use Rattle.mv_certificate.specs.CertificateText.{IsCertificateText, certificate_text}
-pub use Rattle.mv_interface.proofs.Found.{some-of, then_found}
+pub use Rattle.mv_certificate_rules.specs.Certificate.{Certificate, Known, all_edges_hold, all_locals_hold}
+pub use Rattle.mv_certificate_rules.specs.CertificateText.{IsCertificateText, certificate_text}
+pub use Rattle.mv_bound_rules.proofs.Found.{some-of, then_found}
 pub use Rattle.mv_linker.proofs.Joining.Upgraded.{same_abilities-is}
 pub use Rattle.mv_linker.proofs.Kept.HandleDefinitions.{name-found}
-pub use Rattle.mv_interface.proofs.NameLemmas.{is_module-is, same_module-is, same_module-same, same_struct-is, same_struct-same}
+pub use Rattle.mv_bound_rules.proofs.NameLemmas.{is_module-is, same_module-is, same_module-same, same_struct-is, same_struct-same}
 pub use Rattle.mv_interface.proofs.OwnDefinitions.{module_there, own-definition}
 pub use Rattle.mv_link_rules.proofs.TagTests.{same_tag-is}
 pub use Rattle.mv_link_rules.specs.Link.{IsPublishable, IsStore, MayJoin, are_compatible, tables_in}
@@ -137,7 +137,7 @@ pub use Rattle.mv_soundness.proofs.Homes.{index_of, own_of_store}
 pub use Rattle.mv_soundness.proofs.Lists.{All-at}
 pub use Rattle.mv_soundness.proofs.Typing.Admitted.{Ranged, admitted_typed}
 pub use Rattle.mv_soundness.proofs.Typing.Callees.{on_found}
-pub use Rattle.mv_soundness.proofs.Typing.Fine.{fine_storage, typed_is_fine}
+pub use Rattle.mv_soundness.proofs.Typing.Fine.{fine_storage, leaf_ranges, typed_is_fine}
 pub use Rattle.mv_soundness.proofs.Typing.Tests.{same_kind-same}
 pub use Rattle.mv_machine.specs.Tallies.{nameless}
 pub use Rattle.mv_soundness.proofs.Owned.{IsOwn}
@@ -188,5 +188,5 @@ pub use Rattle.mv_ledger_state.specs.declared.saved.saving.Section.{Section}
 pub use Rattle.mv_ledger_state.specs.declared.tallies.Placed.{Placed}
 pub use Rattle.mv_machine.specs.declared.Tally.{Tally}
 pub use Rattle.mv_uleb.proofs.Spelled.{then_some-parts}
-pub use Rattle.mv_bounds.proofs.Entries.{element_at, all_at, there_below, mapped-at}
-pub use Rattle.mv_type_states.proofs.Tokens.{kinds_equal}
+pub use Rattle.mv_bound_rules.proofs.Entries.{element_at, all_at, there_below, mapped-at}
+pub use Rattle.mv_bound_rules.proofs.Tokens.{kinds_equal}

@@ -5,7 +5,7 @@ use Rattle.mv_ledger_state.proofs.Common.{FailsTypes, IsRefusedByTypes, IsSound,
 use Rattle.mv_ledger_state.proofs.Common.{IsRefused, failing, IsAcceptedBy, IsKeptOut, IsRefusedBy, AllPass, FailsAt, FirstFails, IsRefusedAmong, IsRefusedOffer, OfCertificate, OfModule, Passes, Spells, in_linking}
 use Rattle.mv_ledger_state.proofs.Common.{in_offer, in_room, phases, IsShaped}
 use Rattle.std.specs.Prelude.{⊤}
-use Rattle.mv_type_states.specs.TypesHold.{TypesHold}
+use Rattle.mv_type_rules.specs.TypesHold.{TypesHold}
 use Rattle.mv_bounds.specs.Answers.{IsRefusedByBounds, FailsBounds, out_of_bounds, ill_defined}
 use Rattle.mv_certificate.specs.Answers.{IsRefusedByCertificate, FailsCertificate, bad_locals, bad_borrows, bad_acquires}
 use Rattle.mv_certificate.proofs.OneCertificate.{one-certificate}

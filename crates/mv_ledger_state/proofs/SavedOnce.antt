@@ -5,7 +5,7 @@ use Rattle.mv_ledger_state.proofs.Common.{same_kind, width_bits, Field, LeafKind
 use Rattle.mv_ledger_state.proofs.Common.{number_of-whole, Whole, address_text, counted, address_fits, Read, address_from, number_of_from, Offer, are_of_types, is_of_struct, is_of_type, leaf_fits, Leaf}
 use Rattle.mv_ledger_state.proofs.Common.{More, NoMore, Ref, Struct, Value, Values, same_struct-is, kinds_equal, leaf_bytes, offer_text, sized, leaves_of_fields, leaves_text}
 use Rattle.mv_uleb.specs.Uleb.{uleb}
-use Rattle.mv_interface.proofs.Found.{passing}
+use Rattle.mv_bound_rules.proofs.Found.{passing}
 
 -- of two things with the property, whose texts stand at the front of the same bytes, one is the other, and so are the bytes after them
 abbrev pub IsOneOn : {A : Type 0} → (A → Type 0) → (A → List ℕ) → Type 0

@@ -9,7 +9,7 @@ use Rattle.std.specs.Prelude.{◌≡◌, ℕ, ◌+◌, ◌*◌, ◌≤◌, IsTru
 use Rattle.std.specs.List.{AllByRecursion}
 use Rattle.mv_move_types.specs.Limits.{most_steps}
 use Rattle.mv_move_types.specs.Published.{PublishedModule}
-use Rattle.mv_bounds.specs.Definitions.{all_differ}
+use Rattle.mv_bound_rules.specs.Definitions.{all_differ}
 use Rattle.mv_machine.specs.Count.{count}
 use Rattle.mv_machine.specs.Ledger.{Offer, LedgerState}
 use Rattle.mv_link_rules.specs.Link.{have_one_name, tables_in}

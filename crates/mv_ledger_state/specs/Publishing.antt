@@ -4,16 +4,16 @@ use Rattle.mv_move_types.specs.Limits.{most_modules}
 use Rattle.mv_move_types.specs.Module.{Module}
 use Rattle.mv_move_types.specs.Published.{PublishedModule, with_modules}
 use Rattle.mv_binary_format.specs.ModuleText.{IsModuleText}
-use Rattle.mv_bounds.specs.Bounds.{InBounds}
-use Rattle.mv_bounds.specs.Definitions.{WellDefined}
+use Rattle.mv_bound_rules.specs.Bounds.{InBounds}
+use Rattle.mv_bound_rules.specs.Definitions.{WellDefined}
 use Rattle.mv_signatures.specs.Signatures.{WellSigned}
 use Rattle.mv_abilities.specs.Abilities.{AbilitiesHold}
 use Rattle.mv_cfg.specs.Blocks.{FlowHolds}
-use Rattle.mv_type_states.specs.TypesHold.{TypesHold}
-use Rattle.mv_type_states.specs.Sound.{IsSound}
+use Rattle.mv_type_rules.specs.TypesHold.{TypesHold}
+use Rattle.mv_type_rules.specs.Sound.{IsSound}
 use Rattle.mv_acquires.specs.Acquires.{AcquiresHold}
-use Rattle.mv_certificate.specs.Certificate.{Certificate, all_locals_hold, all_edges_hold, certificate_holds}
-use Rattle.mv_certificate.specs.CertificateText.{IsCertificateText}
+use Rattle.mv_certificate_rules.specs.Certificate.{Certificate, all_locals_hold, all_edges_hold, certificate_holds}
+use Rattle.mv_certificate_rules.specs.CertificateText.{IsCertificateText}
 use Rattle.mv_link_rules.specs.Link.{MayJoin, tables_in}
 use Rattle.mv_move_types.specs.declared.refusal.Refusal.{Refusal}
 use Rattle.mv_move_types.specs.declared.refusal.Refusal.TheVariants.{Phase, Memory}

@@ -20,7 +20,7 @@ use Rattle.mv_machine.specs.Lines.{Tallied}
 use Rattle.mv_machine.specs.Ledger.{LedgerState}
 use Rattle.mv_link_rules.specs.Link.{IsStore, tables_in}
 use Rattle.mv_move_types.specs.Scarce.{is_scarce_struct, is_scarce_in}
-use Rattle.mv_soundness.specs.Words.{IsFineWords}
+pub use Rattle.mv_soundness.specs.Words.{IsFineWords}
 use Rattle.mv_machine.specs.Tallies.{all_of, tallied}
 use Rattle.mv_machine.specs.declared.Tally.{Tally}
 use Rattle.mv_ledger_state.specs.RecordText.{offer_fits}

@@ -21,6 +21,7 @@ mod publishing;
 mod saved;
 mod tallies;
 
+pub use mv_linker::Store;
 pub use payload::{RunRecord, read_run};
 pub use published::Published;
 pub use saved::loading::{LoadError, Loaded, load};

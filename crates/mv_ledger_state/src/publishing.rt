@@ -3,8 +3,8 @@ ghost use Rattle.std.specs.Prelude.{◌≡◌, ℕ, List, Some, IfOk, IfErr, OnO
 ghost use Rattle.mv_move_types.specs.Published.{PublishedModule};
 ghost use Rattle.mv_binary_format.specs.Parsing.{module_of};
 ghost use Rattle.mv_module_text.specs.Laws.{AreBytes};
-ghost use Rattle.mv_certificate.specs.Certificate.{Certificate};
-ghost use Rattle.mv_certificate.specs.Verified.{IsCertifiedBy};
+ghost use Rattle.mv_certificate_rules.specs.Certificate.{Certificate};
+ghost use Rattle.mv_certificate_rules.specs.Verified.{IsCertifiedBy};
 ghost use Rattle.mv_machine.specs.Ledger.{Publish};
 ghost use Rattle.mv_link_rules.specs.Link.{IsStore};
 ghost use Rattle.mv_linker.specs.News.{AreTexts, HasItsTexts, published_of};
@@ -20,7 +20,7 @@ use crate::published::Published;
 use mv_certificate::Verified;
 use mv_linker::New;
 use mv_move_types::Refusal;
-use mv_type_states::Typed;
+use mv_type_rules::Typed;
 use std::alloc::{AllocError, Global};
 
 /// Bytes are bytes.

@@ -49,4 +49,4 @@ pub use Rattle.mv_lines.specs.Showing.{PutsText, fields_text, key_name_text, key
 pub use Rattle.mv_lines.specs.ValueParts.{Extends, part_from, parts_from}
 pub use Rattle.mv_machine.specs.declared.Tally.{Tally}
 pub use Rattle.hex.specs.Hex.{encode_lower, lower_digits}
-pub use Rattle.mv_bounds.proofs.Entries.{all_at}
+pub use Rattle.mv_bound_rules.proofs.Entries.{all_at}

@@ -2,8 +2,8 @@
 use Rattle.mv_link_rules.proofs.Common.{[], ◌∷◌, ◌≡◌, LeafTag, List, ReferenceTag, StructTag, Tag, and_from, ap, ap₂, beq}
 use Rattle.mv_link_rules.proofs.Common.{booleans_Decides, eq-eqb, first_so, refl, same_tag, same_tags, second_so, true}
 use Rattle.mv_move_types.specs.Tokens.{kind_code}
-use Rattle.mv_type_states.proofs.Tokens.{kinds_equal}
-use Rattle.mv_interface.proofs.NameLemmas.{same_struct-is, same_struct-same}
+use Rattle.mv_bound_rules.proofs.Tokens.{kinds_equal}
+use Rattle.mv_bound_rules.proofs.NameLemmas.{same_struct-is, same_struct-same}
 
 pub same_tag-is : (a b : Tag) → same_tag a b ≡ true → a ≡ b
 same_tag-is (LeafTag j) (LeafTag k) e = ap LeafTag (kinds_equal j k e)

@@ -18,10 +18,8 @@ use Rattle.mv_move_types.specs.Named.{module_place, module_named}
 pub use Rattle.mv_move_types.specs.Named.{have_one_name}
 use Rattle.mv_binary_format.specs.Parsing.{module_of}
 use Rattle.mv_binary_format.specs.ModuleText.{HasText}
-use Rattle.mv_bounds.specs.Definitions.{all_differ}
-use Rattle.mv_type_states.specs.Sound.{IsSound}
-use Rattle.mv_acquires.specs.Acquires.{AcquiresHold}
-use Rattle.mv_certificate.specs.Verified.{IsCertifiedBy}
+use Rattle.mv_bound_rules.specs.Definitions.{all_differ}
+use Rattle.mv_certificate_rules.specs.Verified.{AcquiresHold, IsCertifiedBy, IsSound}
 use Rattle.mv_link_rules.specs.StoreRules.{Links}
 use Rattle.mv_link_rules.specs.Upgrades.{may_replace}
 

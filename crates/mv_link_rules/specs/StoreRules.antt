@@ -19,7 +19,7 @@ use Rattle.mv_move_types.specs.Leaves.{leaves_within}
 use Rattle.mv_move_types.specs.AbilitySets.{same_abilities}
 use Rattle.mv_move_types.specs.Module.{Module, StructDefinition, FunctionDefinition, module_name, struct_name, name_of_struct}
 use Rattle.mv_move_types.specs.Named.{is_module, have_one_name, module_named, declared, function_place, is_public}
-use Rattle.mv_interface.specs.TypesByName.{same_signature}
+use Rattle.mv_bound_rules.specs.TypesByName.{same_signature}
 
 -- c: the module that a handle names is in the store
 abbrev pub module_is_there : List Module → Module → ℕ → Bool

@@ -15,7 +15,7 @@ use Rattle.mv_move_types.specs.AbilitySets.{same_abilities}
 use Rattle.mv_move_types.specs.Tags.{same_tag}
 use Rattle.mv_move_types.specs.Module.{Module, StructDefinition, FunctionDefinition, name_of_struct, name_of_function, struct_abilities}
 use Rattle.mv_move_types.specs.Named.{is_public}
-use Rattle.mv_interface.specs.TypesByName.{both_there, token_named, same_signature}
+use Rattle.mv_bound_rules.specs.TypesByName.{both_there, token_named, same_signature}
 use Rattle.mv_link_rules.specs.StoreRules.{function_named}
 
 -- two fields have one name and one type

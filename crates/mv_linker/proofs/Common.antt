@@ -41,11 +41,11 @@ pub use Rattle.mv_move_types.specs.declared.token.Token.{Token}
 pub use Rattle.mv_move_types.specs.declared.token.Token.TheVariants.{MutableReference, Plain, Reference}
 pub use Rattle.mv_move_types.specs.declared.token.ValueType.{ValueType}
 pub use Rattle.mv_move_types.specs.declared.token.ValueType.TheVariants.{OfLeaf, OfStruct}
-pub use Rattle.mv_bounds.proofs.PlaceLemmas.{slice_get-first, slice_get-second}
-pub use Rattle.mv_bounds.specs.Bounds.{InBounds}
-pub use Rattle.mv_bounds.specs.Definitions.{WellDefined, all_differ}
+pub use Rattle.mv_bound_rules.proofs.PlaceLemmas.{slice_get-first, slice_get-second}
+pub use Rattle.mv_bound_rules.specs.Bounds.{InBounds}
+pub use Rattle.mv_bound_rules.specs.Definitions.{WellDefined, all_differ}
 pub use Rattle.mv_module_text.proofs.Texts.{on_bind}
-pub use Rattle.mv_type_states.specs.Sound.{IsSound}
+pub use Rattle.mv_type_rules.specs.Sound.{IsSound}
 pub use Rattle.mv_linker.proofs.Counted.{count_after}
 pub use Rattle.mv_linker.proofs.KeptSlots.{IsSlot, KeepsSlots}
 pub use Rattle.mv_linker.specs.Code.{called, entered, entered_in, operations, operations_from, program}
@@ -79,7 +79,7 @@ pub use Rattle.mv_linker.specs.Slots.{AreFilled, AreOnce, AreSlots, GivesSlot, G
 pub use Rattle.mv_linker.specs.Slotted.{AreSlotted, IsSlotted}
 pub use Rattle.mv_linker.specs.Stored.{AreCodesOf, AreLowered, AreNames, AreNamesOf, IsLinkedTo, IsSizeAt, LinkedBundle, with_at, with_codes}
 pub use Rattle.mv_linker.specs.Targets.{AreFunctionsAt, AreStructsAt, EachAt, IsFunctionAt, IsFunctionIn, IsStructAt, modules_in}
-pub use Rattle.mv_interface.specs.TypesByName.{both_there, same_signature, same_types, signature_named, token_named, tokens_named, value_type_named}
+pub use Rattle.mv_bound_rules.specs.TypesByName.{both_there, same_signature, same_types, signature_named, token_named, tokens_named, value_type_named}
 pub use Rattle.mv_link_rules.specs.Upgrades.{function_stays, have_one_type, may_replace, same_fields, same_struct_definition, structs_stay}
 pub use Rattle.mv_lowering.specs.Widths.{width_of_tag, width_of_token, width_of_tokens}
 pub use Rattle.mv_lowering.specs.Words.{words_by}

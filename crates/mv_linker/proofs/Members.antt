@@ -2,7 +2,7 @@
 use Rattle.mv_linker.proofs.Common.{[], ℕ, ◌||◌, ◌∙◌, ◌∷◌, ◌≡◌, ◌⊎◌, Bool, List, Module, ModuleName, Some, all_differ, and_from, ap, are_compatible, arith, cases_Bool, cond, false}
 use Rattle.mv_linker.proofs.Common.{false_from_ne_true, first_so, have_one_name, inl, inr, is_module, list_all, list_any, may_replace, module_named, not, not-true, or_cases, or_right}
 use Rattle.mv_linker.proofs.Common.{own_name, refl, same_Some, second_so, slice_get, subst, suc, sym, true, with_table, with_tables, zero}
-use Rattle.mv_interface.proofs.NameLemmas.{have_one-is, have_one_name-from, have_one_name-is, is_module-from, is_module-is}
+use Rattle.mv_bound_rules.proofs.NameLemmas.{have_one-is, have_one_name-from, have_one_name-is, is_module-from, is_module-is}
 
 -- an element of a list
 abbrev pub Among : {A : Type 0} → List A → A → Type 0

@@ -2,8 +2,8 @@
 use Rattle.mv_linker.proofs.Common.{◌≡◌, List, Option, None, Some, ap, refl, subst, ℕ, slice_get, ◌>>=◌, Definition, Module, PublishedModule, StructDefinition, StructName, name_at, name_of_struct, IsStore, tables_in}
 use Rattle.mv_move_types.specs.Named.{definition_of, is_struct}
 use Rattle.mv_move_types.specs.Options.{find_index}
-use Rattle.mv_type_states.specs.Sound.{IsSound}
-use Rattle.mv_interface.proofs.Found.{then_found}
+use Rattle.mv_type_rules.specs.Sound.{IsSound}
+use Rattle.mv_bound_rules.proofs.Found.{then_found}
 use Rattle.mv_interface.proofs.OwnDefinitions.{own-definition}
 use Rattle.mv_linker.proofs.Joining.Assembling.{passed-among}
 use Rattle.mv_linker.proofs.Members.{among-at}

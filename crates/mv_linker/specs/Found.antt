@@ -7,7 +7,7 @@ use Rattle.std.specs.Prelude.{◌≡◌, ℕ, List, length, Some, slice_get}
 use Rattle.mv_move_types.specs.Names.{ModuleName}
 use Rattle.mv_move_types.specs.Module.{Module, module_name}
 use Rattle.mv_move_types.specs.Named.{module_place}
-use Rattle.mv_bounds.specs.Definitions.{WellDefined}
+use Rattle.mv_bound_rules.specs.Definitions.{WellDefined}
 use Rattle.mv_interface.specs.Interface.{IsInterface}
 use Rattle.mv_interface.specs.Outline.{AreEach, IsOutline, OutlineView}
 use Rattle.mv_linker.specs.declared.rules.named_modules.Found.{Found}

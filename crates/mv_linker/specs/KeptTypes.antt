@@ -22,7 +22,7 @@ use Rattle.mv_interface.specs.declared.shapes.Part.{Part}
 use Rattle.mv_interface.specs.declared.shapes.Part.TheVariants.{Leaf, Struct, Nothing}
 use Rattle.mv_interface.specs.Outline.{FunctionOutline, StructOutline, are_names}
 use Rattle.mv_link_rules.specs.StoreRules.{function_named}
-use Rattle.mv_interface.specs.TypesByName.{both_there, token_named}
+use Rattle.mv_bound_rules.specs.TypesByName.{both_there, token_named}
 
 -- what a kept field is made of, by names
 abbrev pub part_named : List Module → Part → Option Tag

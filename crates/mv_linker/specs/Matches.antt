@@ -11,7 +11,7 @@ use Rattle.mv_move_types.specs.AbilitySets.{same_abilities}
 use Rattle.mv_move_types.specs.Module.{Module, module_name, own_name}
 use Rattle.mv_move_types.specs.Named.{declared_in, is_struct}
 use Rattle.mv_move_types.specs.Options.{find_index}
-use Rattle.mv_bounds.specs.Definitions.{WellDefined}
+use Rattle.mv_bound_rules.specs.Definitions.{WellDefined}
 use Rattle.mv_link_rules.specs.StoreRules.{function_fits, function_named}
 
 -- a handle of a module is of another one, which is well defined

@@ -2,7 +2,7 @@
 use Rattle.std.specs.Prelude.{◌≡◌, List, Some, All, map}
 use Rattle.mv_move_types.specs.Published.{PublishedModule}
 use Rattle.mv_binary_format.specs.Parsing.{module_of}
-use Rattle.mv_certificate.specs.Verified.{IsCertifiedBy}
+use Rattle.mv_certificate_rules.specs.Verified.{IsCertifiedBy}
 use Rattle.mv_linker.specs.declared.New.{New}
 
 -- a new module's bytes are the text that it was read from, and its certificate's are the text of one that it was checked with

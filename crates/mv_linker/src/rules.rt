@@ -3,7 +3,7 @@ ghost use Rattle.std.specs.Prelude.{◌≡◌, ◌↔◌, ◌+◌, ◌≤◌, Al
 ghost use Rattle.std.specs.List.{list_all};
 ghost use Rattle.mv_move_types.specs.Published.{with_modules};
 ghost use Rattle.mv_move_types.specs.Refusals.{IsRefusedIn};
-ghost use Rattle.mv_bounds.specs.Definitions.{all_differ};
+ghost use Rattle.mv_bound_rules.specs.Definitions.{all_differ};
 ghost use Rattle.mv_link_rules.specs.Link.{MayJoin, AreSentBy, IsPublishable, tables_in, have_one_name, is_sent_by};
 ghost use Rattle.mv_linker.specs.Kept.{Kept, published_in};
 ghost use Rattle.mv_linker.specs.News.{published_of};

@@ -2,7 +2,7 @@
 use Rattle.std.proofs.Common.{◌≡◌, ◌&&◌, List, [], ◌∷◌, length, refl, ap, arith}
 use Rattle.std.specs.List.{zip, list_all}
 use Rattle.mv_move_types.specs.declared.borrow.Availability.{Availability}
-use Rattle.mv_locals_safety.specs.LocalsRules.{availability_leq, locals_leq}
+use Rattle.mv_certificate_rules.specs.LocalsRules.{availability_leq, locals_leq}
 
 pub leq_zipped : (a b : List Availability) → length a ≡ length b → locals_leq a b ≡ list_all (λ p. availability_leq p.0 p.1) (zip a b)
 leq_zipped [] [] h = refl

@@ -13,11 +13,11 @@ use Rattle.mv_move_types.specs.declared.token.Token.{Token}
 use Rattle.mv_move_types.specs.declared.tables.FunctionHandle.{FunctionHandle}
 use Rattle.mv_move_types.specs.Options.{◌>>=◌}
 use Rattle.mv_move_types.specs.Module.{Module, FunctionDefinition, local_tokens, parameter_tokens}
-use Rattle.mv_bounds.specs.Bounds.{below, InBounds, function_in, function_handle_in, local_count}
-use Rattle.mv_type_states.specs.TypesHold.{Point, point_at}
-use Rattle.mv_locals_safety.specs.LocalsRules.{may_leave, leave_known, start_locals}
+use Rattle.mv_bound_rules.specs.Bounds.{below, InBounds, function_in, function_handle_in, local_count}
+use Rattle.mv_type_rules.specs.TypesHold.{Point, point_at}
+use Rattle.mv_certificate_rules.specs.LocalsRules.{may_leave, leave_known, start_locals}
 use Rattle.mv_locals_safety.specs.Domain.{Function, may_stay, IsOfLocals}
-use Rattle.mv_bounds.proofs.Entries.{all_at, there_below}
+use Rattle.mv_bound_rules.proofs.Entries.{all_at, there_below}
 
 local_tokens_some : (m : Module) (d : FunctionDefinition) (h : FunctionHandle) (ps others : List Token)
     → slice_get m.function_handles d.handle ≡ Some h → slice_get m.signatures h.parameters ≡ Some ps → slice_get m.signatures d.locals ≡ Some others

@@ -13,12 +13,12 @@ use Rattle.mv_move_types.specs.declared.borrow.Availability.TheVariants.{Unavail
 use Rattle.mv_move_types.specs.Options.{◌>>=◌}
 use Rattle.mv_move_types.specs.declared.token.Token.{Token}
 use Rattle.mv_move_types.specs.Module.{Module, FunctionDefinition}
-use Rattle.mv_bounds.specs.Bounds.{local_count}
+use Rattle.mv_bound_rules.specs.Bounds.{local_count}
 use Rattle.mv_abilities.specs.Abilities.{token_abilities}
-use Rattle.mv_type_states.specs.TypesHold.{point_at}
+use Rattle.mv_type_rules.specs.TypesHold.{point_at}
 use Rattle.mv_lattice.specs.declared.StepError.{StepError}
 use Rattle.mv_lattice.specs.declared.StepError.TheVariants.{Need}
-use Rattle.mv_locals_safety.specs.LocalsRules.{locals_after, needs_available}
+use Rattle.mv_certificate_rules.specs.LocalsRules.{locals_after, needs_available}
 
 -- a function, and the tables of its module
 pub record Function : Type 0 where

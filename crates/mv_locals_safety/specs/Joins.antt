@@ -5,7 +5,7 @@ use Rattle.std.proofs.Common.{refl, arith}
 use Rattle.std.proofs.lemmas.Bool.{and_parts}
 use Rattle.mv_move_types.specs.declared.borrow.Availability.{Availability}
 use Rattle.mv_move_types.specs.declared.borrow.Availability.TheVariants.{Unavailable, Available, Maybe}
-use Rattle.mv_locals_safety.specs.LocalsRules.{availability_leq, locals_leq}
+use Rattle.mv_certificate_rules.specs.LocalsRules.{availability_leq, locals_leq}
 use Rattle.mv_locals_safety.specs.Domain.{least_above, joined}
 
 left_one : (x y : Availability) → availability_leq x (least_above x y) ≡ true

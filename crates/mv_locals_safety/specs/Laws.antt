@@ -11,12 +11,13 @@ use Rattle.mv_move_types.specs.declared.instruction.Instruction.{Instruction}
 use Rattle.mv_move_types.specs.declared.instruction.Instruction.TheVariants.{Ret, CopyLoc, MoveLoc, StLoc, MutBorrowLoc, ImmBorrowLoc}
 use Rattle.mv_move_types.specs.Options.{◌>>=◌}
 use Rattle.mv_move_types.specs.Module.{Module, FunctionDefinition, local_tokens, local_type}
-use Rattle.mv_type_states.specs.TypesHold.{Point, point_at}
+use Rattle.mv_type_rules.specs.TypesHold.{Point, point_at}
 use Rattle.mv_lattice.specs.Laws.{IsLawful}
-use Rattle.mv_locals_safety.specs.LocalsRules.{availability_leq, locals_leq, locals_after, is_available, needs_available, may_overwrite, may_leave}
+use Rattle.mv_certificate_rules.specs.LocalsRules.{availability_leq, locals_leq, locals_after, is_available, needs_available, may_overwrite, may_leave}
 use Rattle.mv_locals_safety.specs.Domain.{IsOfLocals, joined, locals_step}
 use Rattle.mv_locals_safety.specs.Joins.{joined_left, joined_right, joined_least, joined_length}
-use Rattle.mv_locals_safety.specs.Rising.{step_below, reflexive_one}
+use Rattle.mv_certificate_rules.proofs.LocalsOrder.{leq_reflexive}
+use Rattle.mv_locals_safety.specs.Rising.{step_below}
 use Rattle.mv_binary_format.proofs.Binds.{bind_some}
 
 then_some_is : {A : Type 0} (b : Bool) (x y : A) → then_some b x ≡ Some y → x ≡ y
@@ -55,10 +56,6 @@ transitive_one x Unavailable Available p q = cc
 transitive_one x Available Unavailable p q = cc
 transitive_one x Maybe Unavailable p q = cc
 transitive_one x Maybe Available p q = cc
-
-pub leq_reflexive : (a : List Availability) → locals_leq a a ≡ true
-leq_reflexive [] = refl
-leq_reflexive (x ∷ a) = rw (reflexive_one x) (leq_reflexive a)
 
 leq_transitive : (a b c : List Availability) → locals_leq a b ≡ true → locals_leq b c ≡ true → locals_leq a c ≡ true
 leq_transitive [] [] c p q = q

@@ -1,5 +1,4 @@
 pub mod Domain
 pub mod Joins
 pub mod Laws
-pub mod LocalsRules
 pub mod Rising

@@ -12,9 +12,10 @@ use Rattle.mv_move_types.specs.declared.instruction.Instruction.{Instruction}
 use Rattle.mv_move_types.specs.declared.instruction.Instruction.TheVariants.{Ret, CopyLoc, MoveLoc, StLoc, MutBorrowLoc, ImmBorrowLoc}
 use Rattle.mv_move_types.specs.Options.{◌>>=◌}
 use Rattle.mv_move_types.specs.Module.{Module, FunctionDefinition, local_tokens, local_type}
-use Rattle.mv_type_states.specs.TypesHold.{Point, point_at}
-use Rattle.mv_locals_safety.specs.LocalsRules.{availability_leq, locals_leq, locals_after, is_available, needs_available, has_drop}
-use Rattle.mv_locals_safety.specs.LocalsRules.{may_overwrite, may_leave, store_known, leave_known}
+use Rattle.mv_type_rules.specs.TypesHold.{Point, point_at}
+use Rattle.mv_certificate_rules.specs.LocalsRules.{availability_leq, locals_leq, locals_after, is_available, needs_available, has_drop}
+use Rattle.mv_certificate_rules.proofs.LocalsOrder.{reflexive_one}
+use Rattle.mv_certificate_rules.specs.LocalsRules.{may_overwrite, may_leave, store_known, leave_known}
 use Rattle.mv_locals_safety.specs.Domain.{locals_step}
 
 -- where the second is there, the first is there, and below it
@@ -77,11 +78,6 @@ below_at (x ∷ a) [] l y h e = absurd (none-some y e)
 below_at (x ∷ a) (z ∷ b) zero y h e =
     (x, (refl, subst (λ s. availability_leq x s ≡ true) (same_Some z y e) (and_parts (availability_leq x z) (locals_leq a b) h).0))
 below_at (x ∷ a) (z ∷ b) (suc l) y h e = below_at a b l y (and_parts (availability_leq x z) (locals_leq a b) h).1 e
-
-pub reflexive_one : (x : Availability) → availability_leq x x ≡ true
-reflexive_one Unavailable = refl
-reflexive_one Available = refl
-reflexive_one Maybe = refl
 
 -- the same availability written into both
 set_below : (a b : List Availability) (l : ℕ) (x : Availability) → locals_leq a b ≡ true → locals_leq (slice_set a l x) (slice_set b l x) ≡ true

@@ -2,16 +2,16 @@
 ghost use Rattle.std.specs.Prelude.{◌≡◌, ◌<◌, [], ◌++◌, length, slice_get, zip, Option, Some, option_map, IfOk, IfSome, OnOk, IsErrOf};
 ghost use Rattle.std.specs.List.{list_all};
 ghost use Rattle.mv_move_types.specs.Module.{local_tokens, local_type, parameter_tokens};
-ghost use Rattle.mv_locals_safety.specs.LocalsRules.{leave_known, store_known, locals_after, start_locals};
+ghost use Rattle.mv_certificate_rules.specs.LocalsRules.{leave_known, store_known, locals_after, start_locals};
 ghost use Rattle.mv_locals_safety.specs.Domain.{may_stay, IsOfLocals, Follows, locals_step};
-ghost use Rattle.mv_type_states.specs.TypesHold.{point_at};
+ghost use Rattle.mv_type_rules.specs.TypesHold.{point_at};
 
 use super::Availabilities;
 use mv_binary_format::{FunctionDefinition, Module};
-use mv_bounds::Bounded;
+use mv_bound_rules::Bounded;
 use mv_lattice::{Domain, StepError};
 use mv_move_types::{Availability, Instruction, Token};
-use mv_type_states::Typed;
+use mv_type_rules::Typed;
 use std::alloc::{AllocError, Global};
 use std::marker::Model;
 
@@ -159,7 +159,7 @@ impl<'t, 'm> LocalsDomain<'t, 'm> {
     }
 
     /// Changes the availabilities as an instruction does.
-    #[tactic(auto, unfolding(crate::specs::LocalsRules::locals_after))]
+    #[tactic(auto, unfolding(mv_certificate_rules::specs::LocalsRules::locals_after))]
     fn apply(&self, instruction: Instruction, s: &mut Availabilities) -> Result<(), StepError>
         ensures { Follows result s.new (locals_after (point_at self.now.home self.now.function []) instruction s.old) }
     {
@@ -189,7 +189,7 @@ impl<'t, 'm> LocalsDomain<'t, 'm> {
 
 impl<'t, 'm> Domain for LocalsDomain<'t, 'm> {
     ghost use Rattle.std.specs.Prelude.{◌≡◌, ⊤, Option, length, IfOk, IsErrOf, IsTrue};
-    ghost use Rattle.mv_locals_safety.specs.LocalsRules.{locals_leq};
+    ghost use Rattle.mv_certificate_rules.specs.LocalsRules.{locals_leq};
     ghost use Rattle.mv_locals_safety.specs.Domain.{IsOfLocals, joined as joined_each, locals_step};
     ghost use Rattle.mv_locals_safety.specs.Laws.{locals_lawful};
 

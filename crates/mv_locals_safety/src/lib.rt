@@ -3,7 +3,7 @@
 //! ```
 //! use mv_lattice::{SolveError, solve};
 //! use mv_locals_safety::LocalsDomain;
-//! use mv_type_states::Typed;
+//! use mv_type_rules::Typed;
 //! use std::alloc::Global;
 //!
 //! /// How many locals, parameters included, a function has where its first block begins. The function has to be there.

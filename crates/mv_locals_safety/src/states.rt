@@ -3,7 +3,7 @@ ghost use Rattle.std.specs.Prelude.{◌≡◌, ◌<◌, length, slice_get, slice
 ghost use Rattle.mv_move_types.specs.declared.borrow.Availability.TheVariants.{Available};
 ghost use Rattle.std.specs.List.{list_all};
 ghost use Rattle.std.specs.Option.{option_map_or};
-ghost use Rattle.mv_locals_safety.specs.LocalsRules.{availability_leq, locals_leq, is_available, needs_available};
+ghost use Rattle.mv_certificate_rules.specs.LocalsRules.{availability_leq, locals_leq, is_available, needs_available};
 ghost use Rattle.mv_locals_safety.specs.Domain.{least_above, joined, moved_out, Follows};
 
 use mv_lattice::StepError;

@@ -17,7 +17,7 @@ use Rattle.mv_move_types.specs.declared.token.Token.TheVariants.{Plain, Referenc
 use Rattle.mv_move_types.specs.declared.tables.FunctionHandle.{FunctionHandle}
 use Rattle.mv_move_types.specs.Numbers.{leaf_number}
 use Rattle.mv_move_types.specs.Module.{Constant, Module, FunctionDefinition, parameter_tokens, StructDefinition}
-use Rattle.mv_bounds.specs.Bounds.{local_count}
+use Rattle.mv_bound_rules.specs.Bounds.{local_count}
 
 -- no reference and no signer
 abbrev pub may_be_field : Token → Bool

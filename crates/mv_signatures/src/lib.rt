@@ -16,15 +16,14 @@
 ghost use Rattle.std.specs.Prelude.{◌≡◌, is_some, OnOk, IfErr, length, nat_le, slice_get, false};
 ghost use Rattle.std.specs.List.{list_all};
 ghost use Rattle.std.specs.Option.{option_map_or};
-ghost use Rattle.mv_bounds.specs.Bounds.{local_count};
+ghost use Rattle.mv_bound_rules.specs.Bounds.{local_count};
 ghost use Rattle.mv_move_types.specs.Module.{parameter_tokens, StructDefinition as Structure};
 ghost use Rattle.mv_move_types.specs.Numbers.{leaf_number};
 ghost use Rattle.mv_move_types.specs.Tokens.{width_bytes};
 ghost use Rattle.mv_move_types.specs.Refusals.{IsRefusedIn};
 ghost use Rattle.mv_signatures.specs.Signatures.{WellSigned, is_constant, may_be_field, handle_is_small, is_plain_argument, are_entry_parameters, has_no_results, entry_fits};
 
-use mv_binary_format::{Constant, FunctionDefinition, Module, StructDefinition};
-use mv_bounds::Bounded;
+use mv_bound_rules::{Bounded, Constant, FunctionDefinition, Module, StructDefinition};
 use mv_move_types::limits::{MOST_LOCALS, MOST_PARAMETERS, MOST_RESULTS};
 use mv_move_types::{FunctionHandle, LeafKind, Refusal, Token, ValueType, Width};
 

@@ -5,13 +5,14 @@ use Rattle.std.proofs.lemmas.Option.{same_Some}
 use Rattle.mv_move_types.specs.{declared.tables.Field.Field, Names.ModuleName, Names.StructName, Names.same_module, Named.is_struct, Named.definition_of, Options.find_index}
 use Rattle.mv_move_types.specs.{Published.PublishedModule}
 use Rattle.mv_move_types.specs.Module.{Module, StructDefinition, name_at, own_name}
-use Rattle.mv_bounds.specs.{Bounds.InBounds, Definitions.WellDefined}
+use Rattle.mv_bound_rules.specs.{Bounds.InBounds, Definitions.WellDefined}
 use Rattle.mv_link_rules.specs.Link.{IsStore, IsPublishable, tables_in, have_one_name}
 use Rattle.mv_module_text.proofs.Texts.{on_bind}
-use Rattle.mv_interface.proofs.{Found.one_place, NameLemmas.same_module-same, OwnDefinitions.own-definition, OwnDefinitions.own_name-some}
+use Rattle.mv_interface.proofs.{OwnDefinitions.own-definition, OwnDefinitions.own_name-some}
+use Rattle.mv_bound_rules.proofs.{Found.one_place, NameLemmas.same_module-same}
 use Rattle.mv_soundness.proofs.Owned.{IsOwn}
 use Rattle.mv_soundness.proofs.Lists.{All-at}
-use Rattle.mv_bounds.proofs.Entries.{mapped-at}
+use Rattle.mv_bound_rules.proofs.Entries.{mapped-at}
 
 -- the structs of a module of a store are found by their names
 pub own_of_store : (published : List PublishedModule) (place : ℕ) (m : Module) → IsStore published → slice_get (tables_in published) place ≡ Some m

@@ -1,7 +1,7 @@
 -- Lists and options: an element at a place, a list the other way round, and places up to the last one.
 use Rattle.std.specs.Prelude.{option_and_then}
 use Rattle.std.proofs.{lemmas.Bool.cases_lt, lemmas.List.reverse-append, lemmas.List.map-append}
-pub use Rattle.mv_interface.proofs.Found.{at-all as All-at}
+pub use Rattle.mv_bound_rules.proofs.Found.{at-all as All-at}
 use Rattle.std.proofs.Common.{◌≡◌, ℕ, ◌<◌, ◌≤◌, ◌⊎◌, inl, inr, List, [], ◌∷◌, ◌++◌, map, reverse, refl, sym, ap, ◌∙◌, arith, Option, Some, None}
 
 -- what is within an option within another

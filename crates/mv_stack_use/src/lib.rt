@@ -1,7 +1,7 @@
 //! The height of the operand stack in a function's blocks, which is a part of phase 8 of publishing.
 //!
 //! ```
-//! use mv_bounds::Bounded;
+//! use mv_bound_rules::Bounded;
 //! use mv_move_types::Instruction;
 //!
 //! /// Whether Add takes two operands and gives one. The module has a function.
@@ -19,8 +19,7 @@ ghost use Rattle.mv_move_types.specs.Refusals.{IsRefusedIn};
 ghost use Rattle.mv_cfg.specs.FlowGraph.{IsFlowGraph};
 ghost use Rattle.mv_stack_use.specs.Heights.{function_is_level, effect, effect_of, call_effect, return_effect, pack_effect, unpack_effect, height_through, raised};
 
-use mv_binary_format::FunctionDefinition;
-use mv_bounds::Bounded;
+use mv_bound_rules::{Bounded, FunctionDefinition};
 use mv_cfg::Cfg;
 use mv_move_types::limits::MOST_OPERANDS;
 use mv_move_types::{Instruction, Refusal};

@@ -1,5 +1,4 @@
 -- One turn of a walk over a block's instructions, and one of a walk over a function's blocks.
---   types_in m d b   the types before each instruction of a block
 use Rattle.mv_type_states.proofs.Common.{[], ℕ, ◌&&◌, ◌++◌, ◌+◌, ◌-◌, ◌<◌, ◌∙◌, ◌∷◌, ◌≡◌, ◌≤◌, Bool, Err, IsSome, IsTrue, List, None, Option, Some, add-one, ap, append_assoc, arith, cond}
 use Rattle.mv_type_states.proofs.Common.{drop, false, flat_map, get_or, length, map, nat_eq, nat_le, refl, reverse, subst, sym, true, eqb-true, none-some, same_Some, list_all, slice_range}
 use Rattle.mv_type_states.proofs.Common.{FunctionDefinition, Module, ◌>>=◌, IsRefusedIn, Instruction, Refusal, Memory, Phase, Token, basic_block_of, Block, Cfg, StackEffect, block_is_level}
@@ -10,13 +9,11 @@ use Rattle.std.specs.Option.{option_map_or}
 use Rattle.std.proofs.lemmas.Bool.{le-leb, false≢true, and_parts}
 use Rattle.std.proofs.lemmas.List.{append-nil, drop_all, drop_more}
 use Rattle.mv_cfg.specs.Blocks.{BasicBlock, blocks}
+use Rattle.mv_type_rules.specs.Sound.{types_in}
 use Rattle.mv_stack_use.specs.Heights.{raised}
-use Rattle.mv_type_states.proofs.HeightLemmas.{bind_some, has_effect}
+use Rattle.mv_type_rules.proofs.Steps.{bind_some}
+use Rattle.mv_type_states.proofs.HeightLemmas.{has_effect}
 use Rattle.mv_binary_format.proofs.Binds.{cond_parts}
-
--- the types before each instruction of a block
-abbrev pub types_in : Module → FunctionDefinition → BasicBlock → List Types
-types_in m d b = types_each m d (slice_range d.code b.first (b.last + 1)) []
 
 then_some_on : (b : Bool) (n : ℕ) (f : ℕ → Option ℕ) → IsSome (then_some b n >>= f) → (b ≡ true) × IsSome (f n)
 then_some_on true n f h = (refl, h)

@@ -28,10 +28,10 @@ pub use Rattle.mv_cfg.specs.declared.Block.{Block}
 pub use Rattle.mv_cfg.specs.declared.Cfg.{Cfg}
 pub use Rattle.mv_stack_use.specs.Heights.{StackEffect, block_is_level, effect_of, function_is_level, height_through}
 pub use Rattle.mv_type_states.specs.Answers.{Follows}
-pub use Rattle.mv_type_states.specs.Graphs.{AreGraphs}
-pub use Rattle.mv_type_states.specs.Sound.{types_before, types_each}
-pub use Rattle.mv_type_states.specs.Stacks.{types_of_each}
-pub use Rattle.mv_type_states.specs.Tops.{tops_before, tops_of}
-pub use Rattle.mv_type_states.specs.TypeRules.{Types, of_return, provided, taken, takes_gives}
-unfoldable pub use Rattle.mv_type_states.specs.TypeRules.{types_after}
-pub use Rattle.mv_type_states.specs.TypesHold.{block_is_typed, function_is_typed, types_through}
+pub use Rattle.mv_type_rules.specs.Graphs.{AreGraphs}
+pub use Rattle.mv_type_rules.specs.Sound.{types_before, types_each}
+pub use Rattle.mv_type_rules.specs.Stacks.{types_of_each}
+pub use Rattle.mv_type_rules.specs.Tops.{tops_before, tops_of}
+pub use Rattle.mv_type_rules.specs.TypeRules.{Types, of_return, provided, taken, takes_gives}
+unfoldable pub use Rattle.mv_type_rules.specs.TypeRules.{types_after}
+pub use Rattle.mv_type_rules.specs.TypesHold.{block_is_typed, function_is_typed, types_through}

@@ -2,7 +2,7 @@
 use Rattle.mv_type_states.proofs.Common.{ℕ, ◌++◌, ◌∙◌, ◌≡◌, Err, List, Option, Some, ap, reverse, slice_get, sym, Module, ◌>>=◌, Refusal, Memory, Phase}
 use Rattle.mv_type_states.proofs.Common.{Token, Follows, Types, taken, takes_gives}
 use Rattle.mv_type_states.specs.Answers.{Finds}
-pub use Rattle.mv_bounds.proofs.Entries.{got, missed}
+pub use Rattle.mv_bound_rules.proofs.Entries.{got, missed}
 
 -- the signature at an index, if there is one
 pub signature_at : (m n : Module) (i j : ℕ) (o : Option (List Token)) → n ≡ m → j ≡ i → o ≡ slice_get n.signatures j → slice_get m.signatures i ≡ o

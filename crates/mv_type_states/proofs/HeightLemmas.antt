@@ -11,10 +11,11 @@ use Rattle.mv_move_types.specs.declared.instruction.Instruction.TheVariants.{Cas
 use Rattle.mv_move_types.specs.Module.{StructDefinition}
 use Rattle.mv_abilities.specs.Abilities.{value_type_abilities, token_abilities}
 use Rattle.mv_stack_use.specs.Heights.{effect, return_effect, call_effect, pack_effect, unpack_effect}
-use Rattle.mv_type_states.specs.TypeRules.{top_type, boolean, number, address, width_of, plain_of, target_of, mutable_target_of, top_width, of_two_numbers, of_shift, of_cast, of_equality}
-use Rattle.mv_type_states.specs.TypeRules.{of_pop, of_copy, of_borrow_local, keyed_type, field_types, of_mutable_field, of_immutable_field, of_call, of_pack, of_unpack, of_read, of_write}
-use Rattle.mv_type_states.specs.TypeRules.{of_freeze, of_constant, of_global, of_move_to}
-use Rattle.mv_type_states.proofs.Tokens.{lists_equal}
+use Rattle.mv_type_rules.specs.TypeRules.{top_type, boolean, number, address, width_of, plain_of, target_of, mutable_target_of, top_width, of_two_numbers, of_shift, of_cast, of_equality}
+use Rattle.mv_type_rules.specs.TypeRules.{of_pop, of_copy, of_borrow_local, keyed_type, field_types, of_mutable_field, of_immutable_field, of_call, of_pack, of_unpack, of_read, of_write}
+use Rattle.mv_type_rules.specs.TypeRules.{of_freeze, of_constant, of_global, of_move_to}
+use Rattle.mv_type_rules.proofs.Steps.{bind_some, provided_true, top_some}
+use Rattle.mv_bound_rules.proofs.Tokens.{lists_equal}
 
 -- so many are taken, and so many given
 abbrev pub Changes : ℕ → ℕ → Types → Types → Type 0
@@ -26,24 +27,11 @@ pub record HasEffect (m : Module) (d : FunctionDefinition) (i : Instruction) (s 
   pub is_effect : effect_of m d i ≡ Some effect
   pub changes : Changes effect.takes effect.gives s t
 
--- what goes on with a value has one
-pub bind_some : {A B : Type 0} (o : Option A) (f : A → Option B) (y : B) → (o >>= f) ≡ Some y → (x : A) × ((o ≡ Some x) × (f x ≡ Some y))
-bind_some None f y e = absurd (none-some y e)
-bind_some (Some x) f y e = (x, (refl, e))
-
-pub provided_true : (b : Bool) (s t : Types) → provided b s ≡ Some t → (b ≡ true) × (s ≡ t)
-provided_true true s t e = (refl, same_Some s t e)
-provided_true false s t e = absurd (none-some t e)
-
 pushed : (x : Token) (s t : Types) → Some (x ∷ s) ≡ Some t → Changes 0 1 s t
 pushed x s t e = let same = ap length (same_Some (x ∷ s) t e) in (omega arith, omega (arith, same))
 
 unchanged : (s t : Types) → Some s ≡ Some t → Changes 0 0 s t
 unchanged s t e = let same = ap length (same_Some s t e) in (omega arith, omega (arith, same))
-
-pub top_some : (s : Types) (top : Token × Types) → top_type s ≡ Some top → s ≡ top.0 ∷ top.1
-top_some [] top e = absurd (none-some top e)
-top_some (x ∷ s) top e = let same = same_Some (x, s) top e in ap (λ (p : Token × Types). p.0 ∷ p.1) same
 
 -- one is taken off and another put in its place
 replaced : (s : Types) (top : Token × Types) (x : Token) (t : Types) → top_type s ≡ Some top → Some (x ∷ top.1) ≡ Some t → Changes 1 1 s t

@@ -1,12 +1,7 @@
 pub mod Common
-pub mod Tokens
 pub mod Stacks
-pub mod Tiling
 pub mod ReturnLemmas
 pub mod LocalLemmas
 pub mod HeightLemmas
 pub mod BlockLemmas
-pub mod PartLemmas
-pub mod TopLemmas
-pub mod Functions
 pub mod Found

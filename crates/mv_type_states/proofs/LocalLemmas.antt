@@ -1,7 +1,7 @@
 -- A function's locals are its parameters and the others.
 use Rattle.mv_type_states.proofs.Common.{ℕ, ◌++◌, ◌∙◌, ◌≡◌, IfSome, List, Option, Some, ap, slice_get, sym, MatchOption-at_some, FunctionDefinition, Module, local_type, ◌>>=◌, Token}
 use Rattle.mv_move_types.specs.Module.{parameter_tokens, local_tokens}
-use Rattle.mv_bounds.proofs.FunctionLemmas.{tokens_are}
+use Rattle.mv_bound_rules.proofs.FunctionLemmas.{tokens_are}
 
 pub local_tokens-are : (m : Module) (f : ℕ) (d : FunctionDefinition) (parameters others : List Token) → slice_get m.functions f ≡ Some d
     → IfSome (slice_get m.functions f) (λ d. parameter_tokens m d ≡ Some parameters)

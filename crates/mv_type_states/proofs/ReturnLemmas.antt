@@ -1,7 +1,7 @@
 -- The types at a return, by the function's results.
 use Rattle.mv_type_states.proofs.Common.{[], ◌≡◌, List, Some, refl, reverse, slice_get, FunctionDefinition, Module, result_tokens, same_tokens, FunctionHandle, Token, Types, of_return}
 use Rattle.mv_type_states.proofs.Common.{provided}
-use Rattle.mv_type_states.proofs.HeightLemmas.{bind_some}
+use Rattle.mv_type_rules.proofs.Steps.{bind_some}
 
 by_handle : (m : Module) (d : FunctionDefinition) (h : FunctionHandle) (rs : List Token) (s : Types) → slice_get m.function_handles d.handle ≡ Some h → slice_get m.signatures h.results ≡ Some rs
     → of_return m d s ≡ provided (same_tokens s (reverse rs)) []

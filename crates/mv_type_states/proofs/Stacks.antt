@@ -113,8 +113,3 @@ alone-left rs s new e some = rw (alone rs s, e, length-reverse, ne_eqb (length n
 
 pub full_stack : (v : Vec Token Global) (r : Bool) → r ≡ nat_eq (vec_len v) 0 → r ≡ false → 0 < length v.items
 full_stack v r e t = let z : vec_len v ≡ 0 → ⊥ = eqb-false (vec_len v) 0 (sym e ∙ t) in let same = v.ok.0 in omega arith
-
--- what holds of each holds of all
-pub list_all-each : {A : Type 0} (p : A → Bool) (xs : List A) → ((i : ℕ) (x : A) → slice_get xs i ≡ Some x → IsTrue (p x)) → IsTrue (list_all p xs)
-list_all-each p [] each = refl
-list_all-each p (x ∷ xs) each = rw (each 0 x refl) (list_all-each p xs (λ i y h. each (suc i) y h))

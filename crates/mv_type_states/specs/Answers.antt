@@ -6,7 +6,7 @@ use Rattle.std.specs.Prelude.{◌≡◌, [], ◌∷◌, Option, Some, None, Resu
 use Rattle.mv_move_types.specs.declared.refusal.Refusal.{Refusal}
 use Rattle.mv_move_types.specs.declared.refusal.Refusal.TheVariants.{Phase, Memory}
 use Rattle.mv_move_types.specs.declared.token.Token.{Token}
-use Rattle.mv_type_states.specs.TypeRules.{Types}
+use Rattle.mv_type_rules.specs.TypeRules.{Types}
 
 -- the types after are these, or it is refused in phase 8 where there are none
 abbrev pub Follows : Result (Unit {0}) Refusal → Option Types → Types → Type 0

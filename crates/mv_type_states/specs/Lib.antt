@@ -1,9 +1,2 @@
-pub mod TypeRules
-pub mod TypesHold
-pub mod Sound
 pub mod Answers
 pub mod Scopes
-pub mod Stacks
-pub mod Tops
-pub mod Graphs
-pub mod TypesAt

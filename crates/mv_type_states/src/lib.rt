@@ -22,84 +22,21 @@ ghost use Rattle.mv_move_types.specs.Refusals.{IsRefusedIn};
 ghost use Rattle.mv_cfg.specs.Blocks.{FlowHolds};
 ghost use Rattle.mv_signatures.specs.Signatures.{WellSigned};
 ghost use Rattle.mv_abilities.specs.Abilities.{AbilitiesHold};
-ghost use Rattle.mv_type_states.specs.TypesHold.{TypesHold};
-ghost use Rattle.mv_type_states.specs.Graphs.{AreGraphs};
-ghost use Rattle.mv_type_states.specs.Sound.{IsSound, IsRefusedByTypes, types_before};
+ghost use Rattle.mv_type_rules.specs.TypesHold.{TypesHold};
+ghost use Rattle.mv_type_rules.specs.Graphs.{AreGraphs};
+ghost use Rattle.mv_type_rules.specs.Sound.{IsSound, IsRefusedByTypes, types_before};
 
 mod passes;
 mod rules;
 mod scope;
 mod stack;
-mod stack_types;
-mod tops;
 
-use mv_binary_format::Module;
-use mv_bounds::Bounded;
+use mv_bound_rules::Bounded;
 use mv_cfg::Cfg;
 use mv_move_types::Refusal;
+pub use mv_type_rules::{StackTypes, Tops, Typed};
 use passes::check_function;
-pub use stack_types::StackTypes;
 use std::alloc::{AllocError, Global};
-use std::marker::Model;
-pub use tops::Tops;
-
-/// A module that passed phases 3 to 8, with the flow graphs of its functions and the types before their instructions.
-#[derive(Drop)]
-pub struct Typed<'a> {
-    bounded: Bounded<'a>,
-    graphs: Vec<Cfg>,
-    stacks: Vec<StackTypes>,
-}
-
-impl<'a> Model for Typed<'a> {
-    ghost use Rattle.std.specs.Prelude.{◌≡◌, ℕ, length, map, Some, slice_get};
-    ghost use Rattle.mv_move_types.specs.Module.{Module as Tables, FunctionDefinition as FunctionTable};
-    ghost use Rattle.mv_cfg.specs.declared.Cfg.{Cfg as Graph};
-    ghost use Rattle.mv_cfg.specs.FlowGraph.{IsFlowGraph};
-    ghost use Rattle.mv_type_states.specs.Sound.{IsSound, types_before};
-
-    ghost Value = { Tables };
-
-    ghost view = { λ t. t.bounded };
-
-    ghost invariant = { λ t. IsSound t.bounded × (length t.graphs.items ≡ length t.bounded.functions)
-        × ((f : ℕ) (d : FunctionTable) (g : Graph) → slice_get t.bounded.functions f ≡ Some d → slice_get t.graphs.items f ≡ Some g → IsFlowGraph d.code g)
-        × (t.stacks.items ≡ map (types_before t.bounded) t.bounded.functions) };
-}
-
-impl<'a> Typed<'a> {
-    /// The module, as phases 3 and 4 left it.
-    pub fn bounded(&self) -> &Bounded<'a>
-        ensures value { result.now ≡ self.now }
-        ensures sound { IsSound self.now }
-    {
-        &self.bounded
-    }
-
-    /// The module.
-    pub fn module(&self) -> &Module<'a>
-        ensures value { result.now ≡ self.now }
-        ensures sound { IsSound self.now }
-    {
-        self.bounded.module()
-    }
-
-    /// The flow graph of function `f`.
-    pub fn graph(&self, f: usize) -> &Cfg
-        requires { f < length self.now.functions }
-        ensures { IfSome (slice_get self.now.functions f) (λ d. IsFlowGraph d.code result.now) }
-    {
-        &self.graphs[f]
-    }
-
-    /// The types of the whole stack before each instruction of function `f`.
-    pub fn stack_types(&self, f: usize) -> &StackTypes
-        requires { f < length self.now.functions }
-        ensures { IfSome (slice_get self.now.functions f) (λ d. result.now ≡ types_before self.now d) }
-    {
-        &self.stacks[f]
-    }
-}
 
 /// The flow graphs of all functions, in order; refused in phase 7 where a function has none.
 fn flow_graphs(alloc: Global, m: &Bounded<'_>) -> Result<Vec<Cfg>, Refusal>
@@ -143,12 +80,8 @@ pub fn check<'a>(alloc: Global, m: Bounded<'a>) -> Result<Typed<'a>, Refusal>
     ensures ok { IfOk result (λ t. t ≡ m.entry) }
     ensures refused { IfErr result (IsRefusedByTypes m.entry) }
 {
-    let found = try_phases(alloc, &m)?;
-    Ok(Typed {
-        bounded: m,
-        graphs: found.0,
-        stacks: found.1,
-    })
+    let (graphs, stacks) = try_phases(alloc, &m)?;
+    Ok(Typed::new(m, graphs, stacks))
 }
 
 /// Tries the phases in turn: the flow graphs of the functions, and the types before their instructions.

@@ -3,16 +3,16 @@ ghost use Rattle.std.specs.Prelude.{◌≡◌, ◌<◌, ◌++◌, length, revers
 ghost use Rattle.mv_move_types.specs.Refusals.{IsRefusedIn};
 ghost use Rattle.mv_cfg.specs.FlowGraph.{IsFlowGraph};
 ghost use Rattle.mv_stack_use.specs.Heights.{height_through, function_is_level};
-ghost use Rattle.mv_type_states.specs.TypesHold.{types_through, function_is_typed};
-ghost use Rattle.mv_type_states.specs.Sound.{types_each, types_before};
+ghost use Rattle.mv_type_rules.specs.TypesHold.{types_through, function_is_typed};
+ghost use Rattle.mv_type_rules.specs.Sound.{types_each, types_before};
 ghost use Rattle.mv_type_states.specs.Answers.{Follows};
 ghost use Rattle.mv_type_states.specs.Scopes.{IsScope};
 
 use super::scope::{Scope, scope_of};
-use super::stack_types::StackTypes;
-use mv_bounds::Bounded;
+use mv_bound_rules::Bounded;
 use mv_cfg::Cfg;
 use mv_move_types::{Instruction, Refusal, Token};
+use mv_type_rules::StackTypes;
 use std::alloc::Global;
 
 /// Carries the types on a stack through these instructions, for which there is always room, and lists those before each.

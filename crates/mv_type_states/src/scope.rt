@@ -1,13 +1,13 @@
 // A function, and what each of its instructions does to the types on the stack.
 ghost use Rattle.std.specs.Prelude.{◌<◌, length, reverse};
-ghost use Rattle.mv_type_states.specs.TypeRules.{types_after};
+ghost use Rattle.mv_type_rules.specs.TypeRules.{types_after};
 ghost use Rattle.mv_type_states.specs.Answers.{Follows};
 ghost use Rattle.mv_type_states.specs.Scopes.{IsScope, IsScopeOf};
 
 use crate::rules::{control, globals, locals, numbers, references, structs};
 use crate::stack::{BOOLEAN, exchange, exchange_two, number, pop, push};
 use mv_binary_format::FunctionDefinition;
-use mv_bounds::Bounded;
+use mv_bound_rules::Bounded;
 use mv_move_types::{Instruction, Refusal, Token, Width};
 
 /// A function of a module, by its place. On a stack the last type is the topmost.
@@ -38,7 +38,7 @@ pub fn scope_of<'s, 'a>(m: &'s Bounded<'a>, f: usize) -> Scope<'s, 'a>
 
 impl<'s, 'a> Scope<'s, 'a> {
     /// Puts the types after an instruction in place of those before it; refused in phase 8 where they aren't what it needs.
-    #[tactic(auto, unfolding(crate::specs::TypeRules::types_after))]
+    #[tactic(auto, unfolding(mv_type_rules::specs::TypeRules::types_after))]
     pub fn step(&self, instruction: Instruction, stack: &mut Vec<Token>) -> Result<(), Refusal>
         requires { IsScope self.now }
         ensures { Follows result (types_after self.now.module.now self.now.function.now instruction (reverse stack.old.items)) (reverse stack.new.items) }

@@ -2,10 +2,10 @@
 ghost use Rattle.std.specs.Prelude.{◌≡◌, ◌++◌, ◌∷◌, [], map, reverse, Some, IfErr};
 ghost use Rattle.mv_move_types.specs.Tokens.{same_token};
 ghost use Rattle.mv_abilities.specs.Abilities.{token_abilities};
-ghost use Rattle.mv_type_states.specs.TypeRules.{taken, takes_gives, number as number_type};
+ghost use Rattle.mv_type_rules.specs.TypeRules.{taken, takes_gives, number as number_type};
 ghost use Rattle.mv_type_states.specs.Answers.{Follows, Finds, TakesTop};
 
-use mv_bounds::Bounded;
+use mv_bound_rules::Bounded;
 use mv_move_types::{Abilities, Field, LeafKind, Refusal, Token, ValueType, Width};
 
 /// The type of a bool.

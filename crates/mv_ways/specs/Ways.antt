@@ -44,7 +44,8 @@ changed_leads change leads = map (λ (l : Lead). a_lead l.source (change l.label
 abbrev pub leads_at : List (List Lead) → ℕ → List Lead
 leads_at listed place = slice_index_or listed place []
 
--- what leads to a way, by what leads to the earlier ones
+-- What leads to a way, by what leads to the earlier ones. A copy of a mutable reference is lent by the original, and goes over its way
+-- too: all that leads to the original leads to the copy.
 abbrev pub leads_of : List (List Lead) → Way → List Lead
 leads_of listed (Stated leads) = leads.items
 leads_of listed (Lent source over) = option_map_or (leads_at listed) over [] ++ a_lead source here ∷ []

@@ -16,10 +16,11 @@ pub fn of_repository(name: &str) -> PathBuf {
     PathBuf::from(concat!(env!("CARGO_MANIFEST_DIR"), "/../..")).join(name)
 }
 
-/// The rows of a text in one of the files of crates/moveledger_tests: `# what it shows`, and a line each for what is given and
-/// what is wanted.
+/// The rows of a text in one of the files of crates/moveledger_tests, or of moveledger_command_tests: `# what it shows`, and a line each
+/// for what is given and what is wanted.
 pub fn rows(file: &str, text: &str) -> Vec<Row> {
-    let file = of_repository("crates/moveledger_tests/src/tests").join(file);
+    let tests = if file == "rows.rt" { "moveledger_tests" } else { "moveledger_command_tests" };
+    let file = of_repository(&format!("crates/{tests}/src/tests")).join(file);
     let source = fs::read_to_string(file).expect("the rows are there");
     let (_, behind) = source.split_once(&format!("const {text}: &str = r")).expect("the text is there");
     let (text, _) = behind.split_once("\";").or_else(|| behind.split_once("\"#;")).expect("the text ends");

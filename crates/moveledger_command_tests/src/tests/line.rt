@@ -1,10 +1,9 @@
 // The command line, and how the program ends. The words that are refused stand in scripts/try-exits.
 
 use moveledger::{
-    End, EngineError, KeepError, Task, command, end_of, end_of_check, end_of_keeping, end_of_proof,
-    fault_text, status,
+    End, EngineError, KeepError, ProveError, Task, command, end_of, end_of_check, end_of_keeping,
+    end_of_proof, fault_text, status,
 };
-use mv_analyser::ProveError;
 use mv_move_types::Refusal;
 use std::alloc::Global;
 use std::process::Abort;

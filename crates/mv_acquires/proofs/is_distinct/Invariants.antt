@@ -1,5 +1,5 @@
 use Rattle.std.proofs.Common.{◌≡◌, ◌==◌, ◌≤◌, ℕ, true, length, drop}
-use Rattle.mv_bounds.specs.Definitions.{all_differ}
+use Rattle.mv_bound_rules.specs.Definitions.{all_differ}
 use Rattle.mv_acquires.specs.Acquires.{has_member}
 use Rattle.mv_acquires.specs.Marks.{is_marked}
 use Rattle.mv_acquires.proofs.is_distinct.Given as goal

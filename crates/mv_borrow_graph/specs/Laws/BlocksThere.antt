@@ -18,20 +18,20 @@ use Rattle.mv_cfg.specs.Graph.{IsBlock}
 use Rattle.mv_cfg.specs.FlowGraph.{IsFlowGraph, basic_block_of, first_of}
 use Rattle.mv_cfg.proofs.Beginnings.{blocks_at-get, length-blocks_at}
 use Rattle.mv_cfg.proofs.Tiling.{inside-block}
-use Rattle.mv_type_states.specs.TypeRules.{Types, types_after}
-use Rattle.mv_type_states.specs.TypesHold.{types_through, block_is_typed, point_at}
-use Rattle.mv_type_states.specs.Sound.{types_each, types_before}
+use Rattle.mv_type_rules.specs.TypeRules.{Types, types_after}
+use Rattle.mv_type_rules.specs.TypesHold.{types_through, block_is_typed, point_at}
+use Rattle.mv_type_rules.specs.Sound.{types_each, types_before}
 use Rattle.mv_lattice.specs.Flow.{carried, through}
 use Rattle.mv_edges.specs.Edges.{Edge}
 use Rattle.mv_edges.specs.Sorted.{sorted}
-use Rattle.mv_type_states.proofs.HeightLemmas.{bind_some}
-use Rattle.mv_borrow_graph.specs.BorrowRules.{edges_after}
+use Rattle.mv_type_rules.proofs.Steps.{bind_some}
+use Rattle.mv_certificate_rules.specs.BorrowRules.{edges_after}
 use Rattle.mv_borrow_graph.specs.Domain.{ordered, edges_step}
-use Rattle.mv_borrow_graph.specs.Nodes.{edge_is_there, are_there, may_begin_with, IsGraphOf}
+use Rattle.mv_certificate_rules.specs.Nodes.{edge_is_there, are_there, may_begin_with, IsGraphOf}
 use Rattle.mv_borrow_graph.specs.Laws.There.{each_sorted}
 use Rattle.mv_borrow_graph.specs.Laws.KeptThere.{HasPlainFields, after_there}
 use Rattle.mv_borrow_graph.specs.Laws.Standing.{Stands, Stands-head, Stands-tail, Stands-range, length-range, Stands-types, block_at}
-use Rattle.mv_bounds.proofs.Entries.{all_at, none_within}
+use Rattle.mv_bound_rules.proofs.Entries.{all_at, none_within}
 
 -- none of the instructions is a return
 abbrev NoReturn : List Instruction → Type 0

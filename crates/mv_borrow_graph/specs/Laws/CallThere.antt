@@ -12,14 +12,14 @@ use Rattle.mv_move_types.specs.declared.borrow.Node.TheVariants.{Slot, Own, Glob
 use Rattle.mv_move_types.specs.declared.token.Token.{Token}
 use Rattle.mv_move_types.specs.declared.token.Token.TheVariants.{Plain, Reference, MutableReference}
 use Rattle.mv_move_types.specs.Module.{Module, FunctionDefinition}
-use Rattle.mv_type_states.specs.TypeRules.{Types}
-use Rattle.mv_type_states.specs.TypesHold.{Point, point_at}
+use Rattle.mv_type_rules.specs.TypeRules.{Types}
+use Rattle.mv_type_rules.specs.TypesHold.{Point, point_at}
 use Rattle.mv_edges.specs.Edges.{Edge, same_node, opened, inherited, without, without_each}
 use Rattle.mv_edges.proofs.Insertion.{contains_here, contains_cases, all_contains, all_from_contains, all_filter}
 use Rattle.mv_edges.proofs.Related.{list_any_from}
 use Rattle.mv_edges.proofs.Sorting.{any_passes}
-use Rattle.mv_borrow_graph.specs.BorrowRules.{is_mutable_token, is_reference_token, no_edge_out, reference_nodes, opened_edges, result_edges}
-use Rattle.mv_borrow_graph.specs.Nodes.{has_place, leads_out, leads_in, edge_is_there, are_there}
+use Rattle.mv_certificate_rules.specs.BorrowRules.{is_mutable_token, is_reference_token, no_edge_out, reference_nodes, opened_edges, result_edges}
+use Rattle.mv_certificate_rules.specs.Nodes.{has_place, leads_out, leads_in, edge_is_there, are_there}
 use Rattle.mv_borrow_graph.specs.Laws.Places.{is_under, has_over, under_apart, out_stays, either_place}
 use Rattle.mv_borrow_graph.specs.Laws.Shifts.{Shift}
 use Rattle.mv_borrow_graph.specs.Laws.There.{node_itself, there_parts, there_from, each_append, each_inherited, each_flat, neither, edge_stays}

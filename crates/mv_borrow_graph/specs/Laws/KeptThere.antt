@@ -24,14 +24,14 @@ use Rattle.mv_move_types.specs.declared.tables.FunctionHandle.{FunctionHandle}
 use Rattle.mv_move_types.specs.Options.{◌>>=◌}
 use Rattle.mv_move_types.specs.Module.{Module, FunctionDefinition, StructDefinition, local_type, own_acquires}
 use Rattle.mv_binary_format.proofs.Binds.{then_some_parts}
-use Rattle.mv_type_states.specs.TypeRules.{Types, types_after, boolean, number, address, keyed_type, field_types}
-use Rattle.mv_type_states.specs.TypesHold.{Point, point_at}
+use Rattle.mv_type_rules.specs.TypeRules.{Types, types_after, boolean, number, address, keyed_type, field_types}
+use Rattle.mv_type_rules.specs.TypesHold.{Point, point_at}
 use Rattle.mv_edges.specs.Edges.{Edge, same_node, here, inherited, agrees, out_of, without, renamed, an_edge, without_each}
-use Rattle.mv_type_states.proofs.HeightLemmas.{bind_some}
-use Rattle.mv_borrow_graph.specs.BorrowRules.{edges_after, is_mutable_token, is_reference_token, is_mutable, next_temp, top_temp, no_edge_out}
-use Rattle.mv_borrow_graph.specs.BorrowRules.{no_mutable_from, copy_edges, move_edges, store_edges, field_edges, position_of, global_edges}
-use Rattle.mv_borrow_graph.specs.BorrowRules.{reference_nodes, result_edges, call_edges}
-use Rattle.mv_borrow_graph.specs.Nodes.{are_there}
+use Rattle.mv_type_rules.proofs.Steps.{bind_some}
+use Rattle.mv_certificate_rules.specs.BorrowRules.{edges_after, is_mutable_token, is_reference_token, is_mutable, next_temp, top_temp, no_edge_out}
+use Rattle.mv_certificate_rules.specs.BorrowRules.{no_mutable_from, copy_edges, move_edges, store_edges, field_edges, position_of, global_edges}
+use Rattle.mv_certificate_rules.specs.BorrowRules.{reference_nodes, result_edges, call_edges}
+use Rattle.mv_certificate_rules.specs.Nodes.{are_there}
 use Rattle.mv_borrow_graph.specs.Laws.Shifts.{Shift, PlainShift, is_plain, exchanged, plain_exchanged, plain_taken, plain_pushed, unchanged}
 use Rattle.mv_borrow_graph.specs.Laws.Shifts.{constant_shift, two_numbers_shift, equality_shift, shift_shift, cast_shift, pack_shift, unpack_shift}
 use Rattle.mv_borrow_graph.specs.Laws.Shifts.{global_shift, plain_global, move_to_shift, pop_shift, copy_shift, move_shift, store_shift, borrow_shift}
@@ -39,7 +39,7 @@ use Rattle.mv_borrow_graph.specs.Laws.Shifts.{mutable_field_shift, immutable_fie
 use Rattle.mv_borrow_graph.specs.Laws.RowsThere.{plain_row, top_row, write_row, second_row, freeze_row, field_row, global_row}
 use Rattle.mv_borrow_graph.specs.Laws.RowsThere.{lent_at, copied_at, child_at, moved_at, stored_at, local_is}
 use Rattle.mv_borrow_graph.specs.Laws.CallThere.{call_row}
-use Rattle.mv_bounds.proofs.Entries.{all_at}
+use Rattle.mv_bound_rules.proofs.Entries.{all_at}
 
 -- no field is a reference, and none is the 33rd
 pub record HasPlainFields (m : Module) : Type 0 where

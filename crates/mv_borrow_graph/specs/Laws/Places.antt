@@ -9,18 +9,18 @@ use Rattle.std.specs.Option.{option_map_or}
 use Rattle.std.proofs.lemmas.Bool.{and_parts, and_from, ltb-true, lt-ltb, false≢true, cases_lt, ne_eqb}
 use Rattle.std.proofs.lemmas.List.{reverse-append, length-reverse}
 use Rattle.std.proofs.lemmas.List.Folds.{list_all-append}
-use Rattle.mv_bounds.proofs.PlaceLemmas.{slice_get-first, slice_get-second}
+use Rattle.mv_bound_rules.proofs.PlaceLemmas.{slice_get-first, slice_get-second}
 use Rattle.mv_move_types.specs.declared.borrow.Node.{Node}
 use Rattle.mv_move_types.specs.declared.borrow.Node.TheVariants.{Slot, Own, Glob, Temp}
 use Rattle.mv_move_types.specs.declared.token.Token.{Token}
 use Rattle.mv_move_types.specs.declared.token.Token.TheVariants.{Plain, Reference, MutableReference}
 use Rattle.mv_move_types.specs.Module.{Module, FunctionDefinition}
-use Rattle.mv_type_states.specs.TypeRules.{Types}
-use Rattle.mv_type_states.specs.TypesHold.{Point, point_at}
+use Rattle.mv_type_rules.specs.TypeRules.{Types}
+use Rattle.mv_type_rules.specs.TypesHold.{Point, point_at}
 use Rattle.mv_edges.specs.Edges.{same_node}
-use Rattle.mv_borrow_graph.specs.BorrowRules.{is_mutable_token, is_reference_token}
-use Rattle.mv_borrow_graph.specs.Nodes.{has_place, leads_out, leads_in}
-use Rattle.mv_bounds.proofs.Entries.{all_at}
+use Rattle.mv_certificate_rules.specs.BorrowRules.{is_mutable_token, is_reference_token}
+use Rattle.mv_certificate_rules.specs.Nodes.{has_place, leads_out, leads_in}
+use Rattle.mv_bound_rules.proofs.Entries.{all_at}
 
 -- the node is no operand from this place on
 abbrev pub is_under : ℕ → Node → Bool

@@ -16,8 +16,8 @@ use Rattle.mv_move_types.specs.declared.instruction.Instruction.TheVariants.{Mut
 use Rattle.mv_move_types.specs.declared.instruction.Instruction.TheVariants.{ImmBorrowGlobal, MoveFrom, MoveTo, FreezeRef}
 use Rattle.mv_move_types.specs.Options.{◌>>=◌}
 use Rattle.mv_move_types.specs.Module.{Module, FunctionDefinition, local_type, own_acquires}
-use Rattle.mv_type_states.specs.TypesHold.{Point, point_at}
-use Rattle.mv_type_states.specs.Sound.{types_before}
+use Rattle.mv_type_rules.specs.TypesHold.{Point, point_at}
+use Rattle.mv_type_rules.specs.Sound.{types_before}
 use Rattle.mv_edges.specs.Edges.{Edge, Label, here, extended, opened, agrees, out_of, but_out_of, inherited, without, renamed, an_edge}
 use Rattle.mv_edges.specs.Edges.{edges_leq, label_leq, without_each}
 use Rattle.mv_edges.specs.Related.{edges_related}
@@ -27,10 +27,10 @@ use Rattle.mv_edges.proofs.Related.{related_from_contains}
 use Rattle.mv_edges.proofs.Changes.{IsRising, IsKept, order_kept, nodes_rise, label_rises, both_rise, none_passes_below, none_out_below}
 use Rattle.mv_edges.proofs.Changes.{none_out_passes_below, related-append, related-flat_map, related-sorted, related-without}
 use Rattle.mv_edges.proofs.Changes.{related-but_out_of, related-renamed, related-inherited}
-use Rattle.mv_borrow_graph.specs.BorrowRules.{next_temp, top_temp, is_mutable, is_reference_token, is_mutable_token, is_root_node, is_temp}
-use Rattle.mv_borrow_graph.specs.BorrowRules.{no_edge_out, no_mutable_from, copy_edges, move_edges, store_edges, field_edges, mutable_field_edges}
-use Rattle.mv_borrow_graph.specs.BorrowRules.{immutable_field_edges, position_of, reference_nodes, opened_edges, result_edges}
-use Rattle.mv_borrow_graph.specs.BorrowRules.{call_edges, return_edges, edges_after}
+use Rattle.mv_certificate_rules.specs.BorrowRules.{next_temp, top_temp, is_mutable, is_reference_token, is_mutable_token, is_root_node, is_temp}
+use Rattle.mv_certificate_rules.specs.BorrowRules.{no_edge_out, no_mutable_from, copy_edges, move_edges, store_edges, field_edges, mutable_field_edges}
+use Rattle.mv_certificate_rules.specs.BorrowRules.{immutable_field_edges, position_of, reference_nodes, opened_edges, result_edges}
+use Rattle.mv_certificate_rules.specs.BorrowRules.{call_edges, return_edges, edges_after}
 use Rattle.mv_borrow_graph.specs.Domain.{ordered, edges_step}
 
 module _ (le : Label → Label → Bool) (kept : IsKept le) where

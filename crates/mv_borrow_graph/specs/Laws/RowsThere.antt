@@ -12,12 +12,12 @@ use Rattle.mv_move_types.specs.declared.token.ValueType.{ValueType}
 use Rattle.mv_move_types.specs.declared.token.Token.{Token}
 use Rattle.mv_move_types.specs.declared.token.Token.TheVariants.{Plain}
 use Rattle.mv_move_types.specs.Module.{Module, FunctionDefinition, local_type}
-use Rattle.mv_type_states.specs.TypeRules.{Types}
-use Rattle.mv_type_states.specs.TypesHold.{Point, point_at}
+use Rattle.mv_type_rules.specs.TypeRules.{Types}
+use Rattle.mv_type_rules.specs.TypesHold.{Point, point_at}
 use Rattle.mv_edges.specs.Edges.{Label, Edge, same_node, here, extended, inherited, without, renamed, an_edge}
 use Rattle.mv_edges.proofs.Insertion.{all_weaker}
-use Rattle.mv_borrow_graph.specs.BorrowRules.{is_mutable_token, is_reference_token, next_temp, top_temp, field_edges, global_edges}
-use Rattle.mv_borrow_graph.specs.Nodes.{has_place, has_local, leads_out, leads_in, edge_is_there, are_there}
+use Rattle.mv_certificate_rules.specs.BorrowRules.{is_mutable_token, is_reference_token, next_temp, top_temp, field_edges, global_edges}
+use Rattle.mv_certificate_rules.specs.Nodes.{has_place, has_local, leads_out, leads_in, edge_is_there, are_there}
 use Rattle.mv_borrow_graph.specs.Laws.Places.{is_under, plain_none, has_over, under_apart, out_stays, in_stays, out_under, in_under, out_free, in_free}
 use Rattle.mv_borrow_graph.specs.Laws.Shifts.{Shift, PlainShift, is_plain}
 use Rattle.mv_borrow_graph.specs.Laws.There.{IsThere, there_parts, there_from, is_small, each_filter, each_append, each_one, same_node-is}

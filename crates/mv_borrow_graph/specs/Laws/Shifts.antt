@@ -16,15 +16,15 @@ use Rattle.mv_move_types.specs.Tokens.{same_value_type, same_tokens}
 use Rattle.mv_move_types.specs.Options.{◌>>=◌}
 use Rattle.mv_move_types.specs.Module.{Module, StructDefinition, FunctionDefinition, local_type}
 use Rattle.mv_abilities.specs.Abilities.{value_type_abilities, token_abilities}
-use Rattle.mv_type_states.specs.TypeRules.{Types, top_type, taken, takes_gives, boolean, number, address, width_of, plain_of, target_of}
-use Rattle.mv_type_states.specs.TypeRules.{mutable_target_of, top_width, of_two_numbers, of_shift, of_cast, of_equality, of_pop, of_copy}
-use Rattle.mv_type_states.specs.TypeRules.{of_borrow_local, keyed_type, field_types, of_mutable_field, of_immutable_field, of_pack, of_unpack}
-use Rattle.mv_type_states.specs.TypeRules.{of_read, of_write, of_freeze, of_constant, of_global, of_move_to}
-use Rattle.mv_type_states.proofs.Tokens.{lists_equal}
-use Rattle.mv_type_states.proofs.HeightLemmas.{bind_some, provided_true, top_some}
-use Rattle.mv_borrow_graph.specs.BorrowRules.{is_reference_token}
+use Rattle.mv_type_rules.specs.TypeRules.{Types, top_type, taken, takes_gives, boolean, number, address, width_of, plain_of, target_of}
+use Rattle.mv_type_rules.specs.TypeRules.{mutable_target_of, top_width, of_two_numbers, of_shift, of_cast, of_equality, of_pop, of_copy}
+use Rattle.mv_type_rules.specs.TypeRules.{of_borrow_local, keyed_type, field_types, of_mutable_field, of_immutable_field, of_pack, of_unpack}
+use Rattle.mv_type_rules.specs.TypeRules.{of_read, of_write, of_freeze, of_constant, of_global, of_move_to}
+use Rattle.mv_bound_rules.proofs.Tokens.{lists_equal}
+use Rattle.mv_type_rules.proofs.Steps.{bind_some, provided_true, top_some}
+use Rattle.mv_certificate_rules.specs.BorrowRules.{is_reference_token}
 use Rattle.mv_borrow_graph.specs.Laws.Places.{all_reverse}
-use Rattle.mv_bounds.proofs.Entries.{all_at}
+use Rattle.mv_bound_rules.proofs.Entries.{all_at}
 
 -- whether a type is no reference
 abbrev pub is_plain : Token → Bool

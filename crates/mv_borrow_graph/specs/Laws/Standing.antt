@@ -5,7 +5,7 @@ use Rattle.std.specs.List.{list_all, slice_range}
 use Rattle.std.specs.Option.{option_map_or}
 use Rattle.std.proofs.lemmas.Bool.{and_parts, false≢true}
 use Rattle.std.proofs.lemmas.Option.{none-some, same_Some, slice_get-map, slice_get_within}
-use Rattle.mv_bounds.proofs.PlaceLemmas.{slice_get-first, slice_get-second}
+use Rattle.mv_bound_rules.proofs.PlaceLemmas.{slice_get-first, slice_get-second}
 use Rattle.mv_move_types.specs.declared.instruction.Instruction.{Instruction}
 use Rattle.mv_move_types.specs.Options.{◌>>=◌}
 use Rattle.mv_move_types.specs.Module.{Module, FunctionDefinition}
@@ -14,10 +14,10 @@ use Rattle.mv_cfg.specs.declared.Cfg.{Cfg}
 use Rattle.mv_cfg.specs.Blocks.{BasicBlock, blocks}
 use Rattle.mv_cfg.specs.Graph.{IsBlock}
 use Rattle.mv_cfg.specs.FlowGraph.{IsFlowGraph, basic_block_of}
-use Rattle.mv_type_states.specs.TypeRules.{Types, types_after}
-use Rattle.mv_type_states.specs.TypesHold.{types_through, block_is_typed, function_is_typed}
-use Rattle.mv_type_states.specs.Sound.{types_each, types_before}
-use Rattle.mv_type_states.proofs.BlockLemmas.{types_in}
+use Rattle.mv_type_rules.specs.TypeRules.{Types, types_after}
+use Rattle.mv_type_rules.specs.TypesHold.{types_through, block_is_typed, function_is_typed}
+use Rattle.mv_type_rules.specs.Sound.{types_each, types_before}
+use Rattle.mv_type_rules.specs.Sound.{types_in}
 use Rattle.mv_cfg.proofs.Tiling.{Tiles, blocks-tile}
 
 -- a list stands in another from a place on

@@ -8,15 +8,15 @@ use Rattle.std.proofs.lemmas.List.Folds.{list_all-append, list_all-map}
 use Rattle.mv_move_types.specs.declared.borrow.Node.{Node}
 use Rattle.mv_move_types.specs.declared.borrow.Node.TheVariants.{Temp}
 use Rattle.mv_move_types.specs.Module.{Module, FunctionDefinition}
-use Rattle.mv_type_states.specs.TypeRules.{Types}
-use Rattle.mv_type_states.specs.TypesHold.{Point, point_at}
+use Rattle.mv_type_rules.specs.TypeRules.{Types}
+use Rattle.mv_type_rules.specs.TypesHold.{Point, point_at}
 use Rattle.mv_edges.specs.Edges.{Label, Edge, same_node, inherited, into, without, renamed, renamed_node}
 use Rattle.mv_edges.specs.Equality.{same_node_decides}
 use Rattle.mv_edges.specs.Sorted.{sorted}
 use Rattle.mv_edges.proofs.Insertion.{all_weaker, all_contains, all_from_contains}
 use Rattle.mv_edges.proofs.Sorting.{contains-sorted}
-use Rattle.mv_borrow_graph.specs.BorrowRules.{is_reference_token}
-use Rattle.mv_borrow_graph.specs.Nodes.{has_place, leads_out, leads_in, edge_is_there, are_there}
+use Rattle.mv_certificate_rules.specs.BorrowRules.{is_reference_token}
+use Rattle.mv_certificate_rules.specs.Nodes.{has_place, leads_out, leads_in, edge_is_there, are_there}
 use Rattle.mv_borrow_graph.specs.Laws.Places.{is_under, out_stays, in_stays, out_under, in_under, out_free, in_free}
 
 -- whether each position of a label is one of a field

@@ -9,8 +9,8 @@ ghost use Rattle.mv_ways.specs.Graph.{taken_over};
 ghost use Rattle.mv_move_types.specs.Module.{own_acquires};
 ghost use Rattle.mv_edges.specs.Ascending.{are_ascending};
 ghost use Rattle.mv_edges.specs.Sorted.{sorted};
-ghost use Rattle.mv_borrow_graph.specs.BorrowRules.{call_edges, is_mutable, is_mutable_token, is_reference_token, is_root_node, is_temp, no_edge_out};
-ghost use Rattle.mv_borrow_graph.specs.BorrowRules.{opened_edges, reference_nodes, result_edges, return_edges};
+ghost use Rattle.mv_certificate_rules.specs.BorrowRules.{call_edges, is_mutable, is_mutable_token, is_reference_token, is_root_node, is_temp, no_edge_out};
+ghost use Rattle.mv_certificate_rules.specs.BorrowRules.{opened_edges, reference_nodes, result_edges, return_edges};
 ghost use Rattle.mv_borrow_graph.specs.Domain.{Follows, ordered};
 
 use crate::changes::keep;
@@ -104,7 +104,7 @@ fn tie_if(
 struct Operands;
 
 impl NodeSet for Operands {
-    ghost use Rattle.mv_borrow_graph.specs.BorrowRules.{is_temp};
+    ghost use Rattle.mv_certificate_rules.specs.BorrowRules.{is_temp};
 
     ghost test = { λ s n. is_temp n };
 
@@ -120,7 +120,7 @@ struct HoldingAt<'s, 'd, 'm> {
 }
 
 impl<'s, 'd, 'm> Model for HoldingAt<'s, 'd, 'm> {
-    ghost use Rattle.mv_type_states.specs.TypesHold.{Point};
+    ghost use Rattle.mv_type_rules.specs.TypesHold.{Point};
 
     ghost Value = { Point };
 
@@ -129,7 +129,7 @@ impl<'s, 'd, 'm> Model for HoldingAt<'s, 'd, 'm> {
 
 impl<'s, 'd, 'm> NodeSet for HoldingAt<'s, 'd, 'm> {
     ghost use Rattle.std.specs.Prelude.{◌||◌, ◌&&◌};
-    ghost use Rattle.mv_borrow_graph.specs.BorrowRules.{is_mutable, is_root_node, is_temp};
+    ghost use Rattle.mv_certificate_rules.specs.BorrowRules.{is_mutable, is_root_node, is_temp};
 
     ghost test = { λ p n. is_root_node n || is_temp n && is_mutable p n };
 

@@ -1,5 +1,5 @@
 // Globals, borrowed.
-ghost use Rattle.mv_borrow_graph.specs.BorrowRules.{edges_after};
+ghost use Rattle.mv_certificate_rules.specs.BorrowRules.{edges_after};
 ghost use Rattle.mv_borrow_graph.specs.Domain.{Follows, ordered};
 
 use crate::changes::lend;
@@ -11,7 +11,7 @@ use mv_ways::Graph;
 
 impl<'d, 'm> Site<'d, 'm> {
     /// Borrows a global mutably: no edge may lead out of the struct's globals.
-    #[tactic(auto, unfolding(crate::specs::BorrowRules::edges_after))]
+    #[tactic(auto, unfolding(mv_certificate_rules::specs::BorrowRules::edges_after))]
     pub fn borrow_global_mutably(&self, definition: u16, s: &mut Graph) -> Result<(), StepError>
         ensures { Follows result s.new (ordered (edges_after self.now (Instruction.MutBorrowGlobal definition) s.old)) }
     {
@@ -20,7 +20,7 @@ impl<'d, 'm> Site<'d, 'm> {
     }
 
     /// Borrows a global: no edge may lead from the struct's globals to a mutable reference.
-    #[tactic(auto, unfolding(crate::specs::BorrowRules::edges_after))]
+    #[tactic(auto, unfolding(mv_certificate_rules::specs::BorrowRules::edges_after))]
     pub fn borrow_global(&self, definition: u16, s: &mut Graph) -> Result<(), StepError>
         ensures { Follows result s.new (ordered (edges_after self.now (Instruction.ImmBorrowGlobal definition) s.old)) }
     {

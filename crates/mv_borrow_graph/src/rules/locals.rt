@@ -3,7 +3,7 @@ ghost use Rattle.std.specs.Prelude.{◌≡◌, ◌++◌, Err, OnOk, IsTrue};
 ghost use Rattle.mv_edges.specs.Edges.{inherited};
 ghost use Rattle.mv_edges.specs.Sorted.{sorted};
 ghost use Rattle.mv_edges.specs.Ascending.{are_ascending};
-ghost use Rattle.mv_borrow_graph.specs.BorrowRules.{edges_after, next_temp};
+ghost use Rattle.mv_certificate_rules.specs.BorrowRules.{edges_after, next_temp};
 ghost use Rattle.mv_borrow_graph.specs.Domain.{Follows, ordered, places_reference};
 
 use crate::changes::{keep, lend};
@@ -24,7 +24,7 @@ impl<'d, 'm> Site<'d, 'm> {
 
     /// Copies a local: the new reference has the edges of its original, and a mutable one is also its child. A value takes no
     /// memory.
-    #[tactic(auto, unfolding(crate::specs::BorrowRules::edges_after))]
+    #[tactic(auto, unfolding(mv_certificate_rules::specs::BorrowRules::edges_after))]
     pub fn copy_local(&self, local: u16, s: &mut Graph) -> Result<(), StepError>
         requires { IsTrue (are_ascending s.old) }
         ensures after { Follows result s.new (ordered (edges_after self.now (Instruction.CopyLoc local) s.old)) }
@@ -48,7 +48,7 @@ impl<'d, 'm> Site<'d, 'm> {
     }
 
     /// Moves a local: a reference takes its edges along, and a value, which takes no memory, may have none.
-    #[tactic(auto, unfolding(crate::specs::BorrowRules::edges_after))]
+    #[tactic(auto, unfolding(mv_certificate_rules::specs::BorrowRules::edges_after))]
     pub fn move_local(&self, local: u16, s: &mut Graph) -> Result<(), StepError>
         requires { IsTrue (are_ascending s.old) }
         ensures after { Follows result s.new (ordered (edges_after self.now (Instruction.MoveLoc local) s.old)) }
@@ -67,7 +67,7 @@ impl<'d, 'm> Site<'d, 'm> {
     }
 
     /// Stores into a local: a reference takes its edges along, and an overwritten value, which takes no memory, may have none.
-    #[tactic(auto, unfolding(crate::specs::BorrowRules::edges_after))]
+    #[tactic(auto, unfolding(mv_certificate_rules::specs::BorrowRules::edges_after))]
     pub fn store_local(&self, local: u16, s: &mut Graph) -> Result<(), StepError>
         requires { IsTrue (are_ascending s.old) }
         ensures after { Follows result s.new (ordered (edges_after self.now (Instruction.StLoc local) s.old)) }
@@ -87,7 +87,7 @@ impl<'d, 'm> Site<'d, 'm> {
     }
 
     /// Borrows a local mutably: no edge may lead out of its value.
-    #[tactic(auto, unfolding(crate::specs::BorrowRules::edges_after))]
+    #[tactic(auto, unfolding(mv_certificate_rules::specs::BorrowRules::edges_after))]
     pub fn borrow_local_mutably(&self, local: u16, s: &mut Graph) -> Result<(), StepError>
         ensures { Follows result s.new (ordered (edges_after self.now (Instruction.MutBorrowLoc local) s.old)) }
     {
@@ -96,7 +96,7 @@ impl<'d, 'm> Site<'d, 'm> {
     }
 
     /// Borrows a local: no edge may lead from its value to a mutable reference.
-    #[tactic(auto, unfolding(crate::specs::BorrowRules::edges_after))]
+    #[tactic(auto, unfolding(mv_certificate_rules::specs::BorrowRules::edges_after))]
     pub fn borrow_local(&self, local: u16, s: &mut Graph) -> Result<(), StepError>
         ensures { Follows result s.new (ordered (edges_after self.now (Instruction.ImmBorrowLoc local) s.old)) }
     {

@@ -3,7 +3,7 @@ ghost use Rattle.std.specs.Prelude.{◌≡◌, ◌&&◌, not, slice_get, Some, E
 ghost use Rattle.std.specs.List.{list_any};
 ghost use Rattle.mv_edges.specs.Edges.{agrees, out_of, but_out_of};
 ghost use Rattle.std.specs.Bool.{then_some};
-ghost use Rattle.mv_borrow_graph.specs.BorrowRules.{edges_after, is_mutable, no_mutable_from, position_of, top_temp, field_edges};
+ghost use Rattle.mv_certificate_rules.specs.BorrowRules.{edges_after, is_mutable, no_mutable_from, position_of, top_temp, field_edges};
 ghost use Rattle.mv_borrow_graph.specs.Domain.{Finds, Follows, ordered};
 
 use crate::site::{MutableAt, Site};
@@ -41,7 +41,7 @@ impl<'d, 'm> Site<'d, 'm> {
     }
 
     /// Borrows a field mutably: no edge out of the operand may agree with the field.
-    #[tactic(auto, unfolding(crate::specs::BorrowRules::edges_after))]
+    #[tactic(auto, unfolding(mv_certificate_rules::specs::BorrowRules::edges_after))]
     pub fn borrow_field_mutably(
         &self,
         alloc: Global,
@@ -72,7 +72,7 @@ impl<'d, 'm> Site<'d, 'm> {
     }
 
     /// Borrows a field: no edge out of the operand that agrees with the field may lead to a mutable reference.
-    #[tactic(auto, unfolding(crate::specs::BorrowRules::edges_after))]
+    #[tactic(auto, unfolding(mv_certificate_rules::specs::BorrowRules::edges_after))]
     pub fn borrow_field(&self, alloc: Global, field: u16, s: &mut Graph) -> Result<(), StepError>
         ensures { Follows result s.new (ordered (edges_after self.now (Instruction.ImmBorrowField field) s.old)) }
     {

@@ -4,7 +4,7 @@ use Rattle.mv_move_types.specs.Module.{FunctionDefinition}
 use Rattle.mv_cfg.specs.Steps.{BranchesInside}
 use Rattle.mv_cfg.proofs.Targets.{branches-inside}
 use Rattle.mv_cfg.proofs.blocks.Goals as goal
-use Rattle.mv_bounds.proofs.Entries.{element_at}
+use Rattle.mv_bound_rules.proofs.Entries.{element_at}
 
 pub graph-requires-clause-inside : goal.graph-requires-clause-inside
 graph-requires-clause-inside c =

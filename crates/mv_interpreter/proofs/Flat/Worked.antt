@@ -11,7 +11,7 @@ use Rattle.mv_machine.specs.Step.{held, move_local, borrow_local, own_struct, pa
 use Rattle.mv_machine.specs.StepReferences.{own_field, borrow_field, read_reference, write_reference, freeze}
 use Rattle.mv_machine.specs.StepControl.{said_by, found_by, callee, call, branch_if, abort}
 use Rattle.mv_machine.proofs.Coin.{coin_module, mint, one_coin}
-use Rattle.mv_type_states.specs.TypeRules.{types_after}
+use Rattle.mv_type_rules.specs.TypeRules.{types_after}
 use Rattle.mv_lowering.specs.Linked.{linked}
 use Rattle.mv_interpreter.specs.{Flat.FlatStep.apply, Flat.FlatRun.flat_turns, Flat.FlatRun.flat_run}
 

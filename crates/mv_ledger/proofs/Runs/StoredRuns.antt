@@ -4,7 +4,7 @@ use Rattle.mv_ledger.proofs.Common.{storage_of, LedgerState, settled, Told, Tall
 use Rattle.mv_ledger.proofs.Common.{tables_in, Agrees, told, told_ending, IsSettled, run_of, tally_after, IsNamed, IsSmall, all_of, state_of, tallied, view_of, Call, Tally}
 use Rattle.mv_ledger.proofs.Common.{unwrap_or, name_at, StructName, Definition, packs_at, unpacks_at, Count, tally_with, packs, unpacks, Event, some-of, nameless, Tallies}
 use Rattle.std.proofs.Common.{refl, subst}
-use Rattle.mv_soundness.specs.Words.{IsFineWords}
+use Rattle.mv_ledger_state.specs.View.{IsFineWords}
 use Rattle.mv_machine.specs.declared.Outcome.{Outcome}
 use Rattle.mv_machine.specs.declared.Ending.{Ending}
 use Rattle.mv_ledger.specs.Changes.{RunsTo}

@@ -8,11 +8,11 @@ use Rattle.mv_ledger_state.proofs.Common.{IsPublished, Passes}
 use Rattle.mv_move_types.specs.declared.borrow.Availability.TheVariants.{Unavailable, Available}
 use Rattle.mv_move_types.specs.declared.instruction.Instruction.TheVariants.{Call}
 use Rattle.mv_uleb.specs.Uleb.{uleb}
-use Rattle.mv_locals_safety.specs.LocalsRules.{locals_after}
-use Rattle.mv_type_states.specs.TypeRules.{types_after}
-use Rattle.mv_borrow_graph.specs.BorrowRules.{edges_after}
+use Rattle.mv_certificate_rules.specs.LocalsRules.{locals_after}
+use Rattle.mv_type_rules.specs.TypeRules.{types_after}
+use Rattle.mv_certificate_rules.specs.BorrowRules.{edges_after}
 use Rattle.mv_machine.specs.Ledger.{admitted}
-use Rattle.mv_certificate.specs.Shape.{StatedFits, AllStatedFit, known_fits}
+use Rattle.mv_certificate_rules.specs.Shape.{StatedFits, AllStatedFit, known_fits}
 use Rattle.mv_ledger_state.proofs.Accepted.Stores.{published_store}
 use Rattle.mv_ledger_state.proofs.Accepted.Sound.{RunFits, empty_sound, published_sound}
 

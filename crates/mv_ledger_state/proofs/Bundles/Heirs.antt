@@ -8,7 +8,7 @@ use Rattle.mv_ledger_state.proofs.Common.{function_stays, may_replace, same_fiel
 use Rattle.std.proofs.lemmas.Slice.Eq.{bytes_eq-Decides}
 use Rattle.mv_ledger_state.proofs.Bundles.Places.{one_own}
 use Rattle.mv_ledger_state.proofs.Bundles.Places.{had}
-use Rattle.mv_interface.proofs.Found.{passing, found_passes}
+use Rattle.mv_bound_rules.proofs.Found.{passing, found_passes}
 use Rattle.mv_linker.proofs.Joining.Upgraded.{stays-at}
 use Rattle.std.proofs.lemmas.Option.{option_and_then_some}
 

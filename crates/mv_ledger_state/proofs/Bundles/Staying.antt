@@ -7,9 +7,9 @@ use Rattle.mv_ledger_state.proofs.Common.{StructHandle, Abilities, Boolean, Toke
 use Rattle.mv_ledger_state.proofs.Common.{storage_of, struct_from, value_from, value_under, Storage, abilities_at, are_of_types, is_fine_entry, is_fine_storage, is_of_struct, is_of_type, leaf_fits, Leaf}
 use Rattle.mv_ledger_state.proofs.Common.{More, NoMore, Ref, Struct, Value, Values, all_at, then_found, same_struct-is, same_tag-is, IsStore, tables_in, struct_is_there, structs_are_there, same_field}
 use Rattle.mv_ledger_state.proofs.Common.{same_fields, own_of_store, IsOwn, IsFineWords, IsAcceptedBy}
-use Rattle.mv_interface.specs.TypesByName.{token_named, value_type_named}
+use Rattle.mv_bound_rules.specs.TypesByName.{token_named, value_type_named}
 use Rattle.mv_ledger_state.proofs.Bundles.Heirs.{Inherits, inherited, stayed, name-stays, Stayed}
-use Rattle.mv_interface.proofs.Found.{passing, found_passes}
+use Rattle.mv_bound_rules.proofs.Found.{passing, found_passes}
 use Rattle.mv_linker.proofs.Joining.Resolving.{structs_there_at}
 use Rattle.std.proofs.lemmas.Option.{option_and_then_some}
 

@@ -10,7 +10,7 @@ use Rattle.mv_machine.specs.StepControl.{signature_tags}
 use Rattle.mv_ledger_state.proofs.Counting.Counts.{held-entered, held-reverse, kept-entered}
 use Rattle.mv_ledger_state.proofs.Counting.Keeps.{effect-fine, effect-balances, left-none}
 use Rattle.mv_ledger_state.proofs.Counting.Packs.{each-get}
-use Rattle.mv_interface.proofs.Found.{passing}
+use Rattle.mv_bound_rules.proofs.Found.{passing}
 
 -- ---- the function of the first frame
 

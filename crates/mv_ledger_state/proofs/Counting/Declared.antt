@@ -5,7 +5,7 @@ use Rattle.mv_ledger_state.proofs.Common.{on_bind, map-is, count, count_in, coun
 use Rattle.mv_ledger_state.proofs.Common.{AreKept, IsKept, StorageIsKept}
 use Rattle.mv_ledger_state.proofs.Bundles.Heirs.{Inherits, Stayed, stayed}
 use Rattle.mv_ledger_state.proofs.Counting.Packs.{HandlesDeclared, each-declared, each-get}
-use Rattle.mv_interface.proofs.Found.{passing, found_passes}
+use Rattle.mv_bound_rules.proofs.Found.{passing, found_passes}
 use Rattle.std.proofs.lemmas.Option.{option_and_then_some}
 
 -- the module and the definition that declare a struct

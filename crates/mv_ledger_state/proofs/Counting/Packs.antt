@@ -7,7 +7,7 @@ use Rattle.mv_ledger_state.proofs.Common.{value_type_abilities, WhereOk, map-is,
 use Rattle.mv_ledger_state.proofs.Common.{tag_of, value_type_tag, Leaf, Ref, Struct, Value, fields_of, all_at, same_abilities-is, same_tag-is, struct_is_there, structs_are_there, on_found, IsAbleStore}
 use Rattle.mv_ledger_state.proofs.Common.{Allows, AreKept, IsKept, StackIsKept}
 use Rattle.mv_machine.specs.StepStructs.{own_struct}
-use Rattle.mv_interface.proofs.Found.{passing}
+use Rattle.mv_bound_rules.proofs.Found.{passing}
 use Rattle.mv_linker.proofs.Joining.Resolving.{structs_there_at}
 
 -- ---- the abilities that a tag stands for

@@ -7,7 +7,7 @@ use Rattle.mv_ledger_state.proofs.Common.{Leaf, More, NoMore, Struct, Value, Val
 use Rattle.mv_ledger_state.proofs.Counting.Counts.{declared-abilities}
 use Rattle.mv_ledger_state.proofs.Counting.Packs.{HandlesDeclared, each-declared, each-get, implied}
 use Rattle.mv_ledger_state.proofs.Counting.Declared.{definition-declared}
-use Rattle.mv_interface.proofs.Found.{passing, found_passes}
+use Rattle.mv_bound_rules.proofs.Found.{passing, found_passes}
 use Rattle.std.proofs.lemmas.Option.{option_and_then_some}
 
 -- a struct's definition, as far as abilities go

@@ -5,7 +5,7 @@ use Rattle.mv_ledger_state.proofs.Common.{sum_by_more_le_part, sum_by, IsStrictl
 use Rattle.mv_ledger_state.proofs.Common.{HasRoomLeft, IsRoomFor, tally_after, ArePlaced, all_of, Tally}
 use Rattle.mv_ledger_state.proofs.Runs.TalliesAfter.{map-then}
 use Rattle.mv_ledger_state.proofs.Runs.TalliesFound.{tally-other, with_counts}
-use Rattle.mv_bounds.proofs.Entries.{All-first, All-second}
+use Rattle.mv_bound_rules.proofs.Entries.{All-first, All-second}
 
 -- ---- an entry has room
 

@@ -9,7 +9,7 @@ use Rattle.mv_ledger_state.specs.Parts.Saving.{struct_under}
 use Rattle.mv_ledger_state.proofs.Accepted.Stores.{accepted_store}
 use Rattle.mv_ledger_state.proofs.Loads.LeafKinds.{HasLeaves, struct-leaves}
 use Rattle.mv_binary_format.proofs.Back.{filter-shorter}
-use Rattle.mv_type_states.proofs.Functions.{if_found}
+use Rattle.mv_type_rules.proofs.Functions.{if_found}
 use Rattle.mv_frames.proofs.Counts.{definition-to}
 
 -- a stored value as it is read

@@ -7,7 +7,7 @@ use Rattle.mv_ledger_state.proofs.Common.{on_found, AreAbove, IsAscending, is_ke
 use Rattle.mv_ledger_state.proofs.Counting.Stored.{above-below, before-clash}
 use Rattle.mv_ledger_state.proofs.SavedOnce.{IsOneOn, in_parts, whole-one, uleb-one, counted-one, of_struct-one}
 use Rattle.mv_ledger_state.proofs.Lists.{all-front, all-back}
-use Rattle.mv_interface.proofs.Found.{passing}
+use Rattle.mv_bound_rules.proofs.Found.{passing}
 use Rattle.mv_ledger_state.specs.Parts.Saving.{struct_under}
 
 -- ---- lists

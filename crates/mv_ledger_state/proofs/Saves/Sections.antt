@@ -5,7 +5,7 @@ use Rattle.mv_ledger_state.proofs.Common.{option_map_or, All, IsSome, OnOk, slic
 use Rattle.mv_ledger_state.proofs.Common.{element_at, coded, kinds_under, structs_in, AddsValue, AreSections, HasOneMore, IsAdded, IsEmpty, definition_at, is_same_definition, section_at, sections_of, Section}
 use Rattle.mv_ledger_state.specs.Parts.Saving.{struct_under}
 use Rattle.mv_storage.proofs.PlaceLemmas.{slice_get-set_same, slice_get-set_other}
-use Rattle.mv_bounds.proofs.Entries.{last_or_before}
+use Rattle.mv_bound_rules.proofs.Entries.{last_or_before}
 
 -- ---- empty sections
 

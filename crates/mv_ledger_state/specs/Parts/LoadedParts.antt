@@ -22,7 +22,7 @@ use Rattle.mv_machine.specs.Ledger.{Offer}
 use Rattle.mv_machine.specs.Lines.{Tallied}
 use Rattle.mv_machine.specs.State.{Storage}
 use Rattle.mv_storage.specs.FlatStorage.{FlatStorage}
-use Rattle.mv_certificate.specs.Certificate.{Certificate}
+use Rattle.mv_certificate_rules.specs.Certificate.{Certificate}
 use Rattle.mv_ledger_state.specs.declared.saved.loading.LoadError.{LoadError}
 use Rattle.mv_ledger_state.specs.declared.saved.loading.LoadError.TheVariants.{Head as NoHead, Module as NoModule, Link as NoLink}
 use Rattle.mv_ledger_state.specs.declared.saved.loading.LoadError.TheVariants.{Body as NoBody, Tally as NoTally, Memory}

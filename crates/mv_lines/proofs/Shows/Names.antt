@@ -7,8 +7,8 @@ use Rattle.mv_lines.proofs.Common.{IsPublishable, IsStore, tables_in, IsPlain, i
 use Rattle.mv_lines.proofs.Common.{cond, cons_option, filter_map, is_scarce_struct, key_text, map, nameless, option_map_or, scarce_name, scarce_structs, tallied, unwrap_or}
 use Rattle.std.specs.Fmt.{digits, digits_onto, digit_glyph}
 use Rattle.mv_machine.specs.Lines.{address_text, struct_text}
-use Rattle.mv_interface.proofs.Found.{at-all}
-use Rattle.mv_bounds.proofs.Entries.{mapped-at}
+use Rattle.mv_bound_rules.proofs.Found.{at-all}
+use Rattle.mv_bound_rules.proofs.Entries.{mapped-at}
 use Rattle.mv_module_text.proofs.Numbers.{byte_small}
 
 -- ---- numbers and addresses

@@ -8,7 +8,7 @@ use Rattle.mv_linker.specs.DependencyGraph.{AreNeeds, DependsOnThose}
 use Rattle.mv_linker.specs.Places.{has}
 use Rattle.mv_linker.proofs.Lemmas.{Contains-at, at-Contains, depends_on-from, depends_on-is, have_one_name-from, have_one_name-is, kept_at, module_place-from, module_place-is}
 use Rattle.mv_linker.proofs.Lemmas.{name_at_one, element_at}
-use Rattle.mv_interface.proofs.Found.{kept_from}
+use Rattle.mv_bound_rules.proofs.Found.{kept_from}
 
 -- the handles' places without a module's own are those of the modules that it depends on
 module _ (modules : List Module) (m : Module) (own : ℕ) (places : List ℕ) (here : slice_get modules own ≡ Some m) (once : all_differ have_one_name modules ≡ true)

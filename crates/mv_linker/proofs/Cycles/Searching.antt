@@ -10,9 +10,9 @@ use Rattle.mv_linker.proofs.Common.{slice_get-first, slice_get_within, subst, sy
 use Rattle.mv_linker.specs.Places.{has, IsWithin}
 use Rattle.mv_linker.specs.Settled.{AreSettled, IsNext, IsSearched, IsSettled, LeadsTo, LeadsToSettled}
 use Rattle.mv_linker.proofs.Lemmas.{Contains-at, at-Contains, element_at}
-use Rattle.mv_interface.proofs.Found.{slice_get-take}
+use Rattle.mv_bound_rules.proofs.Found.{slice_get-take}
 use Rattle.mv_linker.proofs.Cycles.Settled.{one-settled}
-use Rattle.mv_bounds.proofs.Entries.{last_or_before}
+use Rattle.mv_bound_rules.proofs.Entries.{last_or_before}
 
 -- a place of the chain that the search is on
 pub record IsOpen (modules : List Module) (base : ℕ) (met done : List ℕ) (p : ℕ) : Type 0 where

@@ -4,7 +4,7 @@ use Rattle.mv_linker.proofs.Common.{find_index, get_or, have_one_name, inl, inr,
 use Rattle.mv_linker.proofs.Common.{slice_get-get_or, slice_get_within, suc, sym, true, unwrap_or, with_table, with_tables, zero}
 use Rattle.std.proofs.lemmas.List.Quantifiers.{position-Some}
 use Rattle.mv_linker.proofs.Lemmas.{Among, found_at}
-use Rattle.mv_interface.proofs.Found.{any_found, position-find_index}
+use Rattle.mv_bound_rules.proofs.Found.{any_found, position-find_index}
 use Rattle.mv_linker.proofs.Members.{first_differs, rest_differ, turned}
 use Rattle.mv_linker.proofs.Joining.Scopes.{get-with_table, kept-there, newest_at}
 use Rattle.std.proofs.lemmas.Map.Keys.{any_passes_from_place}

@@ -7,7 +7,7 @@ use Rattle.mv_linker.proofs.Lemmas.{among-at, among-result, differ-result, all_a
 use Rattle.mv_linker.proofs.Joining.Assembling.{joining-offered}
 use Rattle.mv_linker.proofs.Joining.Bundled.{bundle-at, old-at, place-at}
 use Rattle.mv_linker.proofs.Cycles.DependencyLemmas.{length-places}
-use Rattle.mv_interface.proofs.Found.{position-find_index}
+use Rattle.mv_bound_rules.proofs.Found.{position-find_index}
 use Rattle.mv_linker.proofs.ListTests.{find_index-none}
 use Rattle.mv_linker.proofs.Joining.StillThere.{Joining}
 use Rattle.std.proofs.lemmas.Map.Keys.{any_passes_from_place}

@@ -10,9 +10,9 @@ use Rattle.mv_linker.proofs.Common.{Abilities, Bool, FunctionHandle, IsFunctionI
 use Rattle.mv_linker.proofs.Common.{refl, same_Some, slice_get, slice_get_within, struct_abilities, sym}
 use Rattle.mv_interface.specs.Identifiers.{struct_identifier}
 use Rattle.mv_interface.specs.Outline.{IsFunctionNamed, IsOutline, IsStructNamed, OutlineView, StructOutline}
-use Rattle.mv_interface.proofs.Found.{map_as_bind}
+use Rattle.mv_bound_rules.proofs.Found.{map_as_bind}
 use Rattle.mv_linker.proofs.Lemmas.{element_at, found_at, struct_named_so, struct_parts}
-use Rattle.mv_interface.proofs.NameLemmas.{named_in}
+use Rattle.mv_bound_rules.proofs.NameLemmas.{named_in}
 use Rattle.mv_interface.proofs.OwnDefinitions.{own_handle, struct-at}
 use Rattle.mv_linker.proofs.Joining.Upgraded.{so-struct}
 use Rattle.mv_interface.proofs.OutlineLemmas.{named-place, no-function-named}

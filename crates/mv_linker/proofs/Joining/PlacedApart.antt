@@ -2,7 +2,7 @@
 use Rattle.mv_linker.proofs.Common.{ℕ, ◌==◌, ◌∙◌, ◌≡◌, List, Module, Some, all_differ, ap, arith, eq-eqb, eqb-true, have_one_name, is_some, own_name, places_in, position, refl, same_Some, slice_get, slice_get_within}
 use Rattle.mv_linker.proofs.Common.{all_named, sym, true}
 use Rattle.mv_linker.proofs.Lemmas.{all_at, element_at, have_one_name-from, some-of}
-use Rattle.mv_interface.proofs.Found.{find_first, one_place, position-find_index}
+use Rattle.mv_bound_rules.proofs.Found.{find_first, one_place, position-find_index}
 use Rattle.mv_linker.proofs.Cycles.DependencyLemmas.{length-places}
 use Rattle.mv_linker.proofs.Joining.Bundled.{bundle-at}
 

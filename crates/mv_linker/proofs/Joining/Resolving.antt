@@ -6,8 +6,8 @@ use Rattle.mv_linker.proofs.Common.{length, length_push, list_all, list_any, mod
 use Rattle.mv_linker.proofs.Common.{refl, same_abilities, same_Some, second_so, slice_get, slice_get_past, slice_get_within, struct_is_there, struct_matches, structs_are_there, subst, suc}
 use Rattle.mv_linker.proofs.Common.{sym, own_name, true, zero}
 use Rattle.mv_linker.proofs.Lemmas.{all-among, among-all, among-any, among-at, at-among, found_at, past_from, place_below}
-use Rattle.mv_interface.proofs.NameLemmas.{module_place-is, named_in}
-use Rattle.mv_bounds.proofs.Entries.{last_or_before}
+use Rattle.mv_bound_rules.proofs.NameLemmas.{module_place-is, named_in}
+use Rattle.mv_bound_rules.proofs.Entries.{last_or_before}
 
 -- the module of the name that a target has
 target_named : (modules : List Module) (m : Module) (h : ℕ) (t : Target) (is : IsTarget modules m h t) → module_named modules is.name ≡ Some is.home

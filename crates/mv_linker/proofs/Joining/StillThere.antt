@@ -10,7 +10,7 @@ use Rattle.mv_linker.proofs.Lemmas.{Among, all-among, among-any, among-at, any-a
 use Rattle.mv_linker.proofs.Lemmas.{passing, so-named}
 use Rattle.mv_linker.proofs.Joining.Upgraded.{Replaces, both-there, declared-stays}
 use Rattle.mv_link_rules.proofs.TagTests.{same_tags-is, same_tags-same}
-use Rattle.mv_interface.proofs.NameLemmas.{is_module-from}
+use Rattle.mv_bound_rules.proofs.NameLemmas.{is_module-from}
 use Rattle.mv_interface.proofs.OwnDefinitions.{function_named_so}
 
 -- a bundle that may join old modules

@@ -10,7 +10,7 @@ use Rattle.mv_interface.specs.Shapes.{is_of_value}
 use Rattle.mv_interface.specs.TypesByDefinition.{are_types, is_part, is_type, same_definition}
 use Rattle.mv_interface.specs.declared.interface.LinkedType.TheVariants.{Plain as Value, Reference as ReferenceTo, MutableReference as MutableReferenceTo}
 use Rattle.mv_linker.proofs.Lemmas.{past_from}
-use Rattle.mv_interface.proofs.NameLemmas.{same_struct-is, same_struct-same}
+use Rattle.mv_bound_rules.proofs.NameLemmas.{same_struct-is, same_struct-same}
 use Rattle.mv_linker.proofs.Kept.HandleDefinitions.{name-found}
 
 -- two tests that pass together are one

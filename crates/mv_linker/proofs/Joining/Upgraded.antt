@@ -5,8 +5,8 @@ use Rattle.mv_linker.proofs.Common.{option_map_or, own_name, refl, same_abilitie
 use Rattle.mv_linker.proofs.Common.{structs_stay, subst, suc, sym, true, zero}
 use Rattle.std.proofs.lemmas.Option.{option_and_then_some}
 use Rattle.mv_linker.proofs.Lemmas.{found_at, map_as_bind, struct_named_so}
-use Rattle.mv_interface.proofs.NameLemmas.{same_struct-same, named_in}
-use Rattle.mv_interface.proofs.Found.{find_first, found_first}
+use Rattle.mv_bound_rules.proofs.NameLemmas.{same_struct-same, named_in}
+use Rattle.mv_bound_rules.proofs.Found.{find_first, found_first}
 use Rattle.mv_interface.proofs.OwnDefinitions.{OwnsStructs}
 
 -- ---- tests of two parts that are there

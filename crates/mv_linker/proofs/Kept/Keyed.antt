@@ -1,5 +1,5 @@
 -- A map from names to texts finds and takes what the list of its modules says.
-pub use Rattle.mv_interface.proofs.Found.{position-find_index}
+pub use Rattle.mv_bound_rules.proofs.Found.{position-find_index}
 use Rattle.mv_linker.proofs.Common.{[], ◌&&◌, ◌==◌, ◌∙◌, ◌∷◌, ◌≡◌, AreKeyed, Bool, List, ModuleName, Name}
 use Rattle.mv_linker.proofs.Common.{Some, Texts, ap, arith, bytes_eq, find_index, keys_of, module_place, name_in, nat_eq_equiv}
 use Rattle.mv_linker.proofs.Common.{own_name, position, published_as, published_under, refl, same_module, suc, tables_in}

@@ -6,9 +6,9 @@ use Rattle.mv_linker.proofs.Common.{arith, name_at, name_in, name_of_struct, own
 use Rattle.mv_linker.proofs.Common.{slice_get-map, subst, sym, tables_in}
 use Rattle.mv_linker.proofs.Lemmas.{among-at, element_at, own-definition, owns-structs, past_from, struct_parts}
 use Rattle.mv_linker.proofs.Joining.Assembling.{passed-among}
-use Rattle.mv_interface.proofs.Found.{at-all}
+use Rattle.mv_bound_rules.proofs.Found.{at-all}
 use Rattle.mv_linker.proofs.LinkedCode.StoredCodes.{module-there}
-use Rattle.mv_interface.proofs.NameLemmas.{named_in}
+use Rattle.mv_bound_rules.proofs.NameLemmas.{named_in}
 
 -- no struct stands where there is no identifier
 pub unnamed-there : (modules : List Module) (codes : List Code) (place index : ℕ) (code : Code) → AreCodesOf modules codes → slice_get codes place ≡ Some code

@@ -1,7 +1,7 @@
 -- A module that may replace another has each of its public functions.
 use Rattle.mv_linker.proofs.Common.{ℕ, ◌&&◌, ◌>>=◌, ◌||◌, ◌∙◌, ◌≡◌, FunctionDefinition, List, Module, Some, and_parts, ap, bytes_eq, false, function_named, function_place, function_stays, have_one_type}
 use Rattle.mv_linker.proofs.Common.{is_public, list_all, may_replace, name_of_function, not, on_bind, option_map_or, same_Some, second_so, slice_get, structs_stay, sym, true}
-use Rattle.mv_interface.proofs.Found.{found_at, passing}
+use Rattle.mv_bound_rules.proofs.Found.{found_at, passing}
 use Rattle.mv_linker.proofs.Lemmas.{all-among, among-at}
 use Rattle.mv_interface.proofs.OwnDefinitions.{function_named_so}
 

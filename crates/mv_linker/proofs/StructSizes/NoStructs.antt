@@ -1,7 +1,7 @@
 -- The sizes of the structs of a bundle that defines none.
 use Rattle.mv_linker.proofs.Common.{[], ℕ, ◌==◌, ◌∙◌, ◌∷◌, ◌≡◌, AreSizes, AreSmall, Bool, List, Module, New, Size, Some, and_parts, ap, eqb-true, length, length-map, list_all, map}
 use Rattle.mv_linker.proofs.Common.{nil_from_length, none-some, offered, refl, same_Some, slice_get, struct_is_small, suc, sym, true, zero}
-use Rattle.mv_bounds.proofs.Entries.{mapped-at}
+use Rattle.mv_bound_rules.proofs.Entries.{mapped-at}
 
 abbrev pub defines_none : New → Bool
 defines_none n = length n.module.structs == 0

@@ -6,7 +6,7 @@ use Rattle.mv_linker.proofs.Common.{length-map, list_all, lt-leb, lt-ltb, ltb, l
 use Rattle.mv_linker.proofs.Common.{rows_after, same_Some, size_at, size_of_struct, size_of_token, slice_get, slice_get-map, slice_get_past, slice_get_within, small_size, struct_is_small}
 use Rattle.mv_linker.proofs.Common.{struct_name, subst, suc, sum_of_fields, sym, take, total_of, true, unwrap_or, zero}
 use Rattle.mv_linker.proofs.Lemmas.{all_from, all_at, name_parts, passing, past_from, element_at}
-use Rattle.mv_interface.proofs.Found.{some_fails}
+use Rattle.mv_bound_rules.proofs.Found.{some_fails}
 
 -- the rows of the first modules, and of one more
 pub rows_more : (rows : List (List (Option Size))) (ms : List Module) (ds : List (List Defined)) (i : ℕ) (m : Module) (d : List Defined) → slice_get ms i ≡ Some m → slice_get ds i ≡ Some d

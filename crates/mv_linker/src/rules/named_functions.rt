@@ -13,14 +13,14 @@ ghost use Rattle.mv_linker.specs.Matches.{IsOf, function_matches};
 ghost use Rattle.mv_link_rules.specs.StoreRules.{function_fits, function_is_there};
 ghost use Rattle.mv_linker.specs.Targets.{modules_in};
 ghost use Rattle.mv_interface.specs.TypesByDefinition.{are_types};
-ghost use Rattle.mv_interface.specs.TypesByName.{both_there};
+ghost use Rattle.mv_bound_rules.specs.TypesByName.{both_there};
 
 use crate::rules::named_modules::{Found, Target};
 use crate::rules::named_structs::{definition, target_at};
 use crate::rules::pushed::pushed;
 use crate::rules::scope::Scope;
 use mv_binary_format::{FunctionDefinition, Module};
-use mv_bounds::function_places;
+use mv_bound_rules::function_places;
 use mv_interface::{
     Interface, LinkedType, function_handle, have_one_name, is_public, is_signature, names_own,
     same_signature,

@@ -14,7 +14,7 @@ use crate::rules::named_modules::Target;
 use crate::rules::pushed::pushed;
 use crate::rules::scope::Scope;
 use mv_binary_format::Module;
-use mv_bounds::struct_places;
+use mv_bound_rules::struct_places;
 use mv_interface::{Outline, are_same};
 use mv_move_types::{Definition, Refusal, StructHandle};
 use std::alloc::Global;

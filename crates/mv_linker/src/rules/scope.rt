@@ -1,7 +1,7 @@
 // A store and a bundle that is to join it, with the place of each module of the bundle.
 ghost use Rattle.std.specs.Prelude.{◌≡◌, ◌+◌, ◌≤◌, ◌==◌, Some, IsTrue, length, position, slice_get, IfOk, OnOk};
 ghost use Rattle.mv_move_types.specs.Module.{own_name as name_of_module};
-ghost use Rattle.mv_bounds.specs.Definitions.{all_differ};
+ghost use Rattle.mv_bound_rules.specs.Definitions.{all_differ};
 ghost use Rattle.mv_linker.specs.Indexed.{ArePlacesOf};
 ghost use Rattle.mv_linker.specs.Kept.{name_in};
 ghost use Rattle.mv_link_rules.specs.Link.{IsStore, tables_in, have_one_name};

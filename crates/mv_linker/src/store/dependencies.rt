@@ -2,7 +2,7 @@
 ghost use Rattle.std.specs.Prelude.{◌≡◌, ◌<◌, All, List, Some, slice_get, IfOk, IsTrue};
 ghost use Rattle.mv_move_types.specs.Module.{Module};
 ghost use Rattle.mv_move_types.specs.Named.{have_one_name};
-ghost use Rattle.mv_bounds.specs.Definitions.{all_differ};
+ghost use Rattle.mv_bound_rules.specs.Definitions.{all_differ};
 ghost use Rattle.mv_linker.specs.DependencyGraph.{AreHandlePlaces, AreNeeds, others};
 
 use crate::store::places::Places;

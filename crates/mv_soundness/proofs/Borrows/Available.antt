@@ -2,7 +2,7 @@
 use Rattle.mv_soundness.proofs.Borrows.Common.{refl, sym, ◌≡◌, ℕ, List, [], ◌∷◌, true, subst, zero, suc, ◌++◌, map, length, Option, Some, None, arith, and_from, and_parts}
 use Rattle.mv_soundness.proofs.Borrows.Common.{true≢false, same_Some, list_all, slice_get, slice_set, replicate, Availability, Token, Here, can_drop, Value, Point, local_of, on_bind}
 use Rattle.mv_move_types.specs.declared.borrow.Availability.TheVariants.{Unavailable, Available, Maybe}
-use Rattle.mv_locals_safety.specs.LocalsRules.{availability_leq, locals_leq, is_available, needs_available, has_drop, may_overwrite, may_leave}
+use Rattle.mv_certificate_rules.specs.LocalsRules.{availability_leq, locals_leq, is_available, needs_available, has_drop, may_overwrite, may_leave}
 use Rattle.mv_soundness.specs.{Borrows.Covers.IsAs}
 use Rattle.mv_soundness.proofs.{Borrows.Locals.DropFits, Borrows.Locals.AsKnown}
 use Rattle.mv_machine.specs.{StepParts.may_drop}

@@ -11,17 +11,17 @@ use Rattle.std.specs.Prelude.{if◌then◌else◌}
 use Rattle.std.proofs.{lemmas.Bool.ne_eqb, lemmas.List.length-drop, lemmas.List.take-append-drop, lemmas.List.reverse-reverse}
 use Rattle.mv_move_types.specs.{Module.own_acquires, Tokens.same_tokens}
 use Rattle.mv_edges.specs.Edges.{opened, without_each}
-use Rattle.mv_borrow_graph.specs.BorrowRules.{reference_nodes, result_edges, opened_edges}
+use Rattle.mv_certificate_rules.specs.BorrowRules.{reference_nodes, result_edges, opened_edges}
 use Rattle.mv_borrow_graph.proofs.{Abstract.Terms.Places.opened as the_opened, Abstract.Terms.Covers.InList, Abstract.Terms.Rows.IsArgument, Abstract.Terms.Rows.after_call, Abstract.Terms.Lists.first_locals}
 use Rattle.mv_borrow_graph.proofs.{Abstract.Terms.Lists.Lent, Abstract.Terms.Lists.GivenAt, Abstract.Terms.Stack.Calls, Abstract.Terms.Stack.Homed}
-use Rattle.mv_type_states.specs.TypeRules.{taken}
+use Rattle.mv_type_rules.specs.TypeRules.{taken}
 use Rattle.mv_borrow_graph.proofs.{Abstract.Calls.passed_at, Abstract.Run.ByRet, Abstract.Run.ByCall}
 use Rattle.mv_soundness.proofs.Borrows.View.{value_of}
 use Rattle.mv_soundness.proofs.Borrows.Edges.{none_any, free_out, then-some, member_filter, member_flat, member_left, member_right, node-not, node_of-inj, Included}
 use Rattle.mv_soundness.proofs.{Borrows.EdgeRows.inherited_in, Borrows.EdgeRows.away, Borrows.Kept.below-from, Borrows.Lists.place_get, Borrows.Lists.place-reverse}
 use Rattle.mv_soundness.proofs.{Borrows.Lists.stack-back}
 use Rattle.mv_soundness.proofs.Borrows.Mutability.{kinds, kinds-length, kind-at, kind-mutable, kind-reference}
-use Rattle.mv_type_states.proofs.Tokens.{lists_equal}
+use Rattle.mv_bound_rules.proofs.Tokens.{lists_equal}
 use Rattle.std.proofs.Common.{take, drop, append_assoc}
 
 -- ---- lists

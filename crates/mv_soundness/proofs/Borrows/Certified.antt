@@ -6,12 +6,12 @@ use Rattle.mv_soundness.proofs.{Typing.Callees.on_found, Borrows.Kept.label-self
 use Rattle.std.specs.Str.{bytes_eq}
 use Rattle.std.proofs.lemmas.Slice.Eq.{bytes_eq-Decides}
 use Rattle.mv_cfg.specs.Blocks.{BasicBlock as Block}
-use Rattle.mv_type_states.specs.TypeRules.{types_after}
+use Rattle.mv_type_rules.specs.TypeRules.{types_after}
 use Rattle.mv_edges.specs.Edges.{label_leq, edge_leq, edges_leq}
-use Rattle.mv_certificate.specs.Certificate.{Known, Rule, through, instructions_of, stated_at, flows_into, block_holds}
+use Rattle.mv_certificate_rules.specs.Certificate.{Known, Rule, through, instructions_of, stated_at, flows_into, block_holds}
 use Rattle.mv_certificate.specs.Known.{known_after}
-use Rattle.mv_locals_safety.specs.LocalsRules.{locals_after}
-use Rattle.mv_borrow_graph.specs.{BorrowRules.edges_after}
+use Rattle.mv_certificate_rules.specs.LocalsRules.{locals_after}
+use Rattle.mv_certificate_rules.specs.BorrowRules.{edges_after}
 use Rattle.mv_borrow_graph.proofs.{Abstract.Terms.Places.Begins}
 use Rattle.mv_borrow_graph.specs.Laws.There.{same_node-is}
 

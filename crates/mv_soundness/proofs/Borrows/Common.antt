@@ -39,10 +39,10 @@ pub use Rattle.mv_borrow_graph.proofs.Abstract.Terms.Lists.{Value as TheValue, s
 pub use Rattle.mv_borrow_graph.proofs.Abstract.Terms.Places.{Defined, Label as TheLabel, LabelBelow}
 pub use Rattle.mv_borrow_graph.proofs.Abstract.Terms.Rows.{Bars, BorrowField, Need}
 pub use Rattle.mv_borrow_graph.proofs.Abstract.Terms.Stack.{Chain, Layer, OnStack, Top, Lower}
-pub use Rattle.mv_borrow_graph.specs.BorrowRules.{no_edge_out, is_mutable, return_edges, no_mutable_from, is_mutable_token, is_reference_token, call_edges, is_temp, is_root_node}
+pub use Rattle.mv_certificate_rules.specs.BorrowRules.{no_edge_out, is_mutable, return_edges, no_mutable_from, is_mutable_token, is_reference_token, call_edges, is_temp, is_root_node}
 pub use Rattle.mv_edges.specs.Edges.{Edge, same_node, without, inherited, Label, here, renamed, an_edge, extended, out_of}
-pub use Rattle.mv_type_states.specs.TypeRules.{Types, of_call}
-pub use Rattle.mv_type_states.specs.TypesHold.{Point}
+pub use Rattle.mv_type_rules.specs.TypeRules.{Types, of_call}
+pub use Rattle.mv_type_rules.specs.TypesHold.{Point}
 pub use Rattle.mv_soundness.proofs.Lists.{map-turned}
 pub use Rattle.mv_soundness.specs.Borrows.Covers.{Seen}
 pub use Rattle.mv_soundness.proofs.Borrows.Hypotheses.{token_kind, operand_kind, Fits, InRefs, NoneInside, NoneOf}

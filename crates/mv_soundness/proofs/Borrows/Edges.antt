@@ -4,7 +4,8 @@ use Rattle.mv_soundness.proofs.Borrows.Common.{true≢false, cases_Bool, list_an
 use Rattle.mv_soundness.proofs.Borrows.Common.{is_mutable, no_mutable_from, Edge, same_node, out_of, Point, defined, node_of, Member, edges_of, kind_at, AmongNodes}
 use Rattle.std.proofs.lemmas.Bool.{false_from_ne_true, or_parts}
 use Rattle.std.specs.Bool.{then_some}
-use Rattle.mv_borrow_graph.specs.{BorrowRules.is_empty, There.node_itself}
+use Rattle.mv_certificate_rules.specs.BorrowRules.{is_empty}
+use Rattle.mv_borrow_graph.specs.There.{node_itself}
 use Rattle.mv_borrow_graph.specs.Laws.There.{same_node-is}
 
 -- ---- nodes

@@ -7,8 +7,8 @@ use Rattle.mv_move_types.specs.Module.{Module, FunctionDefinition, local_type}
 use Rattle.mv_machine.specs.Value.{Reference, Value, Struct, Ref, list_of}
 use Rattle.mv_machine.specs.State.{Frame, State, local_value, stored_at, place_value}
 use Rattle.mv_machine.specs.Live.{reference_of}
-use Rattle.mv_type_states.specs.TypeRules.{Types}
-use Rattle.mv_type_states.specs.TypesHold.{Point}
+use Rattle.mv_type_rules.specs.TypeRules.{Types}
+use Rattle.mv_type_rules.specs.TypesHold.{Point}
 use Rattle.mv_soundness.specs.Borrows.Covers.{Seen}
 use Rattle.mv_soundness.proofs.Borrows.View.{operands_of}
 

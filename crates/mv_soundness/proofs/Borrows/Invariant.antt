@@ -3,7 +3,7 @@ use Rattle.mv_soundness.proofs.Borrows.Common.{refl, sym, ◌≡◌, ℕ, List, 
 use Rattle.mv_soundness.proofs.Borrows.Common.{map-append, slice_get, Module, FunctionDefinition, Instruction, Call, reference_of, Frame, State, Here, Goes, Reference, Value, layer}
 use Rattle.mv_soundness.proofs.Borrows.Common.{EdgesBelow, Chain, Layer, return_edges, call_edges, Edge, Types, of_call, map-turned, token_kind, operand_kind, Fits, NoneInside, IsCall}
 use Rattle.mv_soundness.proofs.Borrows.Common.{Reaches, Stood, seen_of, layer_at, layers, home_of, StoodOn, Descending, AllUnder, Sound, edges_of, held_as, activation, layer_of, alone}
-use Rattle.mv_borrow_graph.specs.BorrowRules.{edges_after}
+use Rattle.mv_certificate_rules.specs.BorrowRules.{edges_after}
 use Rattle.mv_move_types.specs.declared.tables.Definition.{Definition}
 use Rattle.mv_machine.specs.StepControl.{Callee, callee, call, return_results}
 use Rattle.mv_machine.specs.Step.{rule}

@@ -3,7 +3,7 @@ use Rattle.mv_soundness.proofs.Borrows.Common.{refl, sym, ◌≡◌, ℕ, List, 
 use Rattle.mv_soundness.proofs.Borrows.Common.{eqb_tells, reverse_onto, length-map, length-append, length-reverse, same_Some, slice_get, slice_set, reference_of, Reference, Value}
 use Rattle.mv_soundness.proofs.Borrows.Common.{TheRef, TheValue, local_ref, stack_ref, set_local, ref_of, local_of, held_as}
 use Rattle.std.proofs.{lemmas.Option.slice_get_past, lemmas.Bool.cases_lt}
-use Rattle.mv_bounds.proofs.PlaceLemmas.{slice_get-first, slice_get-second}
+use Rattle.mv_bound_rules.proofs.PlaceLemmas.{slice_get-first, slice_get-second}
 use Rattle.mv_borrow_graph.proofs.Abstract.Terms.Lists.{ref_of as the_ref_of}
 
 -- the element with k under it

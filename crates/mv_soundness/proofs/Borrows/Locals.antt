@@ -4,8 +4,8 @@ use Rattle.mv_move_types.specs.declared.borrow.Availability.{Availability}
 use Rattle.mv_move_types.specs.declared.token.Token.{Token}
 use Rattle.mv_machine.specs.Value.{Value}
 use Rattle.mv_machine.specs.StepParts.{Here, can_drop}
-use Rattle.mv_type_states.specs.TypesHold.{Point}
-use Rattle.mv_locals_safety.specs.LocalsRules.{has_drop}
+use Rattle.mv_type_rules.specs.TypesHold.{Point}
+use Rattle.mv_certificate_rules.specs.LocalsRules.{has_drop}
 use Rattle.mv_soundness.specs.Borrows.Covers.{IsAs}
 
 -- as many locals as availabilities, and each as its own says

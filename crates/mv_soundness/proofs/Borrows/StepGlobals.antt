@@ -6,7 +6,7 @@ use Rattle.mv_soundness.proofs.Borrows.Common.{TheLabel, Bars, no_edge_out, no_m
 use Rattle.std.specs.Prelude.{is_some}
 use Rattle.mv_machine.specs.State.{stored_at, without_stored, with_stored}
 use Rattle.mv_machine.specs.StepGlobals.{borrow_global, move_from, move_to, exists, key_at}
-use Rattle.mv_borrow_graph.specs.BorrowRules.{edges_after, global_edges}
+use Rattle.mv_certificate_rules.specs.BorrowRules.{edges_after, global_edges}
 use Rattle.mv_borrow_graph.proofs.Abstract.Lists.{stack_under}
 use Rattle.mv_soundness.proofs.{Borrows.Same.same-all, Borrows.Edges.free_out, Borrows.Edges.free_mutable, Borrows.Edges.then-some}
 use Rattle.mv_soundness.proofs.Borrows.Kept.{falls-pushed, falls-popped, below-from, kept-falls, kept-borrow-global, kept-drop, act}

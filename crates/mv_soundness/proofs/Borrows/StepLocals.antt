@@ -7,7 +7,7 @@ use Rattle.mv_soundness.proofs.Borrows.Common.{renamed, an_edge, token_kind, ope
 use Rattle.mv_move_types.specs.Module.{local_tokens}
 use Rattle.mv_machine.specs.Typing.{linked}
 use Rattle.mv_machine.specs.StepLocals.{copy_local, move_local, store_local, borrow_local, local_place, local_tag}
-use Rattle.mv_borrow_graph.specs.BorrowRules.{edges_after, copy_edges, move_edges, store_edges}
+use Rattle.mv_certificate_rules.specs.BorrowRules.{edges_after, copy_edges, move_edges, store_edges}
 use Rattle.mv_soundness.proofs.{Borrows.Same.same-all, Borrows.Edges.free_out, Borrows.Edges.free_mutable, Borrows.Edges.then-some, Borrows.Mutability.operand-plain}
 use Rattle.mv_soundness.proofs.{Borrows.Operands.on_option, Borrows.Operands.tag-kind}
 use Rattle.mv_soundness.proofs.Borrows.Kept.{falls-pushed, falls-popped, falls-same, below-from, kept-falls, kept-copy, kept-copy-mutable, kept-move, kept-store, kept-borrow-local}

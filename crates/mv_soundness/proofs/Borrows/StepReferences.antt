@@ -6,7 +6,7 @@ use Rattle.mv_soundness.proofs.Borrows.Common.{with_stack, entry, Reference, Val
 use Rattle.mv_soundness.proofs.Borrows.Common.{Edge, same_node, without, inherited, Label, extended, out_of, home_of, Descending, Member, edges_of, kind_at, label_from}
 use Rattle.std.proofs.lemmas.Bool.{or_right}
 use Rattle.mv_edges.specs.Edges.{agrees}
-use Rattle.mv_borrow_graph.specs.BorrowRules.{edges_after, position_of, field_edges, top_temp}
+use Rattle.mv_certificate_rules.specs.BorrowRules.{edges_after, position_of, field_edges, top_temp}
 use Rattle.mv_machine.specs.StepStructs.{OwnStruct, own_struct}
 use Rattle.mv_machine.specs.StepReferences.{borrow_field, write_reference, read_reference, freeze, own_field, lends}
 use Rattle.mv_borrow_graph.proofs.Abstract.Terms.Places.{Agrees, AgreesWith, steps}

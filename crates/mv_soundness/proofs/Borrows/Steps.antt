@@ -12,7 +12,7 @@ use Rattle.mv_move_types.specs.declared.token.LeafKind.TheVariants.{Number}
 use Rattle.mv_machine.specs.{Value.fields_of, Value.list_of, StepParts.goes_to, StepStructs.pack, StepStructs.unpack, StepStructs.noted, Step.rule, StepLocals.pop, StepNumbers.constant}
 use Rattle.mv_machine.specs.{StepControl.branch_if}
 use Rattle.mv_machine.specs.Numbers.{sum_of, difference_of, product_of, remainder_of, quotient_of, shifted_left, shifted_right}
-use Rattle.mv_borrow_graph.specs.BorrowRules.{edges_after}
+use Rattle.mv_certificate_rules.specs.BorrowRules.{edges_after}
 use Rattle.mv_soundness.proofs.Borrows.Same.{same-all}
 use Rattle.mv_soundness.proofs.Borrows.Kept.{Falls, falls-popped, falls-pushed, falls-same}
 use Rattle.mv_soundness.proofs.Borrows.Operands.{on_result, taken-falls, none-more, none-reverse}

@@ -4,9 +4,9 @@ use Rattle.mv_move_types.specs.Module.{Module, FunctionDefinition}
 use Rattle.mv_machine.specs.Value.{Reference}
 use Rattle.mv_machine.specs.State.{Frame, State, frames}
 use Rattle.mv_edges.specs.Edges.{Edge}
-use Rattle.mv_type_states.specs.TypesHold.{Point}
-use Rattle.mv_borrow_graph.specs.BorrowRules.{call_edges}
-use Rattle.mv_type_states.specs.TypeRules.{Types, of_call}
+use Rattle.mv_type_rules.specs.TypesHold.{Point}
+use Rattle.mv_certificate_rules.specs.BorrowRules.{call_edges}
+use Rattle.mv_type_rules.specs.TypeRules.{Types, of_call}
 use Rattle.mv_soundness.specs.Borrows.Covers.{Seen}
 use Rattle.mv_borrow_graph.proofs.Abstract.Terms.Places.{Defined}
 use Rattle.mv_borrow_graph.proofs.Abstract.Terms.Stack.{Layer, Chain}

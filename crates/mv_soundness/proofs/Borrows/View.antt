@@ -6,8 +6,8 @@ use Rattle.mv_move_types.specs.declared.borrow.Node.TheVariants.{Slot, Own, Glob
 use Rattle.mv_machine.specs.Value.{Root, Local, Stored, Place, Reference, Value}
 use Rattle.mv_machine.specs.Live.{reference_of}
 use Rattle.mv_edges.specs.Edges.{Label, Edge}
-use Rattle.mv_type_states.specs.TypesHold.{Point}
-use Rattle.mv_borrow_graph.specs.BorrowRules.{is_mutable}
+use Rattle.mv_type_rules.specs.TypesHold.{Point}
+use Rattle.mv_certificate_rules.specs.BorrowRules.{is_mutable}
 use Rattle.mv_soundness.specs.Borrows.Covers.{Seen}
 use Rattle.mv_borrow_graph.proofs.Abstract.Terms.Places.{Defined, Root as TheRoot, Local as InLocal, Global as InStore, Place as ThePlace, Label as TheLabel, Exact, Open}
 use Rattle.mv_borrow_graph.proofs.Abstract.Terms.Covers.{Node as TheNode, Slot as AtSlot, Own as AtOwn, Glob as AtGlob, Temp as AtTemp, Ref as TheRef, Edges}

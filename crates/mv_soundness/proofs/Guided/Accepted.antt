@@ -5,9 +5,9 @@ use Rattle.mv_soundness.proofs.Guided.Common.{Unavailable, FunctionHandle, Token
 use Rattle.mv_soundness.proofs.Guided.Common.{on_bind, locals_leq, AsKnown, StoreFacts}
 use Rattle.mv_soundness.proofs.{Typing.Callees.on_found, Borrows.Available.known-start}
 use Rattle.mv_move_types.specs.Module.{parameter_tokens}
-use Rattle.mv_certificate.specs.Certificate.{known_at_start, locals_hold, edges_hold, each_function}
-use Rattle.mv_locals_safety.specs.LocalsRules.{locals_after, start_locals}
-use Rattle.mv_borrow_graph.specs.BorrowRules.{edges_after}
+use Rattle.mv_certificate_rules.specs.Certificate.{known_at_start, locals_hold, edges_hold, each_function}
+use Rattle.mv_certificate_rules.specs.LocalsRules.{locals_after, start_locals}
+use Rattle.mv_certificate_rules.specs.BorrowRules.{edges_after}
 use Rattle.mv_machine.specs.StepControl.{callee}
 use Rattle.mv_machine.proofs.Transfers.{tags-long}
 use Rattle.mv_link_rules.proofs.TagTests.{same_tags-is}

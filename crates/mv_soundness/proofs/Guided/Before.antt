@@ -5,17 +5,18 @@ use Rattle.mv_soundness.proofs.Guided.Common.{ends_block, successors, Module, Fu
 use Rattle.mv_soundness.proofs.Guided.Common.{known_before, known_after, blocks-tile, Block, starts_from, blocks, leads_to, edges_leq, Edge, on_bind, locals_leq, Types, Point, all_at, ◌&&◌}
 use Rattle.mv_machine.proofs.Binds.{map-is}
 use Rattle.mv_edges.proofs.Order.{edges_leq_itself}
-use Rattle.mv_certificate.specs.{Certificate.instructions_of, Certificate.flows_into, Certificate.block_holds, Known.block_of}
-use Rattle.mv_locals_safety.specs.LocalsRules.{locals_after}
-use Rattle.mv_borrow_graph.specs.BorrowRules.{edges_after}
-use Rattle.mv_type_states.specs.TypeRules.{types_after}
+use Rattle.mv_certificate_rules.specs.Certificate.{instructions_of, flows_into, block_holds}
+use Rattle.mv_certificate.specs.Known.{block_of}
+use Rattle.mv_certificate_rules.specs.LocalsRules.{locals_after}
+use Rattle.mv_certificate_rules.specs.BorrowRules.{edges_after}
+use Rattle.mv_type_rules.specs.TypeRules.{types_after}
 use Rattle.mv_soundness.proofs.Typing.FlowFacts.{range_split, BlockFacts, block_facts, ended_begin, next_inside}
 use Rattle.mv_soundness.proofs.{Borrows.Standing.Among, Lists.below-or-at}
 use Rattle.mv_soundness.proofs.Borrows.Certified.{Inside, inside, held, flows, both-through}
 use Rattle.mv_soundness.proofs.Guided.Tiles.{Tiles, tiles-zip, holds_place, tile-found, tile-ordered, find-has, zip-parts, zip-maps, stated-maps, stated-has, next-is}
 use Rattle.mv_cfg.proofs.Beginnings.{starts_from-ascending}
 use Rattle.std.proofs.Common.{drop}
-use Rattle.mv_locals_safety.specs.Laws.{leq_reflexive}
+use Rattle.mv_certificate_rules.proofs.LocalsOrder.{leq_reflexive}
 
 -- what is known is below what else could be known, in both parts
 abbrev known_leq : Known → Known → Bool

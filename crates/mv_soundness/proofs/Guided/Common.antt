@@ -46,16 +46,16 @@ pub use Rattle.mv_machine.specs.Value.{Value, Root, Local, Stored, Reference, Re
 pub use Rattle.mv_borrow_graph.proofs.Abstract.Terms.Covers.{Live}
 pub use Rattle.mv_borrow_graph.proofs.Abstract.Terms.Places.{Local as InLocal, Global as InStore}
 pub use Rattle.mv_borrow_graph.proofs.Abstract.Terms.Stack.{Chain}
-pub use Rattle.mv_borrow_graph.specs.BorrowRules.{no_edge_out, return_edges}
-pub use Rattle.mv_certificate.specs.Certificate.{Known, Certificate, Stated, flow_holds, through, stated_at}
+pub use Rattle.mv_certificate_rules.specs.BorrowRules.{no_edge_out, return_edges}
+pub use Rattle.mv_certificate_rules.specs.Certificate.{Known, Certificate, Stated, flow_holds, through, stated_at}
 pub use Rattle.mv_certificate.specs.Known.{known_before, known_after}
 pub use Rattle.mv_cfg.proofs.Tiling.{blocks-tile}
 pub use Rattle.mv_cfg.specs.Blocks.{BasicBlock as Block, starts_from, blocks, leads_to}
 pub use Rattle.mv_edges.specs.Edges.{edges_leq, Edge}
 pub use Rattle.mv_module_text.proofs.Texts.{on_bind}
-pub use Rattle.mv_locals_safety.specs.LocalsRules.{locals_leq}
-pub use Rattle.mv_type_states.specs.TypeRules.{Types}
-pub use Rattle.mv_type_states.specs.TypesHold.{Point}
+pub use Rattle.mv_certificate_rules.specs.LocalsRules.{locals_leq}
+pub use Rattle.mv_type_rules.specs.TypeRules.{Types}
+pub use Rattle.mv_type_rules.specs.TypesHold.{Point}
 pub use Rattle.mv_soundness.proofs.Lists.{map-turned}
 pub use Rattle.mv_soundness.proofs.Borrows.Hypotheses.{InRefs, Fits, token_kind, operand_kind, NoneOf, NoneInside}
 pub use Rattle.mv_soundness.specs.Borrows.Invariant.{Holds}
@@ -71,4 +71,4 @@ pub use Rattle.mv_soundness.specs.Typing.Accepted.{ModuleAccepted}
 pub use Rattle.mv_soundness.proofs.Typing.Facts.{SoundStore}
 pub use Rattle.mv_soundness.specs.Typing.StateTyped.{StateTyped, HaveTokens}
 pub use Rattle.mv_acquires.specs.Acquires.{AcquiresHold}
-pub use Rattle.mv_bounds.proofs.Entries.{all_at}
+pub use Rattle.mv_bound_rules.proofs.Entries.{all_at}

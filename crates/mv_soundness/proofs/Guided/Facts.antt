@@ -7,9 +7,9 @@ use Rattle.mv_move_types.specs.Module.{Module, FunctionDefinition, local_tokens,
 use Rattle.mv_machine.specs.Value.{Reference, Value, Ref}
 use Rattle.mv_machine.specs.State.{State, root_value, place_value}
 use Rattle.mv_machine.specs.Live.{reference_of, live}
-use Rattle.mv_certificate.specs.Certificate.{Known, Certificate, Stated, all_locals_hold, all_edges_hold}
-use Rattle.mv_locals_safety.specs.LocalsRules.{has_drop}
-use Rattle.mv_type_states.specs.TypeRules.{Types}
+use Rattle.mv_certificate_rules.specs.Certificate.{Known, Certificate, Stated, all_locals_hold, all_edges_hold}
+use Rattle.mv_certificate_rules.specs.LocalsRules.{has_drop}
+use Rattle.mv_type_rules.specs.TypeRules.{Types}
 use Rattle.mv_certificate.specs.Known.{known_before}
 use Rattle.mv_soundness.specs.Borrows.Covers.{Seen}
 use Rattle.mv_machine.specs.StepParts.{Here, can_copy, can_drop}

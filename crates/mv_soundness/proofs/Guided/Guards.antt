@@ -2,7 +2,7 @@
 use Rattle.mv_soundness.proofs.Guided.Common.{◌≡◌, ℕ, List, sym, ◌∙◌, ap, subst, Option, Some, None, same_Some, slice_get, option_and_then, Module, FunctionDefinition, local_type, Glob}
 use Rattle.mv_soundness.proofs.Guided.Common.{Instruction, Ret, StLoc, MoveFrom, MoveLoc, Token, reference_of, State, Value, no_edge_out, Certificate, on_bind, Point, token_kind}
 use Rattle.mv_soundness.proofs.Guided.Common.{operand_kind, Reaches, Stood, StoreFacts, TypeFacts, Guided}
-use Rattle.mv_borrow_graph.specs.BorrowRules.{edges_after}
+use Rattle.mv_certificate_rules.specs.BorrowRules.{edges_after}
 use Rattle.mv_soundness.proofs.{Borrows.Edges.then-some, Guided.Before.Onward, Guided.Before.goes-on, Guided.Working.Working, Guided.Working.worked, Guided.Working.working}
 use Rattle.mv_soundness.proofs.{Guided.Unfrozen.moved-free, Guided.Unfrozen.stored-free, Guided.Avoids.local-unreached, Guided.Avoids.struct-unreached, Guided.Avoids.leaving}
 use Rattle.mv_soundness.proofs.{Guided.Accepted.flows-at}

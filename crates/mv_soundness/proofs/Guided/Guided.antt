@@ -6,7 +6,7 @@ use Rattle.mv_move_types.specs.declared.instruction.Instruction.TheVariants.{Cal
 use Rattle.mv_soundness.proofs.Borrows.Hypotheses.{Fits, token_kind}
 use Rattle.mv_move_types.specs.Module.{Module, FunctionDefinition}
 use Rattle.mv_machine.specs.State.{State, frames}
-use Rattle.mv_certificate.specs.Certificate.{Known, Certificate, Stated}
+use Rattle.mv_certificate_rules.specs.Certificate.{Known, Certificate, Stated}
 use Rattle.mv_certificate.specs.Known.{known_before}
 use Rattle.mv_borrow_graph.proofs.Abstract.Terms.Covers.{Covers as TheCovers}
 use Rattle.mv_soundness.proofs.Borrows.Stood.{Stood, seen_of, point_of, layer_at, StoodOn, Descending, LinkedTo}

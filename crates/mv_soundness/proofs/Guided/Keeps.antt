@@ -6,9 +6,9 @@ use Rattle.mv_soundness.proofs.Guided.Common.{LinkageFault, entry, Value, Refere
 use Rattle.mv_soundness.proofs.Guided.Common.{map-turned, Fits, token_kind, operand_kind, Reaches, AsKnown, Stood, seen_of, StoodOn, point_of, Sound, local_of, alone, StoreFacts}
 use Rattle.mv_soundness.proofs.Guided.Common.{TypeFacts, AllPlaced, StoodFit, AllAgree, Guided, Placed}
 use Rattle.mv_move_types.specs.declared.tables.Definition.{Definition}
-use Rattle.mv_locals_safety.specs.LocalsRules.{locals_after}
-use Rattle.mv_borrow_graph.specs.BorrowRules.{edges_after, call_edges}
-use Rattle.mv_type_states.specs.TypeRules.{types_after}
+use Rattle.mv_certificate_rules.specs.LocalsRules.{locals_after}
+use Rattle.mv_certificate_rules.specs.BorrowRules.{edges_after, call_edges}
+use Rattle.mv_type_rules.specs.TypeRules.{types_after}
 use Rattle.mv_machine.specs.{StepControl.call, StepControl.return_results, Step.rule, Step.step}
 use Rattle.mv_soundness.proofs.{Borrows.Edges.then-some, Borrows.Same.SameFrames, Borrows.Certified.edges-below, Borrows.Standing.IsTransfer, Borrows.Standing.Stays}
 use Rattle.mv_soundness.proofs.{Borrows.Steps.step-kept, Borrows.Available.known-above, Borrows.Available.known-same, Guided.Before.Onward, Guided.Before.goes-on}

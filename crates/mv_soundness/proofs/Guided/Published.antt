@@ -4,7 +4,7 @@ use Rattle.mv_soundness.proofs.Guided.Common.{ok-is, State, Certificate, ComesTo
 use Rattle.mv_module_text.proofs.Rows.{on_map}
 use Rattle.mv_soundness.proofs.{Lists.All-at, Typing.First.begun, Typing.First.first_is, Guided.Whole.run_faultless, Guided.Whole.run_holds}
 use Rattle.mv_move_types.specs.Published.{PublishedModule}
-use Rattle.mv_certificate.specs.{Certificate.all_locals_hold, Certificate.all_edges_hold, CertificateText.IsCertificateText}
+use Rattle.mv_certificate_rules.specs.{Certificate.all_locals_hold, Certificate.all_edges_hold, CertificateText.IsCertificateText}
 use Rattle.mv_certificate.proofs.OneCertificate.{one-certificate}
 use Rattle.mv_link_rules.specs.Link.{IsPublishable, IsStore, tables_in}
 use Rattle.mv_soundness.specs.{Typing.Accepted.StoreAccepted, Guided.Published.AreCertificates, Guided.Published.RunsAreFaultless, Guided.Published.StatesHold}

@@ -29,8 +29,8 @@ use Rattle.mv_machine.specs.StepReferences.{borrow_field, write_reference, read_
 use Rattle.mv_machine.specs.StepGlobals.{borrow_global, move_from, move_to, exists, keyed_struct, key_at}
 use Rattle.mv_machine.specs.StepNumbers.{constant, binary, comparison, shift, cast, logic, negation, equality}
 use Rattle.mv_machine.specs.StepControl.{branch_if, abort, call, signature_tags, return_results, holds_frame}
-use Rattle.mv_locals_safety.specs.LocalsRules.{locals_after, needs_available, may_overwrite, may_leave}
-use Rattle.mv_borrow_graph.specs.BorrowRules.{edges_after, top_temp}
+use Rattle.mv_certificate_rules.specs.LocalsRules.{locals_after, needs_available, may_overwrite, may_leave}
+use Rattle.mv_certificate_rules.specs.BorrowRules.{edges_after, top_temp}
 use Rattle.mv_machine.proofs.Binds.{held-is, operand-is, operands-is, reference-is, none-is}
 use Rattle.std.proofs.Common.{not}
 

@@ -2,7 +2,7 @@
 use Rattle.std.specs.Prelude.{◌≡◌, ℕ, IsTrue, List, Some, slice_get}
 use Rattle.mv_move_types.specs.Module.{Module}
 use Rattle.mv_acquires.specs.Acquires.{AcquiresHold}
-use Rattle.mv_certificate.specs.Certificate.{Certificate, all_locals_hold, all_edges_hold}
+use Rattle.mv_certificate_rules.specs.Certificate.{Certificate, all_locals_hold, all_edges_hold}
 use Rattle.mv_link_rules.specs.StoreRules.{Reaches}
 use Rattle.mv_soundness.specs.Typing.Accepted.{StoreAccepted}
 

@@ -5,7 +5,7 @@ use Rattle.mv_soundness.proofs.Guided.Common.{reference_of, references, local_re
 use Rattle.mv_soundness.proofs.Guided.Common.{with_stack, Value, Root, Local, Stored, Reference, no_edge_out, Edge, Types, Point, InRefs, Fits, token_kind, operand_kind, Stood, Sound}
 use Rattle.mv_soundness.proofs.Guided.Common.{root_of, alone, Rooted}
 use Rattle.mv_machine.specs.{State.local_value, State.local_in, Live.same_root}
-use Rattle.mv_borrow_graph.specs.BorrowRules.{move_edges, store_edges}
+use Rattle.mv_certificate_rules.specs.BorrowRules.{move_edges, store_edges}
 use Rattle.mv_soundness.proofs.{Borrows.Edges.then-some, Guided.Working.worked, Guided.Avoids.in-left, Guided.Avoids.in-right}
 use Rattle.mv_soundness.proofs.Borrows.Free.{in-either, in-cons, none-frozen, local-free}
 use Rattle.mv_storage.proofs.Keys.{same_key-to}

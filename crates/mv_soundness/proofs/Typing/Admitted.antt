@@ -6,10 +6,10 @@ use Rattle.mv_soundness.proofs.Typing.Common.{token_in, ends_well, on_bind, addr
 use Rattle.mv_soundness.proofs.Typing.Common.{StoreAccepted, ModuleAccepted, in_range, HasToken, HaveTokens}
 use Rattle.mv_move_types.specs.{Results.◌>>=◌, Module.parameter_tokens}
 use Rattle.mv_machine.specs.Ledger.{LedgerState, RunRequest, modules_of, are_arguments, with_signer, admitted}
-use Rattle.mv_bounds.specs.Bounds.{function_handle_in}
+use Rattle.mv_bound_rules.specs.Bounds.{function_handle_in}
 use Rattle.mv_machine.proofs.Laws.{on_need}
 use Rattle.mv_soundness.proofs.{Typing.Operands.of_leaf, Typing.Advances.start_typed, Typing.Names.tokens_there, Typing.First.Nowhere, Typing.First.CallTyped}
-use Rattle.mv_type_states.proofs.Tokens.{kinds_equal}
+use Rattle.mv_bound_rules.proofs.Tokens.{kinds_equal}
 
 -- what is found or is a reason against it
 pub on_there : {A B P : Type 0} (o : Option A) (d : ℕ) (f : A → Result B ℕ) (y : B) → (ok_or o d >>= f) ≡ Ok y → ((x : A) → o ≡ Some x → f x ≡ Ok y → P) → P

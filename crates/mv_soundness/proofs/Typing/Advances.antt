@@ -7,12 +7,12 @@ use Rattle.mv_soundness.proofs.Typing.Common.{TypesAt, function_is_typed, types_
 use Rattle.mv_cfg.proofs.Beginnings.{starts_from-ascending}
 use Rattle.mv_cfg.specs.Blocks.{blocks, may_be_last}
 use Rattle.mv_move_types.specs.Flow.{targets}
-use Rattle.mv_type_states.specs.{TypeRules.types_after, TypesHold.block_is_typed}
+use Rattle.mv_type_rules.specs.{TypeRules.types_after, TypesHold.block_is_typed}
 use Rattle.mv_soundness.proofs.Typing.Facts.{AllAt}
 use Rattle.mv_soundness.proofs.Typing.FlowFacts.{range_split, through_step, through_apart, through_join, through_one, Among, rising_bounds, targets_begin, ended_begin, BlockFacts}
 use Rattle.mv_soundness.proofs.Typing.FlowFacts.{block_facts, begins_block, next_inside}
 use Rattle.mv_soundness.proofs.Lists.{below-or-at}
-use Rattle.mv_bounds.proofs.Entries.{element_at}
+use Rattle.mv_bound_rules.proofs.Entries.{element_at}
 use Rattle.mv_borrow_graph.specs.Laws.BlocksThere.{empty_end}
 use Rattle.std.proofs.lemmas.Map.Keys.{any_passes_from_place}
 

@@ -7,10 +7,10 @@ use Rattle.mv_soundness.proofs.Typing.Common.{same_module-same, structs_are_ther
 use Rattle.mv_soundness.proofs.{Typing.Operands.tags_by, Typing.Advances.start_typed, Typing.Names.tag_is_found, Typing.OwnDefinitions.then_ok}
 use Rattle.mv_move_types.specs.{Names.same_module, Module.module_name, Tags.same_tags, Named.is_module, Named.have_one_name, Named.is_public}
 use Rattle.mv_link_rules.specs.StoreRules.{function_named, function_fits, function_is_there}
-use Rattle.mv_interface.specs.{TypesByName.signature_named, TypesByName.same_signature}
+use Rattle.mv_bound_rules.specs.{TypesByName.signature_named, TypesByName.same_signature}
 use Rattle.mv_machine.specs.{Step.signature_tags, StepControl.callee, StepControl.said_by, StepControl.found_by}
 use Rattle.mv_link_rules.proofs.TagTests.{same_tags-is, same_tags-same}
-use Rattle.mv_interface.proofs.{NameLemmas.same_module-is, Found.one_place}
+use Rattle.mv_bound_rules.proofs.{NameLemmas.same_module-is, Found.one_place}
 
 -- what a test that passed has found
 pub on_found : {A P : Type 0} (p : A → Bool) (r : Option A) → option_map_or p r false ≡ true → ((x : A) → r ≡ Some x → p x ≡ true → P) → P

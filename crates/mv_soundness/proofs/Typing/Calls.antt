@@ -9,7 +9,7 @@ use Rattle.std.proofs.Common.{replicate}
 use Rattle.std.proofs.lemmas.List.{append-nil}
 use Rattle.mv_machine.specs.{Live.reference_of, Live.frame_references, StepControl.callee, StepControl.call}
 use Rattle.mv_machine.specs.Step.{return_results, signature_tags, leaves, holds_frame, entered_frame}
-use Rattle.mv_type_states.specs.TypeRules.{of_call, of_return}
+use Rattle.mv_type_rules.specs.TypeRules.{of_call, of_return}
 use Rattle.mv_soundness.specs.{Typing.HasType.fields_by_name, Typing.Unreached.Leaving}
 use Rattle.mv_soundness.proofs.Typing.Parts.{Part, known, passes, tested, lost, needed}
 use Rattle.mv_soundness.proofs.Typing.Operands.{on_test, takes_gives-is, joined, turned, take_operands}

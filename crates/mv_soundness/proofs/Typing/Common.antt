@@ -45,21 +45,21 @@ pub use Rattle.mv_machine.specs.StepParts.{truth, untouched, gives, can_copy, as
 pub use Rattle.mv_machine.specs.Typed.{abilities_at}
 pub use Rattle.mv_machine.specs.Typing.{Faults, LinkageFault, entry, tag_named, LostFault, FrozenFault, have_tags, DanglingFault, has_tag, Failure, tag_of, TypeFault, Aborts, plain_tag}
 pub use Rattle.mv_machine.specs.Value.{Value, Leaf, Struct, Ref, Root, Local, Stored, Values, NoMore, More, Reference, Place, list_of, value_at, with_value_at}
-pub use Rattle.mv_bounds.specs.Bounds.{below, function_in, instruction_in, local_count, token_in, struct_in, field_in}
+pub use Rattle.mv_bound_rules.specs.Bounds.{below, function_in, instruction_in, local_count, token_in, struct_in, field_in}
 pub use Rattle.mv_cfg.proofs.Beginnings.{IsAscending}
 pub use Rattle.mv_cfg.specs.Blocks.{ends_well, BasicBlock, starts_from}
 pub use Rattle.mv_module_text.proofs.Texts.{on_bind}
 pub use Rattle.mv_module_text.specs.Fits.{address_fits, function_definition_fits, instruction_fits, is_byte, is_index, constant_fits, token_fits}
-pub use Rattle.mv_interface.proofs.Found.{then_found}
-pub use Rattle.mv_interface.proofs.NameLemmas.{same_module-same, same_struct-same}
+pub use Rattle.mv_bound_rules.proofs.Found.{then_found}
+pub use Rattle.mv_bound_rules.proofs.NameLemmas.{same_module-same, same_struct-same}
 pub use Rattle.mv_link_rules.specs.StoreRules.{structs_are_there}
-pub use Rattle.mv_interface.specs.TypesByName.{token_named, tokens_named, value_type_named}
+pub use Rattle.mv_bound_rules.specs.TypesByName.{token_named, tokens_named, value_type_named}
 pub use Rattle.mv_storage.proofs.Keys.{same_key-to}
 pub use Rattle.mv_storage.proofs.PlaceLemmas.{slice_get-set_other}
-pub use Rattle.mv_type_states.proofs.Tokens.{lists_equal, tokens_equal}
-pub use Rattle.mv_type_states.specs.TypeRules.{Types, boolean, takes_gives, taken, top_type, plain_of, number, mutable_target_of}
-pub use Rattle.mv_type_states.specs.TypesAt.{TypesAt}
-pub use Rattle.mv_type_states.specs.TypesHold.{function_is_typed, types_through}
+pub use Rattle.mv_bound_rules.proofs.Tokens.{lists_equal, tokens_equal}
+pub use Rattle.mv_type_rules.specs.TypeRules.{Types, boolean, takes_gives, taken, top_type, plain_of, number, mutable_target_of}
+pub use Rattle.mv_type_rules.specs.TypesAt.{TypesAt}
+pub use Rattle.mv_type_rules.specs.TypesHold.{function_is_typed, types_through}
 pub use Rattle.mv_soundness.specs.Typing.Accepted.{StoreAccepted, ModuleAccepted}
 pub use Rattle.mv_soundness.proofs.Typing.Facts.{SoundStore, Advance, Row, Facts, CallFacts, Named, are_plain, ConstantFacts}
 pub use Rattle.mv_soundness.specs.Typing.HasType.{in_range, Roots, Rooted, IsOf, AreOf, Table, HasType, AtOnce, PointsTo, LentHaveTypes}
@@ -69,4 +69,4 @@ pub use Rattle.mv_soundness.specs.Typing.StateTyped.{IsWaiting}
 pub use Rattle.mv_soundness.specs.Typing.Unreached.{Avoid, Unreached, BelowAvoid}
 pub use Rattle.mv_signatures.specs.Signatures.{may_be_field}
 pub use Rattle.mv_abilities.specs.Abilities.{token_abilities, value_type_abilities}
-pub use Rattle.mv_bounds.proofs.Entries.{all_at, there_below}
+pub use Rattle.mv_bound_rules.proofs.Entries.{all_at, there_below}

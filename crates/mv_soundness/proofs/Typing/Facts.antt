@@ -13,13 +13,13 @@ use Rattle.mv_machine.specs.State.{State}
 use Rattle.mv_move_types.specs.Tags.{Tag}
 use Rattle.mv_machine.specs.Typing.{tag_named}
 use Rattle.mv_move_types.specs.Flow.{successors}
-use Rattle.mv_type_states.specs.TypeRules.{Types, types_after}
-use Rattle.mv_interface.specs.TypesByName.{token_named, tokens_named}
+use Rattle.mv_type_rules.specs.TypeRules.{Types, types_after}
+use Rattle.mv_bound_rules.specs.TypesByName.{token_named, tokens_named}
 use Rattle.mv_module_text.specs.Fits.{instruction_fits}
 use Rattle.mv_machine.specs.Step.{Here, OwnStruct, own_struct, is_reference_tag}
 use Rattle.mv_machine.specs.StepControl.{Callee, callee}
 use Rattle.mv_soundness.specs.Typing.HasType.{in_range, fields_by_name}
-use Rattle.mv_type_states.specs.TypesAt.{TypesAt}
+use Rattle.mv_type_rules.specs.TypesAt.{TypesAt}
 use Rattle.mv_soundness.specs.Typing.StateTyped.{Stands, result_tags}
 
 -- no type is a reference's

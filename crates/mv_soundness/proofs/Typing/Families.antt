@@ -5,7 +5,7 @@ use Rattle.mv_soundness.proofs.Typing.Common.{Number, Token, Plain, OfLeaf, Widt
 use Rattle.mv_soundness.proofs.Typing.Common.{Aborts, Value, Leaf, on_bind, Types, boolean, takes_gives, taken, top_type, number, in_range, Roots, HasToken, HaveTokens}
 use Rattle.std.proofs.Common.{◌/◌, ◌%◌}
 use Rattle.std.proofs.{Math.Nat.div-le_self, Math.Pow.pow_pos, lemmas.Nat.or_lt, lemmas.Nat.xor_lt, lemmas.Nat.and_le_l}
-use Rattle.mv_type_states.specs.TypeRules.{top_width, of_two_numbers, of_shift, of_cast, width_of}
+use Rattle.mv_type_rules.specs.TypeRules.{top_width, of_two_numbers, of_shift, of_cast, width_of}
 use Rattle.mv_machine.specs.{Numbers.Operator, Numbers.fitting, declared.Kind.TheVariants.Arith}
 use Rattle.mv_machine.specs.StepNumbers.{binary, comparison, shift, cast, logic, negation}
 use Rattle.mv_soundness.proofs.{Typing.Tests.same_width-same, Typing.Parts.Part, Typing.Parts.some, Typing.Parts.passes}

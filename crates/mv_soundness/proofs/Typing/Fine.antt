@@ -9,9 +9,9 @@ use Rattle.mv_soundness.proofs.{Typing.Operands.on_names, Typing.Tests.same_kind
 use Rattle.mv_soundness.proofs.{Typing.Callees.on_found}
 use Rattle.mv_move_types.specs.{Options.find_index, Names.same_struct, Named.is_struct}
 use Rattle.mv_machine.specs.Typed.{leaf_fits, is_of_type, are_of_types, is_of_struct, is_fine_entry, is_fine_storage}
-use Rattle.mv_interface.proofs.NameLemmas.{same_struct-is}
+use Rattle.mv_bound_rules.proofs.NameLemmas.{same_struct-is}
 use Rattle.mv_soundness.specs.Typing.HasType.{fields_by_name}
-use Rattle.mv_type_states.proofs.Tokens.{kinds_equal}
+use Rattle.mv_bound_rules.proofs.Tokens.{kinds_equal}
 
 -- what the phases say of a struct's definition: its fields' types have names, and none is a reference or a signer
 pub record Defined (modules : List Module) (m : Module) (fields : List Field) : Type 0 where

@@ -7,7 +7,7 @@ use Rattle.mv_move_types.specs.declared.instruction.Exit.TheVariants.{Next, Fork
 use Rattle.mv_move_types.specs.Instructions.{exit_of}
 use Rattle.mv_move_types.specs.Flow.{exit_ends_block, exit_successors, successors}
 use Rattle.mv_cfg.specs.Blocks.{blocks_at, block_between, is_target}
-use Rattle.mv_type_states.specs.TypeRules.{types_after}
+use Rattle.mv_type_rules.specs.TypeRules.{types_after}
 
 -- ---- lists
 

@@ -10,7 +10,7 @@ use Rattle.mv_move_types.specs.{Results.◌>>=◌, Module.struct_abilities}
 use Rattle.mv_machine.specs.{declared.Kind.TheVariants.Exists as AlreadyThere, declared.Kind.TheVariants.Missing, StepGlobals.exists, StepGlobals.borrow_global, StepGlobals.move_from}
 use Rattle.mv_machine.specs.Step.{keyed_struct, move_to, key_at, as_signer, with_storage}
 use Rattle.mv_machine.proofs.Binds.{none-is}
-use Rattle.mv_type_states.specs.TypeRules.{address, keyed_type, of_global, of_move_to}
+use Rattle.mv_type_rules.specs.TypeRules.{address, keyed_type, of_global, of_move_to}
 use Rattle.mv_soundness.specs.{Typing.HasType.fields_by_name, Typing.Unreached.Unlent}
 use Rattle.mv_soundness.proofs.Typing.Parts.{Part, known, passes, tried, tested, frozen}
 use Rattle.mv_soundness.proofs.Typing.Operands.{on_test, takes_gives-is, one_operand, leaf}

@@ -4,7 +4,7 @@ use Rattle.mv_soundness.proofs.Typing.Common.{same_Some, slice_get, ok_or, not, 
 use Rattle.mv_soundness.proofs.Typing.Common.{State, root_value, Here, operand, with_stack, goes_on, may_drop, with_own_local, untouched, can_copy, Faults, LinkageFault, entry}
 use Rattle.mv_soundness.proofs.Typing.Common.{LostFault, Value, Leaf, Struct, Ref, Root, Local, Stored, on_bind, token_named, value_type_named, Types, taken, plain_of, TypesAt, Row}
 use Rattle.mv_soundness.proofs.Typing.Common.{Roots, Rooted, IsOf, HasType, AtOnce, HasToken, HaveTokens, TurnTyped, LocalHasToken, Avoid, Unreached, token_abilities}
-use Rattle.mv_type_states.specs.TypeRules.{of_copy, of_borrow_local}
+use Rattle.mv_type_rules.specs.TypeRules.{of_copy, of_borrow_local}
 use Rattle.mv_move_types.specs.Module.{local_type}
 use Rattle.mv_machine.specs.Step.{held, move_local, borrow_local, local_place, local_tag}
 use Rattle.mv_machine.specs.StepLocals.{copy_local, store_local}

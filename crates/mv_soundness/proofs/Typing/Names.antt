@@ -6,7 +6,7 @@ use Rattle.mv_soundness.proofs.Typing.Common.{OfStruct, tag_named, Failure, belo
 use Rattle.mv_soundness.proofs.Typing.Common.{Named}
 use Rattle.mv_machine.specs.Typing.{struct_tag, value_type_tag}
 use Rattle.mv_move_types.specs.{Named.declared, AbilitySets.same_abilities}
-use Rattle.mv_bounds.specs.Bounds.{InBounds, value_type_in, struct_handle_in}
+use Rattle.mv_bound_rules.specs.Bounds.{InBounds, value_type_in, struct_handle_in}
 use Rattle.mv_link_rules.specs.StoreRules.{struct_is_there}
 use Rattle.mv_interface.proofs.OwnDefinitions.{module_there, struct_name_by}
 

@@ -8,7 +8,7 @@ use Rattle.std.proofs.lemmas.List.{length-reverse, reverse-append, reverse-rever
 use Rattle.std.proofs.{Math.Seq.take-append_seam, Math.Seq.drop-append_seam, lemmas.Bool.le-leb}
 use Rattle.mv_soundness.specs.Typing.HasType.{fields_by_name}
 use Rattle.std.specs.Bool.{then_some}
-pub use Rattle.mv_type_states.proofs.HeightLemmas.{top_some as top_type-is}
+pub use Rattle.mv_type_rules.proofs.Steps.{top_some as top_type-is}
 
 -- ---- tests of types
 

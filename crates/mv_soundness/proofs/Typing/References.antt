@@ -9,11 +9,11 @@ use Rattle.mv_soundness.proofs.Typing.Operands.{on_names, on_test, takes_gives-i
 use Rattle.mv_soundness.proofs.{Typing.Within.leads_on, Typing.Roots.place_of, Typing.Roots.is_plain, Typing.Stays.gives_typed, Typing.Stays.top_typed}
 use Rattle.mv_soundness.proofs.Typing.Parts.{Part, known, passes, tested, lost}
 use Rattle.std.proofs.lemmas.Option.{slice_get-map}
-use Rattle.mv_type_states.specs.TypeRules.{target_of, field_types, of_mutable_field, of_immutable_field, of_read, of_freeze}
+use Rattle.mv_type_rules.specs.TypeRules.{target_of, field_types, of_mutable_field, of_immutable_field, of_read, of_freeze}
 use Rattle.mv_machine.specs.StepReferences.{extended, own_field, borrow_field, read_reference, freeze, lends}
 use Rattle.mv_soundness.specs.Typing.HasType.{fields_by_name}
 use Rattle.mv_borrow_graph.specs.Laws.Shifts.{plain_of-is}
-use Rattle.mv_type_states.proofs.Tokens.{value_types_equal}
+use Rattle.mv_bound_rules.proofs.Tokens.{value_types_equal}
 
 -- a value of a reference's type
 pub record IsReference (modules : List Module) (look : Roots) (home : Module) (v : Value) (is_mutable : Bool) (u : ValueType) : Type 0 where

@@ -10,7 +10,7 @@ use Rattle.mv_move_types.specs.declared.instruction.Instruction.TheVariants.{Pop
 use Rattle.mv_move_types.specs.declared.instruction.Instruction.TheVariants.{ImmBorrowField, Pack, Unpack, ReadRef, WriteRef, Add, Sub, Mul, Mod, Div, BitOr, BitAnd, Xor, Or, And, Not, Eq}
 use Rattle.mv_move_types.specs.declared.instruction.Instruction.TheVariants.{Neq, Lt, Gt, Le, Ge, Nop, Exists, MutBorrowGlobal, ImmBorrowGlobal, MoveFrom, MoveTo, FreezeRef, Shl, Shr}
 use Rattle.mv_move_types.specs.declared.instruction.Instruction.TheVariants.{LdU8, LdU128, CastU8, CastU64, CastU128, LdU16, LdU32, CastU16, CastU32}
-use Rattle.mv_type_states.specs.TypeRules.{types_after}
+use Rattle.mv_type_rules.specs.TypeRules.{types_after}
 use Rattle.mv_machine.specs.{Step.rule, Step.step, StepLocals.pop, StepReferences.read_reference}
 use Rattle.mv_soundness.specs.Typing.Unreached.{Guarded, StepGuarded}
 use Rattle.mv_soundness.proofs.{Typing.Parts.Part, Typing.Parts.known, Typing.Parts.passes, Typing.Write.writes, Typing.Structs.packs, Typing.Structs.unpacks, Typing.Calls.calls}

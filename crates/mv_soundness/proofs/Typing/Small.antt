@@ -7,7 +7,7 @@ use Rattle.mv_soundness.proofs.Typing.Common.{TurnTyped, token_abilities}
 use Rattle.mv_machine.specs.{Value.same_value, StepLocals.pop, StepNumbers.equality, StepNumbers.constant, StepNumbers.constant_value, StepControl.branch_if, StepControl.abort}
 use Rattle.std.specs.Prelude.{is_some}
 use Rattle.mv_machine.specs.{StepParts.pushes, StepParts.goes_to}
-use Rattle.mv_type_states.specs.TypeRules.{of_pop, of_equality, of_constant}
+use Rattle.mv_type_rules.specs.TypeRules.{of_pop, of_equality, of_constant}
 use Rattle.mv_soundness.specs.Typing.HasType.{fields_by_name}
 use Rattle.mv_soundness.proofs.Typing.Parts.{Part, known, passes, tested, lost}
 use Rattle.mv_soundness.proofs.Typing.Operands.{on_test, taken-is, top_type-is, one_operand, leaf, of_leaf}

@@ -9,7 +9,7 @@ use Rattle.mv_soundness.proofs.{Typing.Parts.Part, Typing.Parts.known, Typing.Pa
 use Rattle.mv_soundness.proofs.Typing.Roots.{is_plain, plain_is, tokens_have_tags, typed_have_tags}
 use Rattle.std.proofs.{lemmas.List.length-map, lemmas.Bool.not-true}
 use Rattle.mv_machine.specs.{Value.fields_of, Step.own_struct, Step.pack, StepStructs.unpack, StepStructs.noted}
-use Rattle.mv_type_states.specs.TypeRules.{of_pack, of_unpack}
+use Rattle.mv_type_rules.specs.TypeRules.{of_pack, of_unpack}
 use Rattle.mv_soundness.specs.Typing.HasType.{fields_by_name}
 
 -- the tags of a list of types are found

@@ -1,6 +1,6 @@
 -- What the tests of numbers, bytes and kinds mean.
 use Rattle.mv_soundness.proofs.Typing.Common.{◌≡◌, true, Bool, beq, booleans_Decides, same_kind, same_width, LeafKind, Number, Plain, OfLeaf, Width}
-use Rattle.mv_type_states.proofs.Tokens.{token_same}
+use Rattle.mv_bound_rules.proofs.Tokens.{token_same}
 
 pub same_width-same : (w : Width) → same_width w w ≡ true
 same_width-same w = token_same (Plain (OfLeaf (Number w)))

@@ -6,7 +6,7 @@ use Rattle.mv_soundness.proofs.Typing.Common.{as_reference, follow, with_stack, 
 use Rattle.mv_soundness.proofs.Typing.Common.{Local, Stored, Reference, Place, with_value_at, on_bind, same_key-to, Types, taken, top_type, mutable_target_of, TypesAt, Row, Roots}
 use Rattle.mv_soundness.proofs.Typing.Common.{Rooted, IsOf, HasType, HaveTokens, LocalsHaveTokens, Numbered, AreWaiting, TurnTyped, EntryTyped, value_type_abilities}
 use Rattle.mv_machine.specs.{State.with_root, State.with_place, StepReferences.write_reference}
-use Rattle.mv_type_states.specs.TypeRules.{of_write}
+use Rattle.mv_type_rules.specs.TypeRules.{of_write}
 use Rattle.mv_soundness.specs.Typing.HasType.{fields_by_name}
 use Rattle.mv_soundness.proofs.{Typing.Within.one_type, Typing.Within.write_within, Typing.References.mutable_one, Typing.References.mutable_target-is, Typing.Stays.moved}
 use Rattle.mv_soundness.proofs.{Typing.Stays.top_typed}

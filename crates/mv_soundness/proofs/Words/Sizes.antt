@@ -3,13 +3,13 @@ use Rattle.mv_soundness.proofs.Typing.Common.{◌≡◌, List, ap, ◌∙◌, su
 use Rattle.mv_soundness.proofs.Typing.Common.{StructName, ◌>>=◌, on_bind, all_at, StoreAccepted}
 use Rattle.mv_move_types.specs.Leaves.{leaves_within}
 use Rattle.mv_move_types.specs.Names.{same_struct}
-use Rattle.mv_interface.proofs.{NameLemmas.same_struct-is}
+use Rattle.mv_bound_rules.proofs.{NameLemmas.same_struct-is}
 use Rattle.mv_soundness.proofs.Typing.Callees.{on_found}
 use Rattle.mv_soundness.proofs.Words.Leaves.{Sized}
 use Rattle.std.proofs.lemmas.Bool.{leb-true}
 use Rattle.mv_move_types.specs.{Options.find_index, Module.name_of_struct, Named.is_struct, Named.module_named, Named.module_place}
 use Rattle.mv_link_rules.specs.StoreRules.{struct_is_small}
-use Rattle.mv_interface.proofs.Found.{found_passes}
+use Rattle.mv_bound_rules.proofs.Found.{found_passes}
 
 pub sizes : (modules : List Module) → StoreAccepted modules → Sized modules
 sizes modules store name d e =

@@ -19,7 +19,7 @@ use Rattle.mv_machine.specs.Value.{Root, Local, Stored, Place, Reference, Value}
 use Rattle.mv_machine.specs.State.{Frame, local_value}
 use Rattle.mv_machine.specs.Live.{reference_of, overlap}
 use Rattle.mv_edges.specs.Edges.{Label, Edge}
-use Rattle.mv_certificate.specs.Certificate.{Known}
+use Rattle.mv_certificate_rules.specs.Certificate.{Known}
 
 -- a frame, and for each argument of the frame above it the reference that it is, if it is one
 pub record Seen : Type 0 where

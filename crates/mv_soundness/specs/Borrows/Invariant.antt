@@ -13,8 +13,8 @@ use Rattle.mv_move_types.specs.Module.{Module, FunctionDefinition}
 use Rattle.mv_machine.specs.Value.{Stored, Reference}
 use Rattle.mv_machine.specs.State.{Frame, State, frames}
 use Rattle.mv_machine.specs.Live.{frame_references, overlap}
-use Rattle.mv_certificate.specs.Certificate.{Known, Certificate, Stated}
-use Rattle.mv_type_states.specs.TypeRules.{Types}
+use Rattle.mv_certificate_rules.specs.Certificate.{Known, Certificate, Stated}
+use Rattle.mv_type_rules.specs.TypeRules.{Types}
 use Rattle.mv_certificate.specs.Known.{known_before}
 use Rattle.mv_soundness.specs.Borrows.Covers.{Seen, Covers}
 

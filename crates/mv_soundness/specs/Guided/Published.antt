@@ -1,8 +1,8 @@
 -- Runs over published modules: no run meets a fault, and each state that it comes to is as the modules' certificates say.
 use Rattle.std.specs.Prelude.{◌≡◌, ℕ, List, length, Some, Ok, slice_get}
 use Rattle.mv_move_types.specs.Published.{PublishedModule}
-use Rattle.mv_certificate.specs.Certificate.{Certificate}
-use Rattle.mv_certificate.specs.CertificateText.{IsCertificateText}
+use Rattle.mv_certificate_rules.specs.Certificate.{Certificate}
+use Rattle.mv_certificate_rules.specs.CertificateText.{IsCertificateText}
 use Rattle.mv_link_rules.specs.Link.{IsStore, tables_in}
 use Rattle.mv_machine.specs.State.{Storage, State}
 use Rattle.mv_machine.specs.Run.{FunctionCall, first_state, run}

@@ -1,12 +1,12 @@
 -- What the phases and the link rules let into a store.
 use Rattle.std.specs.Prelude.{◌≡◌, ℕ, IsTrue, List, Some, slice_get}
 use Rattle.mv_move_types.specs.Module.{Module}
-use Rattle.mv_bounds.specs.Bounds.{InBounds}
-use Rattle.mv_bounds.specs.Definitions.{WellDefined, all_differ}
+use Rattle.mv_bound_rules.specs.Bounds.{InBounds}
+use Rattle.mv_bound_rules.specs.Definitions.{WellDefined, all_differ}
 use Rattle.mv_signatures.specs.Signatures.{WellSigned}
 use Rattle.mv_abilities.specs.Abilities.{AbilitiesHold}
 use Rattle.mv_cfg.specs.Blocks.{FlowHolds}
-use Rattle.mv_type_states.specs.TypesHold.{TypesHold}
+use Rattle.mv_type_rules.specs.TypesHold.{TypesHold}
 use Rattle.mv_binary_format.specs.ModuleText.{HasText}
 use Rattle.mv_link_rules.specs.StoreRules.{Links}
 use Rattle.mv_move_types.specs.Named.{have_one_name}

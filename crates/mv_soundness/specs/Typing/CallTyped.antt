@@ -4,7 +4,7 @@ use Rattle.mv_move_types.specs.declared.token.Token.{Token}
 use Rattle.mv_move_types.specs.Module.{Module, FunctionDefinition, local_tokens}
 use Rattle.mv_move_types.specs.Tags.{Tag}
 use Rattle.mv_machine.specs.Run.{FunctionCall}
-use Rattle.mv_type_states.specs.TypesAt.{TypesAt}
+use Rattle.mv_type_rules.specs.TypesAt.{TypesAt}
 use Rattle.mv_soundness.specs.Typing.HasType.{Roots}
 use Rattle.mv_soundness.specs.Typing.StateTyped.{HaveTokens, result_tags}
 

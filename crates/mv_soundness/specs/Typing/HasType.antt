@@ -19,7 +19,7 @@ use Rattle.mv_machine.specs.Value.{Root, Reference, Value, Leaf, Struct, Ref, Va
 use Rattle.mv_move_types.specs.Tokens.{width_bits}
 use Rattle.mv_move_types.specs.Tags.{Tag, LeafTag, StructTag, ReferenceTag}
 use Rattle.mv_move_types.specs.Named.{definition_of}
-use Rattle.mv_interface.specs.TypesByName.{tokens_named}
+use Rattle.mv_bound_rules.specs.TypesByName.{tokens_named}
 use Rattle.mv_module_text.specs.Fits.{address_fits}
 use Rattle.mv_machine.specs.Step.{is_reference_tag}
 

@@ -22,9 +22,9 @@ use Rattle.mv_move_types.specs.Tags.{Tag, StructTag}
 use Rattle.mv_machine.specs.Typing.{Failure, Aborts, Faults, TypeFault, LinkageFault, DanglingFault, LostFault, FrozenFault}
 use Rattle.mv_module_text.specs.Fits.{address_fits}
 use Rattle.mv_machine.specs.Typed.{abilities_at}
-use Rattle.mv_type_states.specs.TypesAt.{TypesAt}
-use Rattle.mv_type_states.specs.TypeRules.{Types}
-use Rattle.mv_interface.specs.TypesByName.{token_named, tokens_named, signature_named}
+use Rattle.mv_type_rules.specs.TypesAt.{TypesAt}
+use Rattle.mv_type_rules.specs.TypeRules.{Types}
+use Rattle.mv_bound_rules.specs.TypesByName.{token_named, tokens_named, signature_named}
 use Rattle.mv_machine.specs.Step.{Here, Turn, Goes, Returns}
 use Rattle.mv_soundness.specs.Typing.HasType.{Roots, IsOf, HasType, LentHaveTypes, fields_by_name}
 

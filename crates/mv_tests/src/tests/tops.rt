@@ -1,6 +1,6 @@
 // How much of the types is kept for linking. What is proved says only that the two topmost are.
 
-use mv_type_states::Tops;
+use mv_type_rules::Tops;
 use std::alloc::{AllocError, Global};
 use std::test::Fail;
 

@@ -1,6 +1,6 @@
 use Rattle.mv_type_states.proofs.Common.{◌<◌, ◌∙◌, ◌≡◌, ap, arith, length, map, sym, true, take_all, slice_get_within, err_from_is_err_and, is_ok, types_before, function_is_typed}
-use Rattle.mv_type_states.proofs.Functions.{types_refused, types_listed, graph-here, AreTyped-push}
-use Rattle.mv_type_states.proofs.Stacks.{list_all-each}
+use Rattle.mv_type_rules.proofs.Functions.{types_refused, types_listed, graph-here, AreTyped-push}
+use Rattle.mv_type_rules.proofs.Functions.{list_all-each}
 use Rattle.mv_type_states.proofs.check_functions.Goals as goal
 
 pub returns-in_err-all-clause-refused : goal.returns-in_err-all-clause-refused

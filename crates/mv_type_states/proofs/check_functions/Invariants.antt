@@ -1,5 +1,5 @@
 use Rattle.mv_type_states.proofs.Common.{◌≡◌, map, take, types_before}
-use Rattle.mv_type_states.proofs.Functions.{AreTyped}
+use Rattle.mv_type_rules.proofs.Functions.{AreTyped}
 use Rattle.mv_type_states.proofs.check_functions.Given as goal
 
 -- the functions so far are well typed, and their types are listed

@@ -1,5 +1,5 @@
 use Rattle.mv_type_states.proofs.Common.{◌∙◌, ◌≡◌, ap, arith, length, sym, true, err_from_is_err_and, is_ok}
-use Rattle.mv_type_states.proofs.Functions.{flow_refused, AreGraphs-push}
+use Rattle.mv_type_rules.proofs.Functions.{flow_refused, AreGraphs-push}
 use Rattle.mv_type_states.proofs.flow_graphs.Goals as goal
 
 pub returns-in_err-graph-clause-refused : goal.returns-in_err-graph-clause-refused

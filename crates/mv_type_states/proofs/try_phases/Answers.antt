@@ -1,5 +1,5 @@
 use Rattle.mv_type_states.proofs.Common.{err_from_is_err_and}
-use Rattle.mv_type_states.proofs.Functions.{fails_signatures, fails_abilities, fails_flow, fails_types, FlowHolds-from_AreGraphs}
+use Rattle.mv_type_rules.proofs.Functions.{fails_signatures, fails_abilities, fails_flow, fails_types, FlowHolds-from_AreGraphs}
 use Rattle.mv_type_states.proofs.try_phases.Goals as goal
 
 pub returns-in_err-check-clause-refused : goal.returns-in_err-check-clause-refused

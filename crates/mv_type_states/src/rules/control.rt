@@ -1,12 +1,12 @@
 // Returns and calls.
 ghost use Rattle.std.specs.Prelude.{reverse, IfErr, ◌≡◌};
-ghost use Rattle.mv_type_states.specs.TypeRules.{of_return, of_call};
+ghost use Rattle.mv_type_rules.specs.TypeRules.{of_return, of_call};
 ghost use Rattle.mv_type_states.specs.Answers.{Follows};
 ghost use Rattle.mv_type_states.specs.Scopes.{IsScope};
 
 use crate::scope::Scope;
 use crate::stack::{pop_all, push_all};
-use mv_bounds::Bounded;
+use mv_bound_rules::Bounded;
 use mv_move_types::{Refusal, Token};
 
 /// Takes the parameters of a called function, and gives its results.

@@ -1,10 +1,10 @@
 // Values in the storage, by a struct definition that has key.
 ghost use Rattle.std.specs.Prelude.{reverse, IfErr, ◌≡◌};
-ghost use Rattle.mv_type_states.specs.TypeRules.{boolean, keyed_type, of_global, of_move_to};
+ghost use Rattle.mv_type_rules.specs.TypeRules.{boolean, keyed_type, of_global, of_move_to};
 ghost use Rattle.mv_type_states.specs.Answers.{Follows, Finds};
 
 use crate::stack::{ADDRESS, BOOLEAN, exchange, pop_all};
-use mv_bounds::Bounded;
+use mv_bound_rules::Bounded;
 use mv_move_types::{LeafKind, Refusal, Token, ValueType};
 
 /// Takes an address, and gives a bool.

@@ -1,14 +1,14 @@
 // Values that are taken away, and locals: copied, moved, stored and borrowed.
 ghost use Rattle.std.specs.Prelude.{reverse, slice_get, IfErr, ◌≡◌, ◌++◌};
 ghost use Rattle.mv_move_types.specs.Module.{local_type};
-ghost use Rattle.mv_type_states.specs.TypeRules.{of_copy, of_pop, of_borrow_local, types_after};
+ghost use Rattle.mv_type_rules.specs.TypeRules.{of_copy, of_pop, of_borrow_local, types_after};
 ghost use Rattle.mv_type_states.specs.Answers.{Follows, Finds};
 ghost use Rattle.mv_type_states.specs.Scopes.{IsScope};
 
 use crate::rules::numbers::plain;
 use crate::scope::Scope;
 use crate::stack::{abilities, pop, push, take_top};
-use mv_bounds::Bounded;
+use mv_bound_rules::Bounded;
 use mv_move_types::{Instruction, Refusal, Token};
 
 /// Takes a value that may be dropped.
@@ -62,7 +62,7 @@ impl<'s, 'a> Scope<'s, 'a> {
     }
 
     /// Gives the type of a local.
-    #[tactic(auto, unfolding(crate::specs::TypeRules::types_after))]
+    #[tactic(auto, unfolding(mv_type_rules::specs::TypeRules::types_after))]
     pub fn move_local(&self, index: u16, stack: &mut Vec<Token>) -> Result<(), Refusal>
         requires { IsScope self.now }
         ensures { Follows result (types_after self.now.module.now self.now.function.now (Instruction.MoveLoc index) (reverse stack.old.items)) (reverse stack.new.items) }
@@ -72,7 +72,7 @@ impl<'s, 'a> Scope<'s, 'a> {
     }
 
     /// Takes the type of a local.
-    #[tactic(auto, unfolding(crate::specs::TypeRules::types_after))]
+    #[tactic(auto, unfolding(mv_type_rules::specs::TypeRules::types_after))]
     pub fn store_local(&self, index: u16, stack: &mut Vec<Token>) -> Result<(), Refusal>
         requires { IsScope self.now }
         ensures types { Follows result (types_after self.now.module.now self.now.function.now (Instruction.StLoc index) (reverse stack.old.items)) (reverse stack.new.items) }

@@ -1,10 +1,10 @@
 // Numbers and bools: constants, arithmetic, tests, shifts and casts.
 ghost use Rattle.std.specs.Prelude.{reverse, IfErr, ◌≡◌};
-ghost use Rattle.mv_type_states.specs.TypeRules.{boolean, number as number_type, width_of, plain_of, top_width as top_width_of, of_constant, of_two_numbers, of_equality, of_shift, of_cast};
+ghost use Rattle.mv_type_rules.specs.TypeRules.{boolean, number as number_type, width_of, plain_of, top_width as top_width_of, of_constant, of_two_numbers, of_equality, of_shift, of_cast};
 ghost use Rattle.mv_type_states.specs.Answers.{Follows, Finds};
 
 use crate::stack::{BOOLEAN, abilities, exchange, exchange_two, number, pop, push, take_top};
-use mv_bounds::Bounded;
+use mv_bound_rules::Bounded;
 use mv_move_types::{LeafKind, Refusal, Token, ValueType, Width};
 
 /// Gives a constant's type.

@@ -1,11 +1,11 @@
 // References: to fields, read, written and frozen.
 ghost use Rattle.std.specs.Prelude.{reverse, IfErr, ◌≡◌};
-ghost use Rattle.mv_type_states.specs.TypeRules.{target_of, mutable_target_of, field_types as types_of_field, of_mutable_field, of_immutable_field, of_read, of_write, of_freeze};
+ghost use Rattle.mv_type_rules.specs.TypeRules.{target_of, mutable_target_of, field_types as types_of_field, of_mutable_field, of_immutable_field, of_read, of_write, of_freeze};
 ghost use Rattle.mv_type_states.specs.Answers.{Follows, Finds};
 
 use crate::rules::numbers::plain;
 use crate::stack::{abilities, exchange, pop, push, take_top};
-use mv_bounds::Bounded;
+use mv_bound_rules::Bounded;
 use mv_move_types::{Refusal, Token, ValueType};
 
 /// Takes a mutable reference to a struct, and gives one to its field.

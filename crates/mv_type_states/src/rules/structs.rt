@@ -1,10 +1,10 @@
 // Structs: made of their fields and taken apart.
 ghost use Rattle.std.specs.Prelude.{reverse};
-ghost use Rattle.mv_type_states.specs.TypeRules.{of_pack, of_unpack};
+ghost use Rattle.mv_type_rules.specs.TypeRules.{of_pack, of_unpack};
 ghost use Rattle.mv_type_states.specs.Answers.{Follows};
 
 use crate::stack::{pop, pop_fields, push, push_fields};
-use mv_bounds::Bounded;
+use mv_bound_rules::Bounded;
 use mv_move_types::{Refusal, Token, ValueType};
 
 /// Takes the fields, and gives the struct.

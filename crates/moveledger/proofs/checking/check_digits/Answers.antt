@@ -2,7 +2,7 @@ use Rattle.std.proofs.Common.{ℕ, List, Err, ap, arith, subst}
 use Rattle.std.proofs.lemmas.Result.{err_from_is_err_and}
 use Rattle.mv_binary_format.proofs.Back.{all-are_bytes}
 use Rattle.mv_acquires.specs.Acquires.{AcquiresHold}
-use Rattle.mv_certificate.specs.CertificateText.{IsCertificateText}
+use Rattle.mv_certificate_rules.specs.CertificateText.{IsCertificateText}
 use Rattle.moveledger.specs.Checking.{offer_of}
 use Rattle.mv_ledger_state.proofs.Phases.{refused_stated, refused_check}
 use Rattle.moveledger.proofs.Verdicts.{refused-in_module, refused-in_digits, refused-in_certificate}

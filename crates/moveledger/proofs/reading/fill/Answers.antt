@@ -1,7 +1,7 @@
 use Rattle.std.proofs.Common.{◌-◌, length, take, arith, refl}
 use Rattle.std.proofs.KnownBytes.{Consumes-trans, Consumes-kept}
 use Rattle.std.proofs.lemmas.Grind.{common_steps}
-use Rattle.moveledger.proofs.Taken.{take-put_mid_more}
+use Rattle.mv_commands.proofs.Buffers.{take-put_mid_more}
 use Rattle.moveledger.proofs.reading.fill.Goals as goal
 
 pub loop-filled-preserved : goal.loop-filled-preserved

@@ -2,7 +2,7 @@ use Rattle.std.proofs.Common.{List, Option, IsTrue, ◌++◌, ◌∙◌, ap, sym
 use Rattle.mv_lattice.specs.Search.{EndsWith, MeetsNeed, MeetsLimit}
 use Rattle.mv_edges.specs.Edges.{Edge, edges_leq}
 use Rattle.mv_edges.specs.Sorted.{sorted}
-use Rattle.mv_borrow_graph.specs.Nodes.{are_few}
+use Rattle.mv_certificate_rules.specs.Nodes.{are_few}
 use Rattle.mv_certificate.proofs.States.{graph-at}
 use Rattle.mv_certificate.specs.Functions.{EdgesHoldAt}
 use Rattle.mv_analyser.specs.States.{with_edges, EndsEdges, IsErrorAt, IsComplexAt}

@@ -1,6 +1,6 @@
 use Rattle.std.proofs.Common.{◌<◌, None, arith, get_or, length}
 use Rattle.std.proofs.lemmas.Option.{slice_get-get_or}
-use Rattle.mv_certificate.specs.Certificate.{Stated}
+use Rattle.mv_certificate_rules.specs.Certificate.{Stated}
 use Rattle.mv_analyser.proofs.LeastEdges.{with_next}
 use Rattle.mv_analyser.proofs.borrows.stated_and.Goals as goal
 

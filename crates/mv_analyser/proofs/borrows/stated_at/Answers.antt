@@ -1,5 +1,5 @@
 use Rattle.std.proofs.Common.{arith}
-use Rattle.mv_certificate.specs.Certificate.{locals_hold}
+use Rattle.mv_certificate_rules.specs.Certificate.{locals_hold}
 use Rattle.mv_certificate.proofs.States.{fit-at, fit-length}
 use Rattle.mv_certificate.proofs.Holds.{passes-each}
 use Rattle.mv_analyser.proofs.borrows.stated_at.Goals as goal

@@ -1,6 +1,6 @@
 use Rattle.std.proofs.Common.{◌≡◌, ℕ, ◌++◌, ◌∷◌, [], arith, rules}
 use Rattle.std.proofs.lemmas.Grind.{common_steps}
-use Rattle.mv_certificate.specs.Certificate.{Stated}
+use Rattle.mv_certificate_rules.specs.Certificate.{Stated}
 use Rattle.mv_certificate.specs.Functions.{LocalsHoldAt}
 use Rattle.mv_certificate.specs.Reads.{FitsAt}
 use Rattle.mv_analyser.specs.Least.{HasLeastLocals}

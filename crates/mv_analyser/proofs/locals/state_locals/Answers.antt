@@ -2,7 +2,7 @@ use Rattle.std.proofs.Common.{List, Option, IsTrue, ◌∙◌, ap, sym, subst, �
 use Rattle.std.specs.Prelude.{⊤}
 use Rattle.mv_move_types.specs.declared.borrow.Availability.{Availability}
 use Rattle.mv_lattice.specs.Search.{EndsWith, MeetsNeed}
-use Rattle.mv_locals_safety.specs.LocalsRules.{locals_leq}
+use Rattle.mv_certificate_rules.specs.LocalsRules.{locals_leq}
 use Rattle.mv_locals_safety.specs.Domain.{joined}
 use Rattle.mv_certificate.specs.Functions.{LocalsHoldAt}
 use Rattle.mv_certificate.proofs.States.{graph-at}

@@ -1,4 +1,4 @@
-use Rattle.mv_borrow_graph.specs.BorrowRules.{reference_nodes}
+use Rattle.mv_certificate_rules.specs.BorrowRules.{reference_nodes}
 use Rattle.mv_borrow_graph.specs.Domain.{is_picked}
 use Rattle.mv_borrow_graph.proofs.Rows.{picked_more, picked_all}
 use Rattle.mv_borrow_graph.proofs.nodes.nodes_of.Goals as goal

@@ -1,5 +1,5 @@
 use Rattle.std.proofs.Common.{◌≡◌, ◌+◌, ◌++◌, drop}
-use Rattle.mv_borrow_graph.specs.BorrowRules.{reference_nodes}
+use Rattle.mv_certificate_rules.specs.BorrowRules.{reference_nodes}
 use Rattle.mv_borrow_graph.specs.Domain.{is_picked}
 use Rattle.mv_borrow_graph.proofs.nodes.nodes_of.Given as goal
 

@@ -1,5 +1,5 @@
 use Rattle.mv_bounds.proofs.Common.{ℕ, ◌+◌, ◌∙◌, ◌≤◌, List, ap, arith, get_or, length, refl, take, length-take-le, take_all, times}
-use Rattle.mv_bounds.proofs.TimesLemmas.{times_length}
+use Rattle.mv_bound_rules.proofs.TimesLemmas.{times_length}
 use Rattle.mv_bounds.proofs.CountLemmas.{count_hit, count_miss}
 use Rattle.mv_bounds.proofs.cycles.count.Goals.{then-target-counts, else-target-counts}
 use Rattle.mv_bounds.proofs.cycles.count.Goals as goal

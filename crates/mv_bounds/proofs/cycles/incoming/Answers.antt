@@ -1,5 +1,5 @@
 use Rattle.mv_bounds.proofs.Common.{ℕ, ◌++◌, ◌+◌, ◌<◌, ◌^◌, ◌∙◌, ◌≡◌, List, ap, arith, drop, get_or, length, subst, sym, take, take_at, times}
-use Rattle.mv_bounds.proofs.TimesLemmas.{times_length}
+use Rattle.mv_bound_rules.proofs.TimesLemmas.{times_length}
 use Rattle.mv_bounds.proofs.CountLemmas.{incoming_more}
 use Rattle.mv_bounds.proofs.cycles.incoming.Goals as goal
 

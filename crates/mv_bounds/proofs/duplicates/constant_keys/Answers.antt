@@ -1,5 +1,5 @@
 use Rattle.mv_bounds.proofs.Common.{ℕ, ◌∙◌, ◌≡◌, Bor, List, ap, ap₂, map, take_all, Constant, token_code}
-use Rattle.mv_bounds.proofs.Entries.{gather_more}
+use Rattle.mv_bound_rules.proofs.Entries.{gather_more}
 use Rattle.mv_bounds.proofs.duplicates.constant_keys.Goals as goal
 
 pub loop-constant-preserved : goal.loop-constant-preserved

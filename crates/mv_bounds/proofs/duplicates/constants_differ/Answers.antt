@@ -1,5 +1,5 @@
 use Rattle.mv_bounds.proofs.Common.{ℕ, ◌&&◌, ◌∙◌, Bool, Bor, List, ap, bytes_eq, eqb, map, Constant, token_code}
-use Rattle.mv_bounds.specs.Definitions.{same_constant}
+use Rattle.mv_bound_rules.specs.Definitions.{same_constant}
 use Rattle.mv_bounds.proofs.Distinct.{answer_by_keys}
 use Rattle.mv_bounds.proofs.TypeLemmas.{tokens_by_code}
 use Rattle.mv_bounds.proofs.duplicates.constants_differ.Goals as goal

@@ -1,5 +1,5 @@
 use Rattle.mv_bounds.proofs.Common.{ℕ, ◌∙◌, Bor, Global, List, Vec, ap, arith, map, take_all}
-use Rattle.mv_bounds.proofs.Entries.{read_more, missing}
+use Rattle.mv_bound_rules.proofs.Entries.{read_more, missing}
 use Rattle.mv_bounds.proofs.duplicates.identifiers.Goals.{in-Some+in_ok-push, in_default}
 use Rattle.mv_bounds.proofs.duplicates.identifiers.Goals as goal
 

@@ -1,5 +1,5 @@
 use Rattle.mv_bounds.proofs.Common.{ℕ, ◌∙◌, Global, Vec, ap, arith, map, token_code}
-use Rattle.mv_bounds.proofs.Entries.{gather_asked, missing}
+use Rattle.mv_bound_rules.proofs.Entries.{gather_asked, missing}
 use Rattle.mv_bounds.proofs.duplicates.signature_codes.Goals.{in-Some+in_ok-token_codes+in_ok-push, in_default}
 use Rattle.mv_bounds.proofs.duplicates.signature_codes.Goals as goal
 

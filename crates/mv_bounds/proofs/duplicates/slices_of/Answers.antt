@@ -1,5 +1,5 @@
 use Rattle.mv_bounds.proofs.Common.{ℕ, ◌∙◌, Bor, Global, List, Vec, ap, map, take_all}
-use Rattle.mv_bounds.proofs.Entries.{gather_more}
+use Rattle.mv_bound_rules.proofs.Entries.{gather_more}
 use Rattle.mv_bounds.proofs.duplicates.slices_of.Goals as goal
 
 pub loop-list-preserved : goal.loop-list-preserved

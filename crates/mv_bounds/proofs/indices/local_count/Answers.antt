@@ -1,5 +1,5 @@
 use Rattle.mv_bounds.proofs.Common.{◌∙◌, ap, length-append, refl, sym, slice_get}
-use Rattle.mv_bounds.proofs.Entries.{got, missed}
+use Rattle.mv_bound_rules.proofs.Entries.{got, missed}
 use Rattle.mv_bounds.proofs.indices.local_count.Goals as goal
 
 pub returns-in_default : goal.returns-in_default

@@ -1,5 +1,5 @@
 use Rattle.mv_bounds.proofs.Common.{◌∙◌, sym, list_all, token_in}
-use Rattle.mv_bounds.proofs.Entries.{all_pass_more, all_pass_not}
+use Rattle.mv_bound_rules.proofs.Entries.{all_pass_more, all_pass_not}
 use Rattle.mv_bounds.proofs.indices.signatures_in.Goals as goal
 
 pub returns-then-not-tokens_in : goal.returns-then-not-tokens_in

@@ -1,7 +1,7 @@
 use Rattle.mv_interface.proofs.Common.{[], ◌++◌, ◌+◌, ◌∙◌, ◌∷◌, ◌≡◌, ◌≤◌, Field, List, Part, Some, StructDefinition, ap, arith, length, length_push, map, map-append, parts_by, refl, slice_get, slice_get_read}
 use Rattle.mv_interface.proofs.Common.{subst, sym, take, take_all}
 use Rattle.mv_interface.proofs.ShapeLemmas.{few-fields}
-use Rattle.mv_interface.proofs.Found.{taken-more}
+use Rattle.mv_bound_rules.proofs.Found.{taken-more}
 use Rattle.mv_interface.proofs.interface.parts_of.Goals.{After-put_parts}
 use Rattle.mv_interface.proofs.interface.parts_of.Goals as goal
 

@@ -1,6 +1,6 @@
 use Rattle.mv_interface.proofs.Common.{and_parts, leb-true, length, list_all, nat_le, sym}
 use Rattle.mv_module_text.specs.Fits.{signature_fits, token_fits}
-use Rattle.mv_bounds.proofs.Entries.{all_at}
+use Rattle.mv_bound_rules.proofs.Entries.{all_at}
 use Rattle.mv_interface.proofs.interface.tokens_at.Goals as goal
 
 pub returns-in-Some-clause-few : goal.returns-in-Some-clause-few

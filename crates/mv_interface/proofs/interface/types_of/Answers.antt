@@ -1,7 +1,7 @@
 use Rattle.mv_interface.proofs.Common.{[], ◌++◌, ◌+◌, ◌∙◌, ◌∷◌, ◌≡◌, FunctionDefinition, LinkedType, List, Some, ap, arith, leb-true, length, length-map, length_push, map, map-append, refl, slice_get}
 use Rattle.mv_interface.proofs.Common.{slice_get_read, sym, take, take_all, type_by, types_by, unwrap_or}
 use Rattle.mv_interface.specs.Interface.{tokens_on}
-use Rattle.mv_interface.proofs.Found.{taken-more}
+use Rattle.mv_bound_rules.proofs.Found.{taken-more}
 use Rattle.mv_interface.proofs.interface.types_of.Goals.{After-put_types}
 use Rattle.mv_interface.proofs.interface.types_of.Goals as goal
 

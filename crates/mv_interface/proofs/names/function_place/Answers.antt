@@ -1,5 +1,5 @@
 use Rattle.mv_interface.proofs.Common.{◌∙◌, FunctionDefinition, bytes_eq, false, name_of_function, option_map_or}
-use Rattle.mv_interface.proofs.Found.{position-find_index}
+use Rattle.mv_bound_rules.proofs.Found.{position-find_index}
 use Rattle.mv_interface.proofs.names.function_place.Goals as goal
 
 pub returns : goal.returns

@@ -1,6 +1,6 @@
 use Rattle.mv_interface.proofs.Common.{sym}
 use Rattle.mv_interface.proofs.HandleNames.{named-by, not-at, nothing, unnamed-address, unnamed-handle, unnamed-identifier}
-use Rattle.mv_interface.proofs.Found.{got-at}
+use Rattle.mv_bound_rules.proofs.Found.{got-at}
 use Rattle.mv_interface.proofs.names.module_name.Goals as goal
 
 pub returns-in_err-handle : goal.returns-in_err-handle

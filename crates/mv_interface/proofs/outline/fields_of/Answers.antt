@@ -1,6 +1,6 @@
 use Rattle.mv_interface.proofs.Common.{[], ◌++◌, ◌+◌, ◌∙◌, ◌∷◌, ◌≡◌, ◌≤◌, Field, List, Some, StructDefinition, ap, arith, length, length-map, length_push, map, map-append, names_by, refl, slice_get, slice_get_read, subst, sym, take, take_all}
 use Rattle.mv_interface.proofs.ShapeLemmas.{few-fields}
-use Rattle.mv_interface.proofs.Found.{taken-more}
+use Rattle.mv_bound_rules.proofs.Found.{taken-more}
 use Rattle.mv_interface.proofs.outline.fields_of.Goals.{After-put_names}
 use Rattle.mv_interface.proofs.outline.fields_of.Goals as goal
 

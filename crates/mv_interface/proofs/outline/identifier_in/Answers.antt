@@ -1,6 +1,6 @@
 use Rattle.mv_interface.proofs.Common.{◌∙◌, none-some, sym}
 use Rattle.mv_interface.proofs.FewIdentifiers.{short-identifier}
-use Rattle.mv_bounds.proofs.Entries.{element_at}
+use Rattle.mv_bound_rules.proofs.Entries.{element_at}
 use Rattle.mv_interface.proofs.outline.identifier_in.Goals as goal
 
 pub returns-in-Some-clause-short : goal.returns-in-Some-clause-short

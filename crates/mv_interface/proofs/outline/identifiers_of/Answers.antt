@@ -1,6 +1,6 @@
 use Rattle.mv_interface.proofs.Common.{[], ◌++◌, ◌+◌, ◌∙◌, ◌∷◌, ap, arith, length, length_push, sym, take_all}
 use Rattle.mv_interface.proofs.FewIdentifiers.{few_identifiers}
-use Rattle.mv_interface.proofs.Found.{taken-more}
+use Rattle.mv_bound_rules.proofs.Found.{taken-more}
 use Rattle.mv_interface.proofs.outline.identifiers_of.Goals as goal
 
 pub identifier_in-requires : goal.identifier_in-requires

@@ -1,5 +1,5 @@
 use Rattle.mv_ledger_state.proofs.Common.{Err, ap, subst, sym, err_from_is_err_and, Module, AcquiresHold, Offer, Certificate, Passes}
-use Rattle.mv_certificate.specs.Verified.{IsCertifiedBy}
+use Rattle.mv_certificate_rules.specs.Verified.{IsCertifiedBy}
 use Rattle.mv_ledger_state.proofs.Phases.{refused_stated, refused_check}
 use Rattle.mv_ledger_state.proofs.publishing.certified.Goals as goal
 

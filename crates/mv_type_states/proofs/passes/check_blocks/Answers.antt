@@ -2,7 +2,8 @@ use Rattle.mv_type_states.proofs.Common.{[], ℕ, ◌++◌, ◌+◌, ◌<◌, �
 use Rattle.mv_type_states.proofs.Common.{err_from_is_err_and, slice_range, basic_block_of, Block, Cfg, types_each, types_through}
 use Rattle.std.proofs.lemmas.List.{nil_from_length}
 use Rattle.mv_cfg.specs.Graph.{IsGraph}
-use Rattle.mv_type_states.proofs.BlockLemmas.{types_in, walked, listed_block, block_room, block_refused, all_typed, all_listed}
+use Rattle.mv_type_rules.specs.Sound.{types_in}
+use Rattle.mv_type_states.proofs.BlockLemmas.{walked, listed_block, block_room, block_refused, all_typed, all_listed}
 use Rattle.mv_type_states.proofs.passes.check_blocks.Goals as goal
 
 -- a block that the loop comes to lies in the code

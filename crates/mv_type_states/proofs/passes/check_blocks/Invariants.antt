@@ -1,5 +1,5 @@
 use Rattle.mv_type_states.proofs.Common.{[], ◌++◌, ◌≡◌, IsTrue, drop, flat_map, map, list_all, basic_block_of, block_is_level, types_before, block_is_typed, function_is_typed}
-use Rattle.mv_type_states.proofs.BlockLemmas.{types_in}
+use Rattle.mv_type_rules.specs.Sound.{types_in}
 use Rattle.mv_type_states.proofs.passes.check_blocks.Given as goal
 
 -- the blocks that are left decide; each is level, and the stack is empty; with what is listed they make the whole

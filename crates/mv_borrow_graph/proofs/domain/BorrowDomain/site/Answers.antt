@@ -1,4 +1,4 @@
-use Rattle.mv_type_states.specs.Sound.{types_before}
+use Rattle.mv_type_rules.specs.Sound.{types_before}
 use Rattle.mv_borrow_graph.proofs.Stacks.{low_stack}
 use Rattle.mv_borrow_graph.proofs.domain.BorrowDomain.site.Goals as goal
 

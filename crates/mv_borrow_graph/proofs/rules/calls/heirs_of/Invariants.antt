@@ -1,7 +1,7 @@
 use Rattle.std.proofs.Common.{◌≡◌, ◌+◌, ◌++◌, List, drop}
 use Rattle.mv_edges.specs.Edges.{Edge}
 use Rattle.mv_ways.specs.Graph.{taken_over}
-use Rattle.mv_borrow_graph.specs.BorrowRules.{result_edges}
+use Rattle.mv_certificate_rules.specs.BorrowRules.{result_edges}
 use Rattle.mv_borrow_graph.proofs.rules.calls.heirs_of.Given as goal
 
 -- with the edges of the results to come, these are the edges of all

@@ -1,7 +1,7 @@
 use Rattle.std.proofs.Common.{◌&&◌, not, sym, ap, ◌∙◌}
 use Rattle.std.specs.List.{list_any}
 use Rattle.mv_edges.specs.Edges.{agrees, out_of}
-use Rattle.mv_borrow_graph.specs.BorrowRules.{edges_after, is_mutable, top_temp}
+use Rattle.mv_certificate_rules.specs.BorrowRules.{edges_after, is_mutable, top_temp}
 use Rattle.mv_borrow_graph.proofs.Rows.{field_borrowed, field_refused}
 use Rattle.mv_borrow_graph.proofs.site.Site.borrow_field.Goals as goal
 

@@ -1,5 +1,5 @@
 use Rattle.std.proofs.Common.{true, sym, ◌∙◌}
-use Rattle.mv_borrow_graph.specs.BorrowRules.{edges_after}
+use Rattle.mv_certificate_rules.specs.BorrowRules.{edges_after}
 use Rattle.mv_borrow_graph.proofs.Rows.{copied_mutably}
 use Rattle.mv_borrow_graph.proofs.site.Site.copy_local.Goals as goal
 

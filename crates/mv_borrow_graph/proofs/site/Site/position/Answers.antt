@@ -1,5 +1,5 @@
 use Rattle.std.proofs.Common.{◌<◌, ap, arith}
-use Rattle.mv_type_states.specs.TypesHold.{Point}
+use Rattle.mv_type_rules.specs.TypesHold.{Point}
 use Rattle.mv_borrow_graph.proofs.Tables.{small_position}
 use Rattle.mv_borrow_graph.proofs.site.Site.position.Goals as goal
 

@@ -1,6 +1,6 @@
 use Rattle.mv_linker.proofs.Common.{◌∙◌, ◌≡◌, FunctionDefinition, Some, function_fits, same_Some, slice_get, subst, sym, none-some}
 use Rattle.mv_interface.proofs.HandleNames.{not-at}
-use Rattle.mv_interface.proofs.Found.{got-at}
+use Rattle.mv_bound_rules.proofs.Found.{got-at}
 use Rattle.mv_linker.proofs.rules.named_functions.fits_at.Goals as goal
 
 pub returns-in-Some : goal.returns-in-Some

@@ -1,6 +1,6 @@
 use Rattle.mv_linker.proofs.Common.{[], ℕ, ◌++◌, ◌<◌, ◌∙◌, ◌∷◌, ◌≡◌, Global, List, Option, Some, Vec, ap, arith, false, get_or, length, map, option_map, refl, slice_get, sym, take, length-map}
 use Rattle.mv_linker.proofs.Common.{map-append, take_more, MatchOption-at_none, MatchOption-at_some, get_or_from_slice_get, slice_get-map, slice_get_read, list_all, is_some, Size}
-use Rattle.mv_bounds.proofs.Entries.{all_pass_not}
+use Rattle.mv_bound_rules.proofs.Entries.{all_pass_not}
 use Rattle.mv_linker.proofs.rules.sizes.known_rows.Goals as goal
 
 abbrev items : List (Vec (Option Size) Global) → List (List (Option Size))

@@ -1,5 +1,5 @@
 use Rattle.mv_linker.proofs.Common.{◌∙◌, ◌≡◌, AreCodesOf, AreFieldsAt, Bor, List, None, Option, Part, PublishedModule, Some, ap, ap₂, option_map, slice_get, subst, sym, tables_in}
-use Rattle.mv_interface.proofs.Found.{got}
+use Rattle.mv_bound_rules.proofs.Found.{got}
 use Rattle.mv_linker.proofs.Kept.StoredShapes.{fields-known, no_fields}
 use Rattle.mv_linker.proofs.store.Store.fields.Goals as goal
 

@@ -1,5 +1,5 @@
 use Rattle.mv_linker.proofs.Common.{◌∙◌, ◌≡◌, AreCodesOf, List, None, PublishedModule, Some, StructOutline, ap, ap₂, false, option_map_or, slice_get, subst, sym, tables_in}
-use Rattle.mv_interface.proofs.Found.{got}
+use Rattle.mv_bound_rules.proofs.Found.{got}
 use Rattle.mv_linker.proofs.Kept.StoredShapes.{key-known, no_key}
 use Rattle.mv_linker.proofs.store.Store.is_keyed.Goals as goal
 

@@ -1,6 +1,6 @@
 use Rattle.mv_linker.proofs.Common.{◌>>=◌, ◌∙◌, ◌≡◌, AreCodesOf, Code, List, None, Option, PublishedModule, Some, ap, ap₂, slice_get, subst, sym, tables_in}
 use Rattle.mv_linker.proofs.LinkedCode.StoredCodes.{others-known}
-use Rattle.mv_interface.proofs.Found.{got}
+use Rattle.mv_bound_rules.proofs.Found.{got}
 use Rattle.mv_linker.proofs.store.Store.others.Goals as goal
 
 pub returns-in_err-code : goal.returns-in_err-code

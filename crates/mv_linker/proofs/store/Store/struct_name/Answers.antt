@@ -1,5 +1,5 @@
 use Rattle.mv_linker.proofs.Common.{ℕ, ◌∙◌, ◌≡◌, List, ModuleName, None, Option, Some, StructName, StructOutline, ap, ap₂, name_at, name_in, none-some, option_map, published_under, refl, same_Some, slice_get, subst, sym, tables_in}
-use Rattle.mv_interface.proofs.Found.{got}
+use Rattle.mv_bound_rules.proofs.Found.{got}
 use Rattle.mv_linker.proofs.Kept.StructNames.{named-there, unnamed-there}
 use Rattle.mv_linker.proofs.store.Store.struct_name.Goals.{After-from-2}
 use Rattle.mv_linker.proofs.store.Store.struct_name.Goals as goal

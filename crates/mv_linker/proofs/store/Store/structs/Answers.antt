@@ -1,5 +1,5 @@
 use Rattle.mv_linker.proofs.Common.{◌∙◌, ◌≡◌, AreCodesOf, List, None, PublishedModule, Some, ap, arith, slice_get, subst, sym, tables_in}
-use Rattle.mv_interface.proofs.Found.{got}
+use Rattle.mv_bound_rules.proofs.Found.{got}
 use Rattle.mv_linker.proofs.Kept.StoredShapes.{no_structs, structs-known}
 use Rattle.mv_linker.proofs.store.Store.structs.Goals as goal
 

@@ -2,7 +2,7 @@ use Rattle.mv_linker.proofs.Common.{[], ◌++◌, ◌+◌, ◌<◌, ◌∙◌, �
 use Rattle.mv_linker.proofs.Common.{tables_in, offered, AreFoundFor, modules_in, Defined}
 use Rattle.mv_linker.proofs.Kept.HandleDefinitions.{struct-there, zip-more}
 use Rattle.mv_linker.proofs.rules.scope.Scope.all_defined.Goals as goal
-use Rattle.mv_bounds.proofs.Entries.{element_at}
+use Rattle.mv_bound_rules.proofs.Entries.{element_at}
 
 pub defined_for-requires : goal.defined_for-requires
 defined_for-requires c = λ k x e.

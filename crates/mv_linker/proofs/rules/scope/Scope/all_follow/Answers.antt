@@ -2,8 +2,8 @@ use Rattle.mv_linker.proofs.Common.{◌∙◌, ap, follows, list_all, offered, s
 use Rattle.mv_linker.proofs.Joining.Assembling.{named-more, offered-at}
 use Rattle.mv_linker.proofs.Lemmas.{element_at}
 use Rattle.mv_linker.proofs.rules.scope.Scope.all_follow.Goals as goal
-use Rattle.mv_bounds.proofs.Entries.{all_pass_not}
-use Rattle.mv_interface.proofs.Found.{taken-more}
+use Rattle.mv_bound_rules.proofs.Entries.{all_pass_not}
+use Rattle.mv_bound_rules.proofs.Found.{taken-more}
 
 pub returns-then-not-follows : goal.returns-then-not-follows
 returns-then-not-follows c =

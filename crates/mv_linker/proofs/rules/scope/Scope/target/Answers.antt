@@ -1,9 +1,9 @@
 use Rattle.mv_linker.proofs.Common.{refl, sym, is_module, ModuleName, modules_in}
 use Rattle.mv_linker.proofs.Joining.Joins.{well-defined}
 use Rattle.mv_linker.proofs.Joining.Resolving.{nowhere}
-use Rattle.mv_interface.proofs.NameLemmas.{module_place-is}
+use Rattle.mv_bound_rules.proofs.NameLemmas.{module_place-is}
 use Rattle.mv_linker.proofs.rules.scope.Scope.target.Goals as goal
-use Rattle.mv_bounds.proofs.Entries.{place_below}
+use Rattle.mv_bound_rules.proofs.Entries.{place_below}
 
 pub returns-in_default-find-clause-refused : goal.returns-in_default-find-clause-refused
 returns-in_default-find-clause-refused c =

@@ -1,0 +1,9 @@
+pub mod Common
+pub mod Entries
+pub mod PlaceLemmas
+pub mod HandleLemmas
+pub mod FunctionLemmas
+pub mod TimesLemmas
+pub mod Found
+pub mod NameLemmas
+pub mod Tokens

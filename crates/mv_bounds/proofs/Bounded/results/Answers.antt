@@ -1,5 +1,0 @@
-use Rattle.mv_bounds.proofs.FunctionLemmas.{results_are}
-use Rattle.mv_bounds.proofs.Bounded.results.Goals as goal
-
-pub returns : goal.returns
-returns c = results_are c.args.self.now c.args.f c.defined.result.0.now c.defined.result.1.now c.signature.result.now c.defined.ensures c.signature.ensures

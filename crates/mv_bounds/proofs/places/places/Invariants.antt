@@ -1,5 +1,0 @@
-use Rattle.mv_bounds.proofs.Common.{take, ArePlaces}
-use Rattle.mv_bounds.proofs.places.places.Given as goal
-
-abbrev pub invariant-loop-i : goal.invariant-loop-i
-invariant-loop-i l = ArePlaces (take l.i l.defined) l.handles l.places.items

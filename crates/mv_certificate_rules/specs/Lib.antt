@@ -1,0 +1,7 @@
+pub mod LocalsRules
+pub mod Nodes
+pub mod BorrowRules
+pub mod Certificate
+pub mod Shape
+pub mod CertificateText
+pub mod Verified

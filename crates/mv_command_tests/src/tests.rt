@@ -1,0 +1,3 @@
+// What stands in a file's place where a ledger is kept there.
+
+mod keeping;

@@ -1,7 +1,0 @@
-use Rattle.mv_type_states.proofs.Common.{[], ◌++◌, ◌∙◌, ◌∷◌, ap}
-use Rattle.mv_type_states.proofs.TopLemmas.{tops_of-push}
-use Rattle.mv_type_states.proofs.stack_types.StackTypes.tops.Goals as goal
-
-pub loop-at-preserved : goal.loop-at-preserved
-loop-at-preserved c =
-    c.in_ok-add.ensures ∙ ap (λ s. c.loop-at.tops ++ s ∷ []) c.topmost.ensures ∙ tops_of-push c.args.self.now c.loop-at.at _ c.loop-at.tops c.before-stack.ensures c.loop-at.invariant
