@@ -180,7 +180,7 @@ def tell(program: Program, stream: Stream) -> None:
     names = [f"{stream.name}{part}.stream" for part in ("", "-half", "-before")]
     longer = saved(program, records, names[0]) - saved(program, stream.before, names[2])
     (program.folder / names[1]).write_bytes(b"".join([*stream.before, *stream.offered[:half]]))
-    words = [program.path, "apply"]
+    words: List[process.Word] = [program.path, "apply"]
     whole, less, least = (1024 * process.memory([*words, name], program.folder) for name in names)
     report = process.printed([*words, names[0]], program.folder)
     answered = len(report) - len(process.printed([*words, names[2]], program.folder))

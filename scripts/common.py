@@ -103,6 +103,16 @@ def printed(*words: Word) -> str:
     return subprocess.run(words, cwd=TOP, stdout=subprocess.PIPE, check=True, text=True).stdout.strip()
 
 
+def copy_files(folder: Path) -> None:
+    """Copies the repository's files as they stand into a folder, without what git leaves out."""
+    words = ["git", "ls-files", "-z", "--cached", "--others", "--exclude-standard"]
+    names = subprocess.run(words, cwd=TOP, stdout=subprocess.PIPE, check=True).stdout.decode().split("\0")
+    for name in filter(None, names):
+        if os.path.lexists(TOP / name):
+            (folder / name).parent.mkdir(parents=True, exist_ok=True)
+            shutil.copy2(str(TOP / name), str(folder / name), follow_symlinks=False)
+
+
 def has(command: str) -> bool:
     return shutil.which(command) is not None
 

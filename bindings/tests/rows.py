@@ -8,8 +8,8 @@ from typing import Iterator, List, NamedTuple, Tuple
 TOP = Path(__file__).resolve().parents[2]
 CRATES = TOP / "crates"
 EXAMPLES = TOP / "examples"
-# What a call answers.
-DONE, REFUSED, LOAD_REFUSED, TOO_COMPLEX = range(4)
+# What a call answers, as tests/session.c names it.
+DONE, REFUSED, LOAD_REFUSED, TOO_COMPLEX = "done", "refused", "load_refused", "too_complex"
 
 
 class Row(NamedTuple):
@@ -44,7 +44,7 @@ def hexadecimal(data: bytes) -> str:
     return data.hex() or "-"
 
 
-def answer(status: int, why: int = 0, answered: int = 0, data: bytes = b"") -> str:
+def answer(status: str, why: int = 0, answered: int = 0, data: bytes = b"") -> str:
     return f"{status} {why} {answered} {hexadecimal(data)}"
 
 
@@ -129,7 +129,7 @@ def of_questions() -> Iterator[Call]:
         yield Call(f"{call} {form}", f"{call} {form}", answer(DONE, 0, last_number(wanted), b"".join(lines) + end))
 
 
-def said_of_module(line: str) -> Tuple[int, int]:
+def said_of_module(line: str) -> Tuple[str, int]:
     """The status and the reason of what is printed of a module."""
     refused = re.fullmatch(r"refused (\d+)", line)
     if refused:

@@ -4,8 +4,8 @@
  *     new | load BYTES | free | apply BYTES | save | show FORM | audit FORM
  *     prove BYTES | check BYTES BYTES | migrate BYTES
  *
- * There is one ledger at a time. An answer is `STATUS WHY ANSWERED BYTES`: the status, the reason (0 where the call has none), how
- * many records the ledger answered, and what the call gave. usage: session < CALLS
+ * There is one ledger at a time. An answer is `STATUS WHY ANSWERED BYTES`: the name that the header has for the status, the reason (0
+ * where the call has none), how many records the ledger answered, and what the call gave. usage: session < CALLS
  */
 #include "moveledger.h"
 
@@ -135,9 +135,30 @@ static const struct {
     {"check", 2, call_check}, {"migrate", 1, call_migrate},
 };
 
+/* What a status means, by the header's numbers. */
+static const char *name_of(int32_t status)
+{
+    switch (status) {
+    case MOVELEDGER_DONE:
+        return "done";
+    case MOVELEDGER_REFUSED:
+        return "refused";
+    case MOVELEDGER_LOAD_REFUSED:
+        return "load_refused";
+    case MOVELEDGER_TOO_COMPLEX:
+        return "too_complex";
+    case MOVELEDGER_MEMORY:
+        return "memory";
+    case MOVELEDGER_ARGUMENTS:
+        return "arguments";
+    default:
+        return "unknown";
+    }
+}
+
 static void print(const struct call *call)
 {
-    printf("%d %d %llu ", (int)call->status, call->why, (unsigned long long)answered);
+    printf("%s %d %llu ", name_of(call->status), call->why, (unsigned long long)answered);
     for (size_t at = 0; at < call->given.length; ++at)
         printf("%02x", call->given.bytes[at]);
     puts(call->given.length ? "" : "-");
