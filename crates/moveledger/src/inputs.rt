@@ -1,6 +1,5 @@
 // What a file gives: all of it, its first bytes, or a saved ledger's text.
-ghost use Rattle.std.specs.Prelude.{◌≡◌, ◌⊎◌, ◌↔◌, ◌++◌, ◌≤◌, ◌<◌, IfErr, IfOk, IfSome, IsTrue, Ok, None, length, take};
-ghost use Rattle.std.specs.Io.KnownBytes.{Consumes, IsAtEnd};
+ghost use Rattle.std.specs.Prelude.{◌≡◌, ◌⊎◌, ◌++◌, ◌<◌, IfErr, IfOk, IfSome, Ok, None, take};
 ghost use Rattle.std.specs.IoError.{error_kind};
 ghost use Rattle.mv_ledger_state.specs.Loading.{FailsLoad};
 

@@ -1,5 +1,5 @@
 // What the commands of an author print.
-ghost use Rattle.std.specs.Prelude.{◌≡◌, ◌++◌, Some, IfOk, MatchResult, codes, decimal, string_bytes};
+ghost use Rattle.std.specs.Prelude.{◌≡◌, ◌++◌, Some, IfOk, MatchResult, decimal, string_bytes};
 ghost use Rattle.moveledger.specs.Printing.{line, load_refused_text, refused_text, no_proof_line, checked_line};
 
 use mv_analyser::ProveError;

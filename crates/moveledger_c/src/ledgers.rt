@@ -1,5 +1,5 @@
 // The calls on a ledger.
-ghost use Rattle.std.specs.Prelude.{◌≡◌, ◌⊎◌, ℕ, List, Some, None, Ok, MatchOption, IfOk, OnOk, OnErr, String, string_bytes};
+ghost use Rattle.std.specs.Prelude.{◌≡◌, ◌⊎◌, Some, None, Ok, MatchOption, IfOk, OnOk, OnErr, String, string_bytes};
 ghost use Rattle.std.specs.Global.{Global};
 ghost use Rattle.mv_ledger_state.specs.SavedText.{IsSavedText, Second};
 ghost use Rattle.mv_ledger_state.specs.View.{state_of};

@@ -1,5 +1,4 @@
 // Texts that are given to C.
-ghost use Rattle.std.specs.Prelude.{◌≡◌};
 ghost use Rattle.moveledger_c.specs.Giving.{IsGiven};
 
 use crate::bytes::Bytes;

@@ -1,5 +1,5 @@
 // What a terminal shows of a run that takes long: how far it is.
-ghost use Rattle.std.specs.Prelude.{◌≡◌, ◌++◌, IfOk, MatchResult, Ok, codes, decimal, string_bytes};
+ghost use Rattle.std.specs.Prelude.{◌≡◌, IfOk, MatchResult, Ok, string_bytes};
 ghost use Rattle.moveledger_program.specs.Meter.{meter_text};
 
 use moveledger::{AfterRecord, EngineError};

@@ -16,7 +16,7 @@
 mod marks;
 
 ghost use Rattle.std.specs.Prelude.{◌≡◌, ℕ, ◌||◌, ◌==◌, ◌<◌, length, slice_get, OnOk, IfOk, IfErr, IfSome, flat_map};
-ghost use Rattle.std.specs.List.{list_all, list_any};
+ghost use Rattle.std.specs.List.{list_all};
 ghost use Rattle.mv_move_types.specs.Refusals.{IsRefusedIn};
 ghost use Rattle.mv_move_types.specs.Module.{has_key, own_acquires};
 ghost use Rattle.mv_bound_rules.specs.Definitions.{all_differ};

@@ -1,5 +1,5 @@
 // A function's borrow graph as a domain of states.
-ghost use Rattle.std.specs.Prelude.{◌≡◌, ◌<◌, nat_le, [], length, reverse, slice_get, Option, Some, is_some, option_map, false, IsTrue, OnOk, IsErrOf, IsSome};
+ghost use Rattle.std.specs.Prelude.{◌≡◌, ◌<◌, nat_le, [], length, slice_get, Option, Some, is_some, option_map, false, IsTrue, OnOk, IsErrOf, IsSome};
 ghost use Rattle.std.specs.List.{list_all};
 ghost use Rattle.std.specs.Option.{option_map_or};
 ghost use Rattle.mv_edges.specs.Ascending.{are_ascending};

@@ -1,6 +1,6 @@
 -- The part of a certificate that stands at the front of bytes, and the bytes after it.
--- These read what CertificateText.antt writes. Most names end in `_from`: what stands at the front of the bytes, with those after it, or
--- nothing.
+-- These read what CertificateText.antt of mv_certificate_rules writes. Most names end in `_from`: what stands at the front of the bytes,
+-- with those after it, or nothing.
 --   availability_from, node_from, label_from   an availability, a node and a label
 --   edge_from m d                              an edge that fits the function
 --   edges_from m d                             edges after their number, which ascend (why: decision 52)

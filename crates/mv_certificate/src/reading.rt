@@ -2,8 +2,7 @@
 
 ghost use Rattle.std.specs.Prelude.{◌≡◌, ◌<◌, ◌++◌, ◌∷◌, [], false, length, ◌⊎◌, map, Some, None, Err, IfOk, IfErr, OnOk, IsTrue};
 ghost use Rattle.mv_edges.specs.Ascending.{are_ascending};
-ghost use Rattle.mv_uleb.specs.Parsing.{number_from};
-ghost use Rattle.mv_module_text.specs.Parsing.{entries_from, counted_from};
+ghost use Rattle.mv_module_text.specs.Parsing.{entries_from};
 ghost use Rattle.mv_module_text.specs.Reads.{Reads};
 ghost use Rattle.mv_certificate_rules.specs.CertificateText.{IsCertificateText};
 ghost use Rattle.mv_certificate_rules.specs.Certificate.{Certificate};

@@ -1,10 +1,10 @@
 // Writing the parts of a certificate.
 
-ghost use Rattle.std.specs.Prelude.{◌≡◌, ◌<◌, ◌++◌, ◌∷◌, [], length, map, flat_map, slice_get, Option, Some, cond, OnOk};
+ghost use Rattle.std.specs.Prelude.{◌≡◌, ◌<◌, ◌++◌, ◌∷◌, [], length, map, flat_map, slice_get, Option, Some, OnOk};
 ghost use Rattle.mv_uleb.specs.Uleb.{uleb};
 ghost use Rattle.mv_module_text.specs.Entries.{counted};
 ghost use Rattle.mv_edges.specs.Ascending.{node_kind, node_index};
-ghost use Rattle.mv_certificate_rules.specs.CertificateText.{availability_code, node_text, edge_text, known_text, stated_text};
+ghost use Rattle.mv_certificate_rules.specs.CertificateText.{availability_code, node_text, edge_text, stated_text};
 ghost use Rattle.mv_certificate_rules.specs.Certificate.{Known as KnownRecord};
 
 use super::certificate::Stated;

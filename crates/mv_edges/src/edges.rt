@@ -1,7 +1,6 @@
 // A list of edges in their order.
-ghost use Rattle.std.specs.Prelude.{◌≡◌, max, ◌+◌, ◌-◌, ◌<◌, ◌≤◌, ◌==◌, ◌++◌, ◌∷◌, List, [], length, take, drop, slice_get, not, ◌&&◌, if◌then◌else◌, IsTrue, IfOk, OnOk, OnErr, option_copied, false};
-ghost use Rattle.std.specs.List.{list_any};
-ghost use Rattle.mv_edges.specs.Edges.{agrees, out_of, but_out_of, without, renamed, longest};
+ghost use Rattle.std.specs.Prelude.{◌≡◌, max, ◌+◌, ◌-◌, ◌<◌, ◌==◌, ◌++◌, ◌∷◌, List, [], length, slice_get, if◌then◌else◌, IsTrue, IfOk, OnOk, OnErr, option_copied};
+ghost use Rattle.mv_edges.specs.Edges.{longest};
 ghost use Rattle.mv_edges.specs.Ascending.{are_ascending};
 ghost use Rattle.mv_edges.specs.Sorted.{inserted, sorted};
 

@@ -1,6 +1,5 @@
 // Where one place lies below another: labels and their order.
 ghost use Rattle.std.specs.Prelude.{◌≡◌, ◌≤◌, ◌&&◌, length, IsOk, IfOk};
-ghost use Rattle.mv_move_types.specs.Paths.{begins};
 ghost use Rattle.mv_edges.specs.Edges.{here, extended, opened, changed, agrees, label_leq};
 ghost use Rattle.mv_edges.specs.Edges.{agrees_if, composed, is_here};
 

@@ -1,5 +1,5 @@
 // What a run counts.
-ghost use Rattle.std.specs.Prelude.{◌≡◌, ℕ, ◌^◌, ◌-◌, ◌<◌, ◌++◌, ◌∷◌, [], false, map, slice_get, Some, IsOk, OnOk, OnErr, IfErr, MatchOption};
+ghost use Rattle.std.specs.Prelude.{◌≡◌, ℕ, ◌^◌, ◌-◌, ◌<◌, [], false, map, Some, IsOk, OnOk, OnErr, IfErr, MatchOption};
 ghost use Rattle.mv_frames.specs.declared.halt.Halt.TheVariants.{Memory};
 ghost use Rattle.mv_frames.specs.Counters.{is_none_yet, is_tally_at, IsCounted, IsBelow, AreBelow, AreTallied};
 ghost use Rattle.mv_frames.specs.Counters.{count_in, one_more, one_more_in, tally_of, no_count, struct_of, first_few, IsAt, IsNowhere, key_of, placed_in, IsPlaced, HasPlaces};

@@ -6,7 +6,7 @@ ghost use Rattle.mv_bound_rules.specs.Bounds.{InBounds};
 ghost use Rattle.mv_interface.specs.Handles.{AreStructsAt};
 ghost use Rattle.mv_interface.specs.Interface.{IsInterface, IsSignatureOf, tokens_on, type_by, types_by};
 ghost use Rattle.mv_interface.specs.Outline.{IsOutline};
-ghost use Rattle.mv_interface.specs.Shapes.{part_by, parts_by};
+ghost use Rattle.mv_interface.specs.Shapes.{parts_by};
 
 use crate::lists::Lists;
 use crate::outline::{Outline, field_count};

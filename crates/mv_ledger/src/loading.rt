@@ -1,5 +1,5 @@
 // Loading a saved ledger, and giving it the second form.
-ghost use Rattle.std.specs.Prelude.{◌≡◌, ℕ, List, IfOk, IfErr};
+ghost use Rattle.std.specs.Prelude.{ℕ, List, IfOk, IfErr};
 ghost use Rattle.mv_machine.specs.Ledger.{LedgerState};
 ghost use Rattle.mv_ledger_state.specs.Loading.{IsLoaded, IsLoadRefusal};
 ghost use Rattle.mv_ledger_state.specs.SavedText.{IsSavedText, Second};

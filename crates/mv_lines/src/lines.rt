@@ -1,5 +1,5 @@
 // The lines of a show and of an audit, whole or in pieces.
-ghost use Rattle.std.specs.Prelude.{◌≡◌, ◌∷◌, [], ◌++◌, ◌+◌, ◌<◌, ◌^◌, true, length, map, IfOk, IfSome, IsUtf8, OnErr, OnOk, MatchOption, string_bytes};
+ghost use Rattle.std.specs.Prelude.{◌≡◌, ◌∷◌, [], ◌+◌, ◌<◌, ◌^◌, true, length, map, IfOk, IfSome, IsUtf8, OnErr, MatchOption, string_bytes};
 ghost use Rattle.mv_link_rules.specs.Link.{tables_in};
 ghost use Rattle.mv_machine.specs.Flat.{storage_of, value_under};
 ghost use Rattle.mv_machine.specs.Ledger.{AsJson, AsText};

@@ -1,7 +1,8 @@
 -- A bundle joins a store: where its modules come to stand, what the old ones keep, and that the rules of phase 13, which are
 -- tried of the bundle, then hold of all modules. The law that `add` rests on is `joined-linked`, in Joined.
 --
--- Read first specs/Link.antt and StoreRules.antt (the rules), then Scopes (store and bundle looked at as one) and Assembling.
+-- Read first Link.antt and StoreRules.antt in mv_link_rules/specs (the rules), then Scopes (store and bundle looked at as one) and
+-- Assembling.
 --   Scopes         `place-for`, `within_tables`: the modules of a scope are found by name and by place
 --   Resolving      `struct-of-all`, `function-of-all`: what a handle names, in the module that its module handle leads to
 --   TypesCompared  `types-compared`: types are one by names exactly where they are one by where structs are defined

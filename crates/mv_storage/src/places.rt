@@ -1,6 +1,6 @@
 // Slots in a list, and the place that each key's slot has there. A place that is free holds the next free one, so that
 // taking a key out takes no memory.
-ghost use Rattle.std.specs.Prelude.{◌≡◌, ◌<◌, ◌↔◌, ◌∷◌, ◌++◌, [], IsTrue, length, None, Some, Ok, MatchOption, IfOk, OnOk, OnErr, cond, is_some, unwrap_or, option_copied, slice_set};
+ghost use Rattle.std.specs.Prelude.{◌≡◌, ◌<◌, ◌↔◌, ◌∷◌, ◌++◌, [], IsTrue, length, None, Some, Ok, MatchOption, IfOk, OnErr, cond, is_some, unwrap_or, option_copied, slice_set};
 ghost use Rattle.std.specs.BTreeMap.{get, IsOrdered};
 ghost use Rattle.mv_move_types.specs.declared.tables.Key.{Key};
 ghost use Rattle.mv_machine.specs.State.{same_key};

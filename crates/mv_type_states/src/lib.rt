@@ -16,15 +16,14 @@
 //! ```
 #![tactic(auto)]
 
-ghost use Rattle.std.specs.Prelude.{◌≡◌, ◌<◌, length, map, slice_get, IfOk, IfErr, IfSome, OnOk};
-ghost use Rattle.mv_cfg.specs.FlowGraph.{IsFlowGraph};
+ghost use Rattle.std.specs.Prelude.{◌≡◌, ◌<◌, length, map, IfOk, IfErr, OnOk};
 ghost use Rattle.mv_move_types.specs.Refusals.{IsRefusedIn};
 ghost use Rattle.mv_cfg.specs.Blocks.{FlowHolds};
 ghost use Rattle.mv_signatures.specs.Signatures.{WellSigned};
 ghost use Rattle.mv_abilities.specs.Abilities.{AbilitiesHold};
 ghost use Rattle.mv_type_rules.specs.TypesHold.{TypesHold};
 ghost use Rattle.mv_type_rules.specs.Graphs.{AreGraphs};
-ghost use Rattle.mv_type_rules.specs.Sound.{IsSound, IsRefusedByTypes, types_before};
+ghost use Rattle.mv_type_rules.specs.Sound.{IsRefusedByTypes, types_before};
 
 mod passes;
 mod rules;

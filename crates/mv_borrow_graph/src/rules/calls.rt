@@ -10,7 +10,7 @@ ghost use Rattle.mv_move_types.specs.Module.{own_acquires};
 ghost use Rattle.mv_edges.specs.Ascending.{are_ascending};
 ghost use Rattle.mv_edges.specs.Sorted.{sorted};
 ghost use Rattle.mv_certificate_rules.specs.BorrowRules.{call_edges, is_mutable, is_mutable_token, is_reference_token, is_root_node, is_temp, no_edge_out};
-ghost use Rattle.mv_certificate_rules.specs.BorrowRules.{opened_edges, reference_nodes, result_edges, return_edges};
+ghost use Rattle.mv_certificate_rules.specs.BorrowRules.{reference_nodes, result_edges, return_edges};
 ghost use Rattle.mv_borrow_graph.specs.Domain.{Follows, ordered};
 
 use crate::changes::keep;

@@ -1,5 +1,5 @@
 // Rule f of linking: no module that a store has once a bundle joins depends on itself by a chain.
-ghost use Rattle.std.specs.Prelude.{◌≡◌, ◌↔◌, ◌+◌, ◌<◌, ◌≤◌, [], length, IsTrue, IfOk};
+ghost use Rattle.std.specs.Prelude.{◌↔◌, ◌<◌, ◌≤◌, [], length, IsTrue, IfOk};
 ghost use Rattle.mv_link_rules.specs.Link.{IsStore, tables_in};
 ghost use Rattle.mv_linker.specs.DependencyGraph.{IsOrdered};
 ghost use Rattle.mv_linker.specs.ScopeDependencies.{AreDependenciesIn};

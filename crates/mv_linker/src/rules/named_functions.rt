@@ -1,6 +1,6 @@
 // Rule e of linking: the functions that a module's handles name are there, with the same types, and public where they are of
 // another module. Types are compared by names in a bundle, and by where structs are defined with what the store keeps.
-ghost use Rattle.std.specs.Prelude.{◌≡◌, ◌<◌, ◌≤◌, ◌&&◌, ◌||◌, [], ℕ, List, true, false, length, slice_get, Some, IsTrue, IfOk, IfErr, IfSome, OnOk, MatchOption};
+ghost use Rattle.std.specs.Prelude.{◌≡◌, ◌<◌, ◌≤◌, ◌&&◌, ◌||◌, List, true, false, length, slice_get, Some, IsTrue, IfOk, IfErr, IfSome, OnOk, MatchOption};
 ghost use Rattle.std.specs.List.{list_all};
 ghost use Rattle.std.specs.Option.{option_map_or};
 ghost use Rattle.mv_move_types.specs.Module.{Module as Tables, FunctionDefinition as FunctionTable, module_name as name_of_module, own_name};

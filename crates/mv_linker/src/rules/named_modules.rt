@@ -1,6 +1,6 @@
 // The modules that a store has once a bundle joins it, as others name them, found by name and by place; and rule c of linking:
 // those that a module's handles name are there. No byte of a published module is read.
-ghost use Rattle.std.specs.Prelude.{◌≡◌, ◌<◌, ℕ, List, Some, length, map, slice_get, IsTrue, IfOk, IfErr, IfSome, OnOk};
+ghost use Rattle.std.specs.Prelude.{◌≡◌, ◌<◌, List, Some, length, map, slice_get, IsTrue, IfOk, IfErr, OnOk};
 ghost use Rattle.mv_move_types.specs.Module.{Module as Tables};
 ghost use Rattle.mv_move_types.specs.Refusals.{IsRefusedIn};
 ghost use Rattle.mv_move_types.specs.Named.{module_place};

@@ -1,5 +1,5 @@
 // Rule d of linking: the structs that a module's handles name are there, with the same abilities.
-ghost use Rattle.std.specs.Prelude.{◌≡◌, ◌<◌, ◌≤◌, [], ℕ, List, true, false, length, slice_get, None, Some, IsTrue, IfOk, IfErr, IfSome, IfNone, OnOk, MatchOption};
+ghost use Rattle.std.specs.Prelude.{◌≡◌, ◌<◌, ◌≤◌, true, false, length, slice_get, None, Some, IsTrue, IfOk, IfErr, IfSome, IfNone, OnOk, MatchOption};
 ghost use Rattle.mv_move_types.specs.Module.{Module as Tables};
 ghost use Rattle.mv_move_types.specs.Names.{ModuleName};
 ghost use Rattle.mv_move_types.specs.Refusals.{IsRefusedIn};

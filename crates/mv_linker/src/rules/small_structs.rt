@@ -1,5 +1,5 @@
 // Rule g of linking: the structs of a bundle are small.
-ghost use Rattle.std.specs.Prelude.{◌≡◌, ◌≤◌, length, map, IsSome, IfOk, IfErr, OnOk};
+ghost use Rattle.std.specs.Prelude.{◌≤◌, length, map, IsSome, IfOk, IfErr, OnOk};
 ghost use Rattle.std.specs.List.{AllZip};
 ghost use Rattle.mv_move_types.specs.Module.{name_at};
 ghost use Rattle.mv_move_types.specs.Refusals.{IsRefusedIn};

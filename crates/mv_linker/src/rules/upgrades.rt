@@ -1,6 +1,6 @@
 // Rule h of linking: what a module has to keep of the one that it replaces. Of the old module only what is kept of it is read, and a
 // struct in its types is compared by its name.
-ghost use Rattle.std.specs.Prelude.{◌≡◌, ◌<◌, ◌+◌, ◌≤◌, false, length, option_map, slice_get, Some, IfSome};
+ghost use Rattle.std.specs.Prelude.{◌≡◌, ◌<◌, ◌≤◌, false, length, option_map, slice_get, Some, IfSome};
 ghost use Rattle.std.specs.Option.{option_map_or};
 ghost use Rattle.std.specs.Str.{bytes_eq};
 ghost use Rattle.mv_move_types.specs.AbilitySets.{same_abilities};
@@ -8,10 +8,9 @@ ghost use Rattle.mv_move_types.specs.Module.{Module as Tables, name_at, name_of_
 ghost use Rattle.mv_move_types.specs.Tags.{same_tag};
 ghost use Rattle.mv_type_rules.specs.Sound.{IsSound};
 ghost use Rattle.mv_interface.specs.Interface.{IsInterface};
-ghost use Rattle.mv_interface.specs.Outline.{are_names};
 ghost use Rattle.mv_linker.specs.KeptTypes.{are_kept, are_parts, function_same, kept_at, kept_named, part_named, struct_same, types_same};
 ghost use Rattle.mv_bound_rules.specs.TypesByName.{both_there, token_named, value_type_named};
-ghost use Rattle.mv_link_rules.specs.Link.{tables_in, replaced_in, follows, all_follow as each_follows};
+ghost use Rattle.mv_link_rules.specs.Link.{tables_in, follows, all_follow as each_follows};
 ghost use Rattle.mv_linker.specs.Scope.{offered};
 ghost use Rattle.mv_link_rules.specs.Upgrades.{structs_stay as all_stay, function_stays as this_stays, may_replace as may_stand_for};
 ghost use Rattle.std.specs.List.{list_all};

@@ -1,5 +1,5 @@
 // What a store keeps of its modules beside their texts.
-ghost use Rattle.std.specs.Prelude.{◌≡◌, ◌<◌, ◌≤◌, IsSome, Some, length, option_map, slice_get, IfSome, IfOk};
+ghost use Rattle.std.specs.Prelude.{◌≡◌, ◌<◌, ◌≤◌, IsSome, Some, length, option_map, slice_get, IfSome};
 ghost use Rattle.mv_move_types.specs.Limits.{most_functions};
 ghost use Rattle.mv_move_types.specs.Module.{name_at};
 ghost use Rattle.mv_move_types.specs.Named.{function_place};

@@ -1,4 +1,5 @@
--- How a label stands to others of which those between two nodes are one part.
+-- How a label stands to some edges, found position by position along it: an open one is above it (covered), none is and none begins
+-- with it (lost), or a rest of them is still to be looked at (`IsRest` in Going.antt).
 use Rattle.mv_edges.proofs.Common.{[], ℕ, ◌&&◌, ◌+◌, ◌<◌, ◌==◌, ◌∙◌, ◌∷◌, ◌≡◌, ◌≤◌, List, ap, arith, drop, false, filter, get_or, inl, inr, length, refl, subst, sym, take, true, true≢false}
 use Rattle.mv_edges.proofs.Common.{and_from, and_parts, false_from_ne_true, ne_eqb, take-append-drop, take_all, take_more}
 use Rattle.mv_edges.proofs.Common.{Edge, Label, begins, extended, here, list_any, opened}
