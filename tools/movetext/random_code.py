@@ -7,7 +7,7 @@ from typing import Any, Dict, List, Optional, Sequence, Set, Tuple, TypeVar
 from . import model
 from .explain.availability import Locals
 from .explain.borrows import Borrows, Stack
-from .explain.edges import Edges
+from .explain.edges import TEMP, Edges
 from .explain.failures import Fails
 from .explain.flows import Domain, Need, State
 from .explain.stack import Step
@@ -314,12 +314,21 @@ class BodyMaker:
                 except Need:
                     if self.random.random() > share * self.maker.needs:
                         raise
+                    if domain is self.borrows:
+                        self.forget_gone(edges, stack)
         except (Need, Fails):
             self.code.pop()
             self.stacks.pop()
             return False
         self.stack, self.states = stack, (locals_, edges)
         return True
+
+    def forget_gone(self, edges: Edges, stack: Stack) -> None:
+        """Takes away the edges at operands that are gone, or others, once the stack is this one: an instruction whose need isn't met leaves
+        edges as they were."""
+        for place in range(max(len(stack), len(self.stack))):
+            if stack[place:place + 1] != self.stack[place:place + 1]:
+                edges.drop((TEMP, place))
 
     def operand(self, opcode: Opcode) -> Optional[int]:
         """An operand, or None where there is nothing that it could name."""
