@@ -1,12 +1,15 @@
-"""The must-fail edits of the crates, as they stand in `must-fail/`, and the functions of a file, which they change."""
+"""The must-fail edits of the crates, as they stand in `must-fail/`; the functions of a file, which they change; and what a check says of the
+proofs of these."""
 
 import re
 from dataclasses import dataclass, field
-from typing import List, NamedTuple, Optional
+from typing import List, NamedTuple, Optional, Tuple
 
 from common import CRATES
 
 MORE = "more.md "  # how the name of an edit begins that stands there
+# What a proof says where an edit takes away what it names. That shows nothing of a contract: the right code could be refused so too.
+TAKEN = re.compile(r"which was rejected|has no field|has no `|is not in scope|was not admitted|record `[^`]*` \(nearest")
 FUNCTION = re.compile(r"^( *)(?:pub(?:\([^)]*\))? )?(?:const )?(?:unsafe )?(?:extern \"C\" )?fn (\w+)")
 
 
@@ -97,3 +100,11 @@ def edits_of(crate: str) -> List[Edit]:
             name, *lines = section.split("\n")
             found.append(parsed(crate, f"{MORE}{name.strip()}", [line[4:] for line in lines if line.startswith("    ")]))
     return found
+
+
+def complaints(function: str, output: str) -> Tuple[List[str], bool]:
+    """What a check printed of the files of a function's proof, without what they name and an edit took away; and whether that is all that it
+    printed of them."""
+    said = re.findall(rf"^\./proofs/\S*\+?{function}/\S+?: error: (.*)", output, re.M)
+    told = [it for it in said if not TAKEN.search(it)]
+    return told, bool(said) and not told

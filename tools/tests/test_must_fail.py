@@ -1,4 +1,4 @@
-"""The functions of a file, as the scripts find them for the must-fail edits."""
+"""The functions of a file, as the scripts find them for the must-fail edits, and what a check says of their proofs."""
 
 import sys
 import unittest
@@ -7,7 +7,7 @@ from . import TOP
 
 sys.path.insert(0, str(TOP / "scripts"))
 
-from must_fail import functions_of  # noqa: E402
+from must_fail import complaints, functions_of  # noqa: E402
 
 TRAIT = """/// What is known.
 pub trait Domain {
@@ -82,6 +82,27 @@ class Functions(unittest.TestCase):
         self.assertEqual(functions[0].first, 0)
         for one, after in zip(functions, functions[1:]):
             self.assertEqual(after.first, one.last + 1)
+
+
+GONE = "./proofs/ways/Graph/extend/Answers.antt:7:85: error: `returns`: record `proofs.ways.Graph.extend.Lts.Past` has no field `remove`"
+LEFT = "./proofs/ways/Graph/extend/Answers.antt:9:5: error: 1 declaration that depends on `few`, which was rejected, was not checked: few-short"
+FALSE = "./proofs/ways/Graph/extend/Answers.antt:9:13: error: `returns-in-Some`: as printed, the two types differ only where one has `0`"
+OTHER = "./proofs/ways/Graph/extended/Answers.antt:4:6: error: `returns`: as printed, the two types differ only where one has `1`"
+
+
+class Complaints(unittest.TestCase):
+    """A proof that names what an edit took away shows nothing of a contract; one whose goal is false does."""
+
+    def test_a_proof_that_only_names_what_is_gone_is_told_apart(self) -> None:
+        self.assertEqual(complaints("extend", "\n".join([GONE, LEFT, OTHER])), ([], True))
+
+    def test_a_goal_that_is_false_is_told(self) -> None:
+        told, is_by_name = complaints("extend", "\n".join([GONE, FALSE]))
+        self.assertEqual([it.split("`")[1] for it in told], ["returns-in-Some"])
+        self.assertFalse(is_by_name)
+
+    def test_another_functions_proof_says_nothing_of_it(self) -> None:
+        self.assertEqual(complaints("extend", OTHER), ([], False))
 
 
 if __name__ == "__main__":
