@@ -10,6 +10,8 @@ from common import CRATES
 MORE = "more.md "  # how the name of an edit begins that stands there
 # What a proof says where an edit takes away what it names. That shows nothing of a contract: the right code could be refused so too.
 TAKEN = re.compile(r"which was rejected|has no field|has no `|is not in scope|was not admitted|record `[^`]*` \(nearest")
+# What it says where the prover met a limit of its own, so that nothing was decided.
+LIMIT = re.compile(r"stopped at the step limit|outgrew the memory limit|antt ran out of")
 FUNCTION = re.compile(r"^( *)(?:pub(?:\([^)]*\))? )?(?:const )?(?:unsafe )?(?:extern \"C\" )?fn (\w+)")
 
 
@@ -102,9 +104,13 @@ def edits_of(crate: str) -> List[Edit]:
     return found
 
 
-def complaints(function: str, output: str) -> Tuple[List[str], bool]:
-    """What a check printed of the files of a function's proof, without what they name and an edit took away; and whether that is all that it
-    printed of them."""
+def complaints(function: str, output: str) -> Tuple[List[str], str]:
+    """What a check printed of the files of a function's proof and shows something of its contract; and if it printed nothing else of them, why
+    that shows nothing."""
     said = re.findall(rf"^\./proofs/\S*\+?{function}/\S+?: error: (.*)", output, re.M)
-    told = [it for it in said if not TAKEN.search(it)]
-    return told, bool(said) and not told
+    told = [it for it in said if not TAKEN.search(it) and not LIMIT.search(it)]
+    if told or not said:
+        return told, ""
+    if any(LIMIT.search(it) for it in said):
+        return told, "refused only by a limit of the prover: choose a change that it refuses sooner"
+    return told, "refused only since a proof names what it takes away: keep these names"

@@ -87,22 +87,31 @@ class Functions(unittest.TestCase):
 GONE = "./proofs/ways/Graph/extend/Answers.antt:7:85: error: `returns`: record `proofs.ways.Graph.extend.Lts.Past` has no field `remove`"
 LEFT = "./proofs/ways/Graph/extend/Answers.antt:9:5: error: 1 declaration that depends on `few`, which was rejected, was not checked: few-short"
 FALSE = "./proofs/ways/Graph/extend/Answers.antt:9:13: error: `returns-in-Some`: as printed, the two types differ only where one has `0`"
+CUT = "./proofs/ways/Graph/extend/Answers.antt:7:5: error: `returns`: in its elaboration: stopped at the step limit (50000000 steps a task)"
 OTHER = "./proofs/ways/Graph/extended/Answers.antt:4:6: error: `returns`: as printed, the two types differ only where one has `1`"
 
 
 class Complaints(unittest.TestCase):
-    """A proof that names what an edit took away shows nothing of a contract; one whose goal is false does."""
+    """A proof that names what an edit took away, or a limit of the prover, shows nothing of a contract; a goal that is false does."""
 
     def test_a_proof_that_only_names_what_is_gone_is_told_apart(self) -> None:
-        self.assertEqual(complaints("extend", "\n".join([GONE, LEFT, OTHER])), ([], True))
+        told, why = complaints("extend", "\n".join([GONE, LEFT, OTHER]))
+        self.assertEqual(told, [])
+        self.assertIn("a proof names what it takes away", why)
+
+    def test_a_limit_of_the_prover_is_told_apart(self) -> None:
+        for lines in [CUT], [CUT, GONE]:
+            told, why = complaints("extend", "\n".join(lines))
+            self.assertEqual(told, [])
+            self.assertIn("a limit of the prover", why)
 
     def test_a_goal_that_is_false_is_told(self) -> None:
-        told, is_by_name = complaints("extend", "\n".join([GONE, FALSE]))
+        told, why = complaints("extend", "\n".join([GONE, CUT, FALSE]))
         self.assertEqual([it.split("`")[1] for it in told], ["returns-in-Some"])
-        self.assertFalse(is_by_name)
+        self.assertEqual(why, "")
 
     def test_another_functions_proof_says_nothing_of_it(self) -> None:
-        self.assertEqual(complaints("extend", OTHER), ([], False))
+        self.assertEqual(complaints("extend", OTHER), ([], ""))
 
 
 if __name__ == "__main__":
