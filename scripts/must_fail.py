@@ -9,7 +9,7 @@ from common import CRATES
 
 MORE = "more.md "  # how the name of an edit begins that stands there
 # What a proof says where an edit takes away what it names. That shows nothing of a contract: the right code could be refused so too.
-TAKEN = re.compile(r"which was rejected|has no field|has no `|is not in scope|was not admitted|record `[^`]*` \(nearest")
+TAKEN = re.compile(r"which was rejected|has no field|has no `|is not in scope|was not admitted")
 # What it says where the prover met a limit of its own, so that nothing was decided.
 LIMIT = re.compile(r"stopped at the step limit|outgrew the memory limit|antt ran out of")
 FUNCTION = re.compile(r"^( *)(?:pub(?:\([^)]*\))? )?(?:const )?(?:unsafe )?(?:extern \"C\" )?fn (\w+)")
@@ -107,7 +107,8 @@ def edits_of(crate: str) -> List[Edit]:
 def complaints(function: str, output: str) -> Tuple[List[str], str]:
     """What a check printed of the files of a function's proof and shows something of its contract; and if it printed nothing else of them, why
     that shows nothing."""
-    said = re.findall(rf"^\./proofs/\S*\+?{function}/\S+?: error: (.*)", output, re.M)
+    # (a long line about a record or a module ends before it says what that has not)
+    said = re.findall(rf"^\./proofs/\S*\+?{function}/\S+?: error: (.*(?:\n  has no .*)?)", output, re.M)
     told = [it for it in said if not TAKEN.search(it) and not LIMIT.search(it)]
     if told or not said:
         return told, ""

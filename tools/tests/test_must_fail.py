@@ -85,6 +85,10 @@ class Functions(unittest.TestCase):
 
 
 GONE = "./proofs/ways/Graph/extend/Answers.antt:7:85: error: `returns`: record `proofs.ways.Graph.extend.Lts.Past` has no field `remove`"
+LONG = "./proofs/ways/Graph/extend/Answers.antt:8:40: error: `returns-in-Some`: `goal.returns-in-Some`: module `proofs.ways.Graph.extend.Goals`"
+LONG += "\n  has no `returns-in-Some` that can be named from here (names in it that begin alike: `returns`)"
+NEAREST = "./proofs/ways/Graph/extend/Answers.antt:9:77: error: `found`: record `proofs.ways.Graph.extend.Lts.After` (nearest: .insert)"
+NEAREST += "\n  has no field `insert-count`\n  the fields that can be named here are `insert`"
 LEFT = "./proofs/ways/Graph/extend/Answers.antt:9:5: error: 1 declaration that depends on `few`, which was rejected, was not checked: few-short"
 FALSE = "./proofs/ways/Graph/extend/Answers.antt:9:13: error: `returns-in-Some`: as printed, the two types differ only where one has `0`"
 CUT = "./proofs/ways/Graph/extend/Answers.antt:7:5: error: `returns`: in its elaboration: stopped at the step limit (50000000 steps a task)"
@@ -95,7 +99,7 @@ class Complaints(unittest.TestCase):
     """A proof that names what an edit took away, or a limit of the prover, shows nothing of a contract; a goal that is false does."""
 
     def test_a_proof_that_only_names_what_is_gone_is_told_apart(self) -> None:
-        told, why = complaints("extend", "\n".join([GONE, LEFT, OTHER]))
+        told, why = complaints("extend", "\n".join([GONE, LONG, NEAREST, LEFT, OTHER]))
         self.assertEqual(told, [])
         self.assertIn("a proof names what it takes away", why)
 
