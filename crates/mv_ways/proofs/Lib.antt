@@ -1,4 +1,5 @@
 pub mod Held
 pub mod InPlace
 pub mod Piecewise
+pub mod Told
 pub mod WayGraph

@@ -1,8 +1,12 @@
 pub mod Asking
 pub mod Behind
 pub mod Between
+pub mod Covered
+pub mod Drawn
 pub mod Going
 pub mod Graph
 pub mod Leads
 pub mod Made
+pub mod Sinks
+pub mod Told
 pub mod Ways

@@ -177,8 +177,7 @@ impl Graph {
         self.ways.any_between(from, position, to)
     }
 
-    /// Whether each edge is below one of the others. It takes no memory but tables on the stack, and goes as deep as the ways go over
-    /// one another.
+    /// Whether each edge is below one of the others. It takes no memory but tables on the stack.
     #[tactic(auto, using(crate::proofs::Held::held_under))]
     pub fn is_under(&self, others: &Edges) -> bool
         ensures { result ≡ edges_leq self.now others.now }

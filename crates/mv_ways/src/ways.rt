@@ -3,13 +3,17 @@ ghost use Rattle.std.specs.Prelude.{◌≡◌, ◌≤◌, length, IsTrue};
 ghost use Rattle.std.specs.List.{list_all};
 ghost use Rattle.mv_ways.specs.Ways.{are_below, are_earlier, is_known, most_ways};
 
+mod drawing;
 mod extending;
 mod growth;
 mod listing;
 mod made;
 mod questions;
+mod sink;
+mod sinks;
 mod stating;
 mod steps;
+mod told;
 mod tying;
 mod under;
 
@@ -21,11 +25,16 @@ use std::marker::Model;
 /// makes at most two ways.
 const MOST_WAYS: usize = 8_320;
 
+/// How many ways a small graph has at most.
+const FEW_WAYS: usize = 64;
+
 /// Where an edge comes from, by the source's number, and its label.
 #[derive(Drop, Debug)]
 pub(crate) struct Lead {
     source: usize,
     label: Label,
+    // Its number among all that are stated where the graph is made. Nothing rests on it but the time that a question takes.
+    number: usize,
 }
 
 impl Model for Lead {
@@ -132,6 +141,7 @@ impl WayGraph {
     pub(crate) fn references(&self) -> &[Reference]
         ensures value { result.now ≡ self.now.references }
         ensures below { IsTrue (are_below (length self.now.ways) self.now.references) }
+        ensures earlier { IsTrue (are_earlier 0 self.now.ways) }
         ensures few { length self.now.ways ≤ most_ways }
     {
         &self.references

@@ -28,11 +28,11 @@ edges_behind sources node (leads ∷ listed) (tails ∷ behind) = edges_with sou
 -- ---- lists that are sorted alike
 
 -- the first two of three parts may change places
-swap_first : (as' bs cs : List Edge) → sorted (as' ++ (bs ++ cs)) ≡ sorted (bs ++ (as' ++ cs))
+pub swap_first : (as' bs cs : List Edge) → sorted (as' ++ (bs ++ cs)) ≡ sorted (bs ++ (as' ++ cs))
 swap_first as' bs cs = ap sorted (sym (append_assoc as' bs cs)) ∙ sorted-append (as' ++ bs) (bs ++ as') cs cs (sorted-append_swap as' bs) refl ∙ ap sorted (append_assoc bs as' cs)
 
 -- and so may the last two
-swap_last : (as' bs cs : List Edge) → sorted ((as' ++ bs) ++ cs) ≡ sorted ((as' ++ cs) ++ bs)
+pub swap_last : (as' bs cs : List Edge) → sorted ((as' ++ bs) ++ cs) ≡ sorted ((as' ++ cs) ++ bs)
 swap_last as' bs cs = ap sorted (append_assoc as' bs cs) ∙ sorted_behind_alike as' (bs ++ cs) (cs ++ bs) (sorted-append_swap bs cs) ∙ ap sorted (sym (append_assoc as' cs bs))
 
 -- two lists made of each element
@@ -92,7 +92,7 @@ module _ (sources : List (Option Node)) (node : Node) where
   by_none leads = flat_map_nothing (led_edges sources node []) (λ l. refl) leads
 
   -- labels of two lists
-  by_both : (leads : List Lead) (ts us : List Edge) → sorted (By leads (ts ++ us)) ≡ sorted (By leads ts ++ By leads us)
+  pub by_both : (leads : List Lead) (ts us : List Edge) → sorted (By leads (ts ++ us)) ≡ sorted (By leads ts ++ By leads us)
   by_both leads ts us =
       ap sorted (flat_map_alike (led_edges sources node (ts ++ us)) (λ l. led_edges sources node ts l ++ led_edges sources node us l) (λ l. flat_map-append (tail_edges sources node l) ts us) leads)
       ∙ spread (led_edges sources node ts) (led_edges sources node us) leads
@@ -102,13 +102,13 @@ module _ (sources : List (Option Node)) (node : Node) where
   by_sorted leads ts = sorted-flat_map_alike (led_edges sources node (sorted ts)) (led_edges sources node ts) (λ l. sorted-flat_map (tail_edges sources node l) ts) leads
 
   -- the label of the place itself
-  by_here : (leads : List Lead) → By leads (a_tail here ∷ []) ≡ flat_map (lead_edges sources node) leads
+  pub by_here : (leads : List Lead) → By leads (a_tail here ∷ []) ≡ flat_map (lead_edges sources node) leads
   by_here leads =
       flat_map_alike (led_edges sources node (a_tail here ∷ [])) (lead_edges sources node)
       (λ l. append-nil (lead_edges sources node (a_lead l.source (composed l.label here))) ∙ ap (λ x. lead_edges sources node (a_lead l.source x)) (composed-here l.label)) leads
 
   -- a field's label stands before the ones behind it
-  by_field : (f : ℕ) (leads : List Lead) (ts : List Edge) → By (changed_leads (extended f) leads) ts ≡ By leads (map (field_tail f) ts)
+  pub by_field : (f : ℕ) (leads : List Lead) (ts : List Edge) → By (changed_leads (extended f) leads) ts ≡ By leads (map (field_tail f) ts)
   by_field f leads ts =
       flat_map-map (led_edges sources node ts) (λ (l : Lead). a_lead l.source (extended f l.label)) leads
       ∙ flat_map_alike (λ (l : Lead). led_edges sources node ts (a_lead l.source (extended f l.label))) (led_edges sources node (map (field_tail f) ts)) one leads
@@ -120,7 +120,7 @@ module _ (sources : List (Option Node)) (node : Node) where
           ∙ sym (flat_map-map (tail_edges sources node l) (field_tail f) ts)
 
   -- what is opened stays as it is, whatever labels are behind it
-  by_opened : (leads : List Lead) (t : Edge) (ts : List Edge) → sorted (By (changed_leads opened leads) (t ∷ ts)) ≡ sorted (By leads (a_tail (opened here) ∷ []))
+  pub by_opened : (leads : List Lead) (t : Edge) (ts : List Edge) → sorted (By (changed_leads opened leads) (t ∷ ts)) ≡ sorted (By leads (a_tail (opened here) ∷ []))
   by_opened leads t ts =
       ap sorted (flat_map-map (led_edges sources node (t ∷ ts)) (λ (l : Lead). a_lead l.source (opened l.label)) leads)
       ∙ sorted-flat_map_alike (λ (l : Lead). led_edges sources node (t ∷ ts) (a_lead l.source (opened l.label))) (led_edges sources node (a_tail (opened here) ∷ [])) one leads
@@ -131,7 +131,7 @@ module _ (sources : List (Option Node)) (node : Node) where
           ∙ ap (λ x. sorted (lead_edges sources node (a_lead l.source x))) (sym (composed-open l.label))
           ∙ ap sorted (sym (append-nil (lead_edges sources node (a_lead l.source (composed l.label (opened here))))))
 
-  by_returned : (listed : List (List Lead)) (ks : List ℕ) (t : Edge) (ts : List Edge)
+  pub by_returned : (listed : List (List Lead)) (ks : List ℕ) (t : Edge) (ts : List Edge)
       → sorted (By (flat_map (λ k. changed_leads opened (leads_at listed k)) ks) (t ∷ ts)) ≡ sorted (flat_map (λ k. By (leads_at listed k) (a_tail (opened here) ∷ [])) ks)
   by_returned listed ks t ts =
       ap sorted (flat_map-flat_map (led_edges sources node (t ∷ ts)) (λ k. changed_leads opened (leads_at listed k)) ks)

@@ -1,103 +1,91 @@
--- What is covered of all that goes on from a way.
-use Rattle.mv_edges.proofs.Common.{ℕ, ◌+◌, ◌<◌, ◌∙◌, ◌≡◌, ◌≤◌, ◌⊎◌, List, None, Some, arith, cases_lt, false, inl, inr, length, refl, subst, sym, true, true≢false, Edge, Label, opened}
-use Rattle.std.proofs.Common.{get_or}
-use Rattle.std.proofs.lemmas.Option.{none-some, same_Some, slice_get_within}
-use Rattle.std.proofs.lemmas.Bool.{ltb-true}
-use Rattle.mv_edges.specs.Ascending.{IsRising}
+-- Leads with an open label above them: what is noted of them, and what that saves.
+use Rattle.mv_edges.proofs.Common.{[], ℕ, ◌&&◌, ◌++◌, ◌+◌, ◌<◌, ◌∙◌, ◌∷◌, ◌≡◌, ◌≤◌, ◌⊎◌, Bool, List, None, Option, Some, ap, append-nil, arith, false, flat_map, get_or, inl, inr, length, option_map_or, refl, slice_get, sorted, subst, sym, take, true}
+use Rattle.mv_edges.proofs.Common.{Node, Edge, edges_leq}
+use Rattle.std.specs.Prelude.{replicate}
+use Rattle.std.proofs.lemmas.List.{get_or-replicate, length-replicate}
+use Rattle.std.proofs.lemmas.Option.{same_Some, slice_get_within}
+use Rattle.mv_edges.proofs.Settled.{leq-sorted}
+use Rattle.mv_ways.specs.Behind.{begun_edges, edges_with, led_edges, tail_edges}
+use Rattle.mv_ways.specs.Covered.{AreCovered, IsCovered, IsNoted, open_tail, stated}
+use Rattle.mv_ways.specs.Drawn.{all_drawn, drawn_of, path_before}
+use Rattle.mv_ways.specs.Going.{original}
+use Rattle.mv_ways.specs.Leads.{Lead}
+use Rattle.mv_ways.specs.Sinks.{leq_append}
+use Rattle.mv_ways.specs.Ways.{WayGraph, are_earlier, leads_at, most_ways}
 use Rattle.mv_ways.specs.declared.ways.Way.{Way}
-use Rattle.mv_ways.specs.declared.ways.Way.TheVariants.{Stated, Lent, Field, Returned}
-use Rattle.mv_ways.specs.declared.ways.under.leading.Link.{Link}
-use Rattle.mv_ways.specs.declared.ways.under.leading.Mark.{Mark}
-use Rattle.mv_ways.specs.Ways.{are_earlier, goes_below}
-use Rattle.mv_ways.specs.Going.{AreChildren, AreCovered, AreLeading, Goes, IsDrawn, IsGiven, IsNextChild, IsRest, LeadsTo, drawn, is_covered, original}
-use Rattle.mv_ways.proofs.WayGraph.Terms.{AreDone}
-use Rattle.mv_ways.specs.Going.Goes.{ends, draws, returns}
-use Rattle.mv_ways.proofs.WayGraph.Listing.{earlier_at}
-use Rattle.mv_ways.proofs.WayGraph.Goes.{goes_from_leads, goes_open, leads_from_goes, open_uncovered}
+use Rattle.mv_ways.specs.declared.ways.under.covered.Covered.{Covered}
+use Rattle.mv_ways.proofs.WayGraph.Drawn.{drawn_step, led_more, tail_before, tail_path}
+use Rattle.mv_ways.proofs.WayGraph.DrawnListing.{drawn_at-way}
+use Rattle.mv_ways.proofs.WayGraph.Under.{lead_on}
 
--- a copy or a field is behind its original
-pub drawn_later : (ways : List Way) (place child : ℕ) (way : Way) → are_earlier 0 ways ≡ true → IsDrawn ways place child way → place < child
-drawn_later ways place child way e d = by_way way (earlier_at ways 0 e child way d.at) d.over
-  where
-    by_way : (w : Way) → goes_below (0 + child) w ≡ true → original w ≡ Some place → place < child
-    by_way (Stated leads) b o = absurd (none-some place o)
-    by_way (Lent source None) b o = absurd (none-some place o)
-    by_way (Lent source (Some over)) b o = let same = same_Some over place o in omega (arith, ltb-true over (0 + child) b, same)
-    by_way (Field over position) b o = let same = same_Some over place o in omega (arith, ltb-true over (0 + child) b, same)
-    by_way (Returned ways) b o = absurd (none-some place o)
+module _ (g : WayGraph) (to : Node) (others : List Edge) where
+  -- one more is noted
+  pub noted_more : (old new : List Covered) (way lead : ℕ) → length new ≡ length old → IsNoted old new way lead → IsCovered g to others way lead → AreCovered g to others old → AreCovered g to others new
+  noted_more old new way lead long noted is all n d inside =
+      let within : n < length old = omega (arith, inside, long) in
+      elim (noted n d within) [
+        | inl same ↦ subst (λ (e : Covered). IsCovered g to others e.way e.lead) (sym same) (all n d within)
+        | inr here ↦ subst (λ w. IsCovered g to others w (get_or new n d).lead) (sym here.0) (subst (λ i. IsCovered g to others way i) (sym here.1) is)
+      ]
 
--- how a label goes on
-pub data Onward (ways : List Way) (last place : ℕ) (x a : Label) : Type 0 where
-  stops : place ≡ last → a ≡ x → Onward ways last place x a
-  by_draw : (child : ℕ) (way : Way) → IsDrawn ways place child way → Goes ways last child (drawn way x) a → Onward ways last place x a
-  by_return : (child : ℕ) (way : Way) → IsGiven ways place child way → Goes ways last child (opened x) a → Onward ways last place x a
+  -- none is
+  pub none_noted : (count : ℕ) → length g.ways ≤ most_ways → AreCovered g to others (replicate count (record { way = 65535; lead = 0 }))
+  none_noted count few n d inside way lead at there =
+      let none : Covered = record { way = 65535; lead = 0 } in
+      let within : n < count = omega (arith, inside, length-replicate count none) in
+      let here : slice_get g.ways 65535 ≡ Some way = subst (λ (e : Covered). slice_get g.ways e.way ≡ Some way) (get_or-replicate count n none d within) at in
+      let low = slice_get_within g.ways 65535 way here in
+      let bound : length g.ways ≤ 8320 = few in
+      absurd (omega (arith, low, bound))
 
-pub onward : {ways : List Way} {last place : ℕ} {x a : Label} → Goes ways last place x a → Onward ways last place x a
-onward ends = stops refl refl
-onward (draws {child = child} {way = way} d g) = by_draw child way d g
-onward (returns {child = child} {way = way} d g) = by_return child way d g
+  -- a lead that was asked for is covered
+  pub lead_covered : (place index : ℕ) (leads : List Lead) (lead : Lead) → ((way : Way) → slice_get g.ways place ≡ Some way → stated way ≡ leads) → slice_get leads index ≡ Some lead
+      → edges_leq (tail_edges g.sources to lead (open_tail [])) others ≡ true → IsCovered g to others place index
+  lead_covered place index leads lead there at holds way l is found =
+      let same : lead ≡ l = same_Some lead l (sym at ∙ ap (λ ls. slice_get ls index) (sym (there way is)) ∙ found) in
+      subst (λ x. edges_leq (led_edges g.sources to (open_tail [] ∷ []) x) others ≡ true) same
+      (ap (λ es. edges_leq es others) (append-nil (tail_edges g.sources to lead (open_tail []))) ∙ holds)
 
-module _ (ways : List Way) (last : ℕ) (marks : List Mark) (leading : AreLeading ways last marks) where
-  abbrev note : ℕ → Mark → Mark
-  note k d = get_or marks k d
+  -- and one that is noted is, whatever is behind it
+  pub noted_covered : (entries : List Covered) (n place index : ℕ) (path : List ℕ) (way : Way) (lead : Lead) → AreCovered g to others entries → n < length entries
+      → ((d : Covered) → (get_or entries n d).way ≡ place) → ((d : Covered) → (get_or entries n d).lead ≡ index)
+      → slice_get g.ways place ≡ Some way → slice_get (stated way) index ≡ Some lead → edges_leq (led_edges g.sources to (open_tail path ∷ []) lead) others ≡ true
+  noted_covered entries n place index path way lead all inside its_way its_lead at there =
+      let d : Covered = record { way = 0; lead = 0 } in
+      lead_on g.sources to path lead others
+      (all n d inside way lead (subst (λ k. slice_get g.ways k ≡ Some way) (sym (its_way d)) at) (subst (λ k. slice_get (stated way) k ≡ Some lead) (sym (its_lead d)) there))
 
-  -- what a function returned of it is not covered, where no open label is above it
-  pub returned_uncovered : (all : List Edge) (x : Label) (others : List Edge) (depth place : ℕ) (d : Mark) → IsRest all x others depth → place < length ways
-      → (note place d).is_returned ≡ true → AreCovered ways last all place x → ⊥
-  returned_uncovered all x others depth place d r inside h covered =
-      let given = (leading.returned place d inside).0 h in
-      let on = goes_from_leads (opened x) given.leading in
-      let same : on.0 ≡ opened x = goes_open refl on.1 in
-      true≢false (sym (subst (λ a. is_covered all a ≡ true) same (covered on.0 (returns given.giving on.1))) ∙ open_uncovered all x r.free)
+-- one lead more
+pub leads_more : (f : Lead → List Edge) (others : List Edge) (leads : List Lead) (i : ℕ) (d : Lead) → i < length leads
+    → edges_leq (flat_map f (take (i + 1) leads)) others ≡ (edges_leq (flat_map f (take i leads)) others && edges_leq (f (get_or leads i d)) others)
+leads_more f others leads i d inside = ap (λ es. edges_leq es others) (led_more f leads i d inside) ∙ leq_append (flat_map f (take i leads)) (f (get_or leads i d)) others
 
-  -- where nothing was returned of it, all is covered whose copies and fields are, and that ends here as a covered label
-  pub all_covered : (all : List Edge) (x : Label) (others : List Edge) (depth place child : ℕ) (d : Mark) → IsRising all → IsRest all x others depth → place < length ways
-      → (note place d).is_returned ≡ false → (place ≡ last → is_covered all x ≡ true) → AreDone ways last place others depth child → length ways ≤ child
-      → AreCovered ways last all place x
-  all_covered all x others depth place child d ascends r inside unreturned met done through a g = by_onward (onward g)
-    where
-      by_onward : Onward ways last place x a → is_covered all a ≡ true
-      by_onward (stops here same) = subst (λ l. is_covered all l ≡ true) (sym same) (met here)
-      by_onward (by_draw k way drawn on) =
-          let inside : k < length ways = slice_get_within ways k way drawn.at in
-          done.done k way all x (omega (arith, inside, through)) drawn ascends r a on
-      by_onward (by_return k way given on) =
-          absurd (true≢false (sym ((leading.returned place d inside).1 (record { child = k; way = way; behind = omega arith; giving = given; leading = leads_from_goes on })) ∙ unreturned))
+pub all_and_not : (a b : Bool) → b ≡ false → (a && b) ≡ false
+all_and_not true b h = h
+all_and_not false b h = refl
 
-  -- what doesn't lead there has nothing to cover
-  pub none_covered : (all : List Edge) (x : Label) (k : ℕ) (d : Mark) → k < length ways → (note k d).leads ≡ false → AreCovered ways last all k x
-  none_covered all x k d inside h a g = absurd (true≢false (sym ((leading.leads k d inside).1 (leads_from_goes g)) ∙ h))
+-- ---- down a chain
 
-module _ (ways : List Way) (last place : ℕ) (links : List Link) (children : AreChildren ways links) (others : List Edge) (depth : ℕ) where
-  -- at first none is before the first child
-  pub done_first : (d : Link) → place < length ways → AreDone ways last place others depth (get_or links place d).child
-  done_first d inside =
-      let next : IsNextChild ways place 0 (get_or links place d).child = children.first place d inside in
-      record {
-        there = next.drawn;
-        done = λ k way all x before drawn ascends r. absurd (next.skipped k way (omega arith) before drawn);
-      }
+leq_option : (F : ℕ → List Edge) (others : List Edge) (o : Option ℕ) → edges_leq (option_map_or F o []) others ≡ option_map_or (λ k. edges_leq (F k) others) o true
+leq_option F others None = refl
+leq_option F others (Some k) = refl
 
-  -- and behind each child comes its sibling
-  pub done_next : (child : ℕ) (d : Link) → child < length ways → AreDone ways last place others depth child
-      → ((way : Way) (all : List Edge) (x : Label) → IsDrawn ways place child way → IsRising all → IsRest all x others depth → AreCovered ways last all child (drawn way x))
-      → AreDone ways last place others depth (get_or links child d).sibling
-  done_next child d inside before new =
-      let drawn = before.there inside in
-      let next : IsNextChild ways place (child + 1) (get_or links child d).sibling = children.next child place drawn.0 d inside drawn.1 in
-      record {
-        there = next.drawn;
-        done = λ k way all x below drawn ascends r. by_place next k way all x below drawn ascends r (cases_lt k child);
-      }
-    where
-      by_place : IsNextChild ways place (child + 1) (get_or links child d).sibling → (k : ℕ) (way : Way) (all : List Edge) (x : Label)
-          → k < (get_or links child d).sibling → IsDrawn ways place k way → IsRising all → IsRest all x others depth
-          → (k < child) ⊎ (child ≤ k) → AreCovered ways last all k (drawn way x)
-      by_place next k way all x below drawn ascends r (inl less) = before.done k way all x less drawn ascends r
-      by_place next k way all x below drawn ascends r (inr more) = by_last (cases_lt child k)
-        where
-          by_last : (child < k) ⊎ (k ≤ child) → AreCovered ways last all k (Rattle.mv_ways.specs.Going.drawn way x)
-          by_last (inl later) = absurd (next.skipped k way (omega (arith, later)) below drawn)
-          by_last (inr there) =
-              let same : child ≡ k = omega (arith, more, there) in
-              subst (λ j. IsDrawn ways place j way → AreCovered ways last all j (Rattle.mv_ways.specs.Going.drawn way x)) same (λ at. new way all x at ascends r) drawn
+-- whether what is drawn to a way, with positions behind it, is below others
+abbrev pub is_under : WayGraph → Node → List Edge → List ℕ → ℕ → Bool
+is_under g to others path k = edges_leq (edges_with g.sources to (leads_at (all_drawn g.ways) k) (open_tail path ∷ [])) others
+
+module _ (g : WayGraph) (to : Node) (others : List Edge) (earlier : are_earlier 0 g.ways ≡ true) where
+  pub chain_on : (place : ℕ) (way : Way) (path : List ℕ) → slice_get g.ways place ≡ Some way
+      → is_under g to others path place ≡ (edges_leq (begun_edges g.sources to way (open_tail path ∷ [])) others && option_map_or (is_under g to others (path_before way path)) (original way) true)
+  chain_on place way path at =
+      let t = open_tail path in
+      let begun = begun_edges g.sources to way (t ∷ []) in
+      let F : ℕ → List Edge = λ k. edges_with g.sources to (leads_at (all_drawn g.ways) k) (tail_before way t ∷ []) in
+      let rest = option_map_or F (original way) [] in
+      ap (λ ls. edges_leq (edges_with g.sources to ls (t ∷ [])) others) (drawn_at-way g.ways earlier place way at)
+      ∙ sym (leq-sorted (edges_with g.sources to (drawn_of (all_drawn g.ways) way) (t ∷ [])) others)
+      ∙ ap (λ es. edges_leq es others) (sym (drawn_step g.sources to (all_drawn g.ways) way t))
+      ∙ leq-sorted (begun ++ rest) others
+      ∙ leq_append begun rest others
+      ∙ ap (λ b. edges_leq begun others && b) (leq_option F others (original way)
+      ∙ ap (λ u. option_map_or (λ k. edges_leq (edges_with g.sources to (leads_at (all_drawn g.ways) k) (u ∷ [])) others) (original way) true) (tail_path way path true))

@@ -1,17 +1,16 @@
 -- How it is marked which ways lead to the last one, from there to the first.
 use Rattle.mv_edges.proofs.Common.{ℕ, ◌+◌, ◌<◌, ◌==◌, ◌||◌, ◌∙◌, ◌∷◌, ◌≡◌, ◌≤◌, ◌⊎◌, Contains, List, None, Option, Some, [], ap, arith, false, get_or, inl, inr, length, list_any, refl, slice_get, subst, sym, true, true≢false}
 use Rattle.mv_edges.proofs.Common.{cases_lt, eq-eqb, eqb-true, ltb, ltb-true, option_map_or, or_cases, or_left, or_right}
-use Rattle.std.proofs.lemmas.Option.{none-some, same_Some}
+use Rattle.std.proofs.lemmas.Option.{none-some, same_Some, slice_get_within}
 use Rattle.mv_edges.proofs.Insertion.{all_contains, contains_cases, contains_here, contains_none, contains_there}
 use Rattle.mv_ways.specs.declared.ways.Way.{Way}
 use Rattle.mv_ways.specs.declared.ways.Way.TheVariants.{Stated, Lent, Field, Returned}
 use Rattle.mv_ways.specs.declared.ways.under.leading.Mark.{Mark}
 use Rattle.mv_ways.specs.Ways.{are_earlier, goes_below}
-use Rattle.mv_ways.specs.Going.{AreLeading, IsGiven, IsReturned, LeadsTo, given, goes_over, original}
+use Rattle.mv_ways.specs.Going.{AreLeading, IsDrawn, IsGiven, IsReturned, LeadsTo, given, goes_over, original}
 use Rattle.mv_ways.proofs.WayGraph.Terms.{AreMarked, LeadsBy}
 use Rattle.mv_ways.proofs.WayGraph.Terms.LeadsBy.{at_end, by_copy, by_return}
 use Rattle.mv_ways.specs.Going.LeadsTo.{itself, by_drawn, by_given}
-use Rattle.mv_ways.proofs.WayGraph.Covered.{drawn_later}
 use Rattle.mv_ways.proofs.WayGraph.Listing.{earlier_at}
 
 -- a number among others
@@ -29,6 +28,17 @@ number_among (m ∷ ns) n c = elim (contains_cases m ns n c) [
   | inr d ↦ or_right (m == n) (list_any (λ j. j == n) ns) (number_among ns n d)
 ]
 
+-- a copy or a field is behind its original
+drawn_later : (ways : List Way) (place child : ℕ) (way : Way) → are_earlier 0 ways ≡ true → IsDrawn ways place child way → place < child
+drawn_later ways place child way e d = by_way way (earlier_at ways 0 e child way d.at) d.over
+  where
+    by_way : (w : Way) → goes_below (0 + child) w ≡ true → original w ≡ Some place → place < child
+    by_way (Stated leads) b o = absurd (none-some place o)
+    by_way (Lent source None) b o = absurd (none-some place o)
+    by_way (Lent source (Some over)) b o = let same = same_Some over place o in omega (arith, ltb-true over (0 + child) b, same)
+    by_way (Field over position) b o = let same = same_Some over place o in omega (arith, ltb-true over (0 + child) b, same)
+    by_way (Returned ways) b o = absurd (none-some place o)
+
 -- what a function had is earlier than what it returned
 given_later : (ways : List Way) (place child : ℕ) (way : Way) → are_earlier 0 ways ≡ true → IsGiven ways place child way → place < child
 given_later ways place child way e d = by_way way (earlier_at ways 0 e child way d.at) d.has
@@ -38,6 +48,10 @@ given_later ways place child way e d = by_way way (earlier_at ways 0 e child way
     by_way (Lent source over) b c = absurd (contains_none place c)
     by_way (Field over position) b c = absurd (contains_none place c)
     by_way (Returned givers) b c = let below = ltb-true place (0 + child) (all_contains (λ k. ltb k (0 + child)) givers.items place b c) in omega (arith, below)
+
+-- and is there
+pub returned_within : (ways : List Way) (last : ℕ) → are_earlier 0 ways ≡ true → (k : ℕ) → IsReturned ways last 0 k → k < length ways
+returned_within ways last e k r = let before = given_later ways k r.child r.way e r.giving in let inside = slice_get_within ways r.child r.way r.giving.at in omega (arith, before, inside)
 
 -- which ways the way at a place goes over
 copy_over : (o : Option ℕ) (n : ℕ) → option_map_or (λ over. over == n) o false ≡ true → o ≡ Some n

@@ -9,6 +9,7 @@ use Rattle.std.proofs.lemmas.List.Sums.{fold-append}
 use Rattle.std.proofs.Math.ListN.{get_or-append}
 use Rattle.std.proofs.Math.Seq.{get_or-append_seam}
 use Rattle.mv_ways.specs.Leads.{Lead}
+use Rattle.mv_ways.proofs.WayGraph.Folded.{at_way}
 use Rattle.mv_ways.specs.declared.ways.Way.{Way}
 use Rattle.mv_ways.specs.declared.ways.Way.TheVariants.{Stated, Lent, Field, Returned}
 use Rattle.mv_ways.specs.Ways.{a_lead, all_leads, are_earlier, changed_leads, goes_below, leads_at, leads_of, with_leads_of}
@@ -51,7 +52,7 @@ leads_at-last ways way =
 -- ---- each way's leads are those of the way by all
 
 -- a way's leads by two lists that agree below a place, where it goes over ways below it alone
-pub leads_of-alike : (listed others : List (List Lead)) (place : ℕ) → ((k : ℕ) → k < place → leads_at listed k ≡ leads_at others k) → (way : Way) → goes_below place way ≡ true
+leads_of-alike : (listed others : List (List Lead)) (place : ℕ) → ((k : ℕ) → k < place → leads_at listed k ≡ leads_at others k) → (way : Way) → goes_below place way ≡ true
     → leads_of listed way ≡ leads_of others way
 leads_of-alike listed others place same (Stated leads) h = refl
 leads_of-alike listed others place same (Lent source None) h = refl
@@ -66,30 +67,8 @@ leads_of-alike listed others place same (Returned ways) h = each ways.items h
         ap (λ ls. changed_leads opened ls ++ flat_map (λ j. changed_leads opened (leads_at listed j)) ks) (same k (ltb-true k place parts.0))
         ∙ ap (λ ls. changed_leads opened (leads_at others k) ++ ls) (each ks parts.1)
 
-from_place : (listed : List (List Lead)) (ways : List Way) (place : ℕ) → place ≡ length listed → are_earlier place ways ≡ true
-    → (i : ℕ) (way : Way) → slice_get ways i ≡ Some way
-    → leads_at (fold with_leads_of listed ways) (place + i) ≡ leads_of (fold with_leads_of listed ways) way
-from_place listed [] place h e i way at = cc at
-from_place listed (w ∷ ways) place h e zero way at =
-    let same : w ≡ way = cc at in
-    let parts = and_parts (goes_below place w) (are_earlier (place + 1) ways) e in
-    let all = fold with_leads_of (with_leads_of listed w) ways in
-    let more = length-append listed (leads_of listed w ∷ []) in
-    let here_at : place + 0 ≡ length listed = omega (arith, h) in
-    ap (leads_at all) here_at
-    ∙ leads-kept (with_leads_of listed w) ways (length listed) (omega (arith, more))
-    ∙ get_or-append_seam listed (leads_of listed w) [] []
-    ∙ leads_of-alike listed all place (λ k below. sym (leads-kept listed (w ∷ ways) k (omega (arith, h, below)))) w parts.0
-    ∙ ap (leads_of all) same
-from_place listed (w ∷ ways) place h e (suc i) way at =
-    let parts = and_parts (goes_below place w) (are_earlier (place + 1) ways) e in
-    let more = length-append listed (leads_of listed w ∷ []) in
-    let next : place + suc i ≡ place + 1 + i = omega arith in
-    ap (leads_at (fold with_leads_of (with_leads_of listed w) ways)) next
-    ∙ from_place (with_leads_of listed w) ways (place + 1) (omega (arith, h, more)) parts.1 i way at
-
 pub leads_at-way : (ways : List Way) → are_earlier 0 ways ≡ true → (i : ℕ) (way : Way) → slice_get ways i ≡ Some way → leads_at (all_leads ways) i ≡ leads_of (all_leads ways) way
-leads_at-way ways e i way at = let same : 0 + i ≡ i = omega arith in ap (leads_at (all_leads ways)) (sym same) ∙ from_place [] ways 0 refl e i way at
+leads_at-way = at_way leads_of leads_of-alike
 
 -- what a way goes over is earlier
 pub earlier_at : (ways : List Way) (place : ℕ) → are_earlier place ways ≡ true → (i : ℕ) (way : Way) → slice_get ways i ≡ Some way → goes_below (place + i) way ≡ true

@@ -6,9 +6,7 @@ use Rattle.mv_ways.specs.declared.ways.Way.{Way}
 use Rattle.mv_ways.specs.declared.ways.Way.TheVariants.{Stated, Lent, Field, Returned}
 use Rattle.mv_ways.specs.declared.ways.under.leading.Mark.{Mark}
 use Rattle.mv_ways.specs.Ways.{goes_below}
-use Rattle.mv_ways.specs.Going.{original}
 use Rattle.mv_edges.proofs.Insertion.{all_weaker}
-use Rattle.std.proofs.lemmas.Option.{none-some, same_Some}
 
 -- what is read at a place is what was written there, or what was there
 pub read_set : {X : Type 0} (xs : List X) (i k : ℕ) (y d : X) → i < length xs → get_or (set xs i y) k d ≡ cond (k == i) y (get_or xs k d)
@@ -46,15 +44,7 @@ kept_mark f marks i k y d room same = elim (cases_eq k i) [
   | inr other ↦ ap f (get_or-set_other marks i k y d other)
 ]
 
--- what a way goes over is below what bounds it
-pub over_below : (n : ℕ) (way : Way) (over : ℕ) → goes_below n way ≡ true → original way ≡ Some over → over < n
-over_below n (Stated leads) over h o = absurd (none-some over o)
-over_below n (Lent source None) over h o = absurd (none-some over o)
-over_below n (Lent source (Some k)) over h o = let same = same_Some k over o in let below = ltb-true k n h in omega (arith, same, below)
-over_below n (Field k position) over h o = let same = same_Some k over o in let below = ltb-true k n h in omega (arith, same, below)
-over_below n (Returned ways) over h o = absurd (none-some over o)
-
--- and below what is larger
+-- a way goes over ways below what is larger
 pub goes_below_more : (m n : ℕ) (way : Way) → m ≤ n → goes_below m way ≡ true → goes_below n way ≡ true
 goes_below_more m n (Stated leads) h g = refl
 goes_below_more m n (Lent source None) h g = refl

@@ -1,14 +1,28 @@
 // What becomes of a graph of ways where a reference is made one to a field.
-ghost use Rattle.std.specs.Prelude.{◌≡◌, ℕ, ◌<◌, ◌++◌, [], length, map, slice_index_or, slice_set, IfOk, OnOk, IsTrue};
+ghost use Rattle.std.specs.Prelude.{◌≡◌, ℕ, ◌<◌, ◌++◌, [], length, map, slice_index_or, slice_set, IfOk, IfSome, OnOk, IsTrue};
 ghost use Rattle.mv_edges.specs.Edges.{extended, inherited, opened, without};
 ghost use Rattle.mv_edges.specs.Sorted.{sorted};
 ghost use Rattle.mv_ways.specs.Ways.{HasMoreWays, a_reference, all_leads, changed_leads, edge_lists, edges_of, extended_into, leads_at};
+ghost use Rattle.mv_ways.specs.declared.ways.Way.{Way as WayRecord};
 
 use super::super::nodes::One;
 use super::{Reference, Way, WayGraph};
 use mv_edges::is_same;
 use mv_move_types::Node;
 use std::alloc::{AllocError, Global};
+
+/// Whether a way is that of a field of another one.
+fn is_field_of(way: &Way, over: usize, position: u8) -> bool
+    ensures { IsTrue result → way.now ≡ WayRecord.Field over position }
+{
+    match way {
+        Way::Field {
+            over: its_over,
+            position: its_position,
+        } => *its_over == over && *its_position == position,
+        Way::Stated(_) | Way::Lent { .. } | Way::Returned(_) => false,
+    }
+}
 
 impl WayGraph {
     /// Whether a function returned what a way leads to, so that all that leads there is open.
@@ -23,6 +37,21 @@ impl WayGraph {
         }
     }
 
+    /// The place of a way of the same field, if there is one.
+    fn alike_field(&self, over: usize, position: u8) -> Option<usize>
+        requires { over < length self.now.ways }
+        ensures below { IfSome result (λ way. way < length self.now.ways) }
+        ensures leads { IfSome result (λ way. leads_at (all_leads self.now.ways) way ≡ changed_leads (extended position) (leads_at (all_leads self.now.ways) over)) }
+    {
+        let ways = self.ways();
+        for place in over + 1..ways.len() {
+            if is_field_of(&ways[place], over, position) {
+                return Some(place);
+            }
+        }
+        None
+    }
+
     /// The way of a field. All that leads to what a function returned is open, and so leads to its fields.
     fn field(&mut self, over: usize, position: u8) -> Result<usize, AllocError>
         requires { over < length self.old.ways }
@@ -32,6 +61,9 @@ impl WayGraph {
     {
         if self.is_returned(over) {
             return Ok(over);
+        }
+        if let Some(way) = self.alike_field(over, position) {
+            return Ok(way);
         }
         let way = self.push_way(Way::Field { over, position })?;
         Ok(way)

@@ -78,12 +78,24 @@ impl WayGraph {
         }
     }
 
-    /// Adds what an edge leads by, if it leads to a node.
+    /// How many leads are stated of all ways.
+    fn lead_count(&self) -> usize {
+        let mut count: usize = 0;
+        for way in self.ways() {
+            if let Way::Stated(leads) = way {
+                count = count.saturating_add(leads.len());
+            }
+        }
+        count
+    }
+
+    /// Adds what an edge leads by, if it leads to a node. Leads are numbered from the first number on.
     fn push_lead_into(
         &self,
         alloc: Global,
         to: Node,
         e: &Edge,
+        first: usize,
         leads: &mut Vec<Lead>,
     ) -> Result<(), AllocError>
         requires comes { IsTrue (has_source self.now.sources e.now.from) }
@@ -96,7 +108,12 @@ impl WayGraph {
         }
         let source = number_of(self.sources(), e.from());
         let label = e.label().copy(alloc)?;
-        leads.push(Lead { source, label })?;
+        let number = first.saturating_add(leads.len());
+        leads.push(Lead {
+            source,
+            label,
+            number,
+        })?;
         Ok(())
     }
 
@@ -106,9 +123,10 @@ impl WayGraph {
         ensures edges { IfOk result (λ leads. flat_map (lead_edges self.now.sources to) leads.items ≡ into to edges.now) }
         ensures known { IfOk result (λ leads. IsTrue (are_inside (length self.now.sources) leads.items)) }
     {
+        let first = self.lead_count();
         let mut leads = Vec::new(alloc);
         for e in edges {
-            self.push_lead_into(alloc, to, e, &mut leads)?;
+            self.push_lead_into(alloc, to, e, first, &mut leads)?;
         }
         Ok(leads)
     }

@@ -56,7 +56,12 @@ impl WayGraph {
     {
         let source = self.source(e.from())?;
         let label = e.label().changed(alloc, change)?;
-        leads.push(Lead { source, label })?;
+        let number = leads.len();
+        leads.push(Lead {
+            source,
+            label,
+            number,
+        })?;
         Ok(())
     }
 

@@ -1,130 +1,184 @@
-// Whether the edges lie below those of a list. It takes no memory but tables on the stack.
-ghost use Rattle.std.specs.Prelude.{◌≡◌, ◌<◌, ◌↔◌, Some, length, slice_get, Contains, IsTrue};
+// Whether the edges lie below those of a list: one pass over the ways for each reference. It takes no memory but tables on the stack.
+ghost use Rattle.std.specs.Prelude.{◌≡◌, ℕ, Bool, ◌<◌, ◌≤◌, ◌↔◌, Some, false, length, slice_get, slice_index_or, IsTrue};
 ghost use Rattle.mv_edges.specs.Edges.{edges_leq};
-ghost use Rattle.mv_ways.specs.Going.{AllUnderAt, AreChildren, AreNotes, AreUnder, LeadsTo};
-ghost use Rattle.mv_ways.specs.Leads.{Lead as LeadRecord};
+ghost use Rattle.mv_ways.specs.Covered.{AreCovered};
+ghost use Rattle.mv_ways.specs.Drawn.{begun_open, drawn_edges, is_field, is_passed};
+ghost use Rattle.mv_ways.specs.Going.{AreLeading, IsReturned, original};
 ghost use Rattle.mv_ways.specs.Ways.{all_leads, are_earlier, edges_of, reference_edges};
 ghost use Rattle.mv_ways.specs.declared.ways.Way.{Way as WayRecord};
+ghost use Rattle.mv_ways.specs.declared.ways.under.leading.Mark.{Mark as MarkRecord};
 
-mod covering;
-mod leading;
-mod standing;
+mod covered;
+pub(crate) mod leading;
 
-use super::{Lead, MOST_WAYS, Reference, Way, WayGraph};
-use leading::{Link, Mark};
-use mv_edges::{Edges, Label};
-use standing::{Standing, standing_of};
+use super::drawing::drawn_from;
+use super::sinks::Under;
+use super::{FEW_WAYS, MOST_WAYS, Reference, Way, WayGraph};
+use covered::{Covered, MOST_COVERED};
+use leading::Mark;
+use mv_edges::Edges;
+use mv_move_types::Node;
 
-/// How many ways a small graph has at most.
-const FEW_WAYS: usize = 64;
+/// Whether a way is that of a field.
+fn is_field(way: &Way) -> bool
+    ensures { result ≡ is_field way.now }
+{
+    match way {
+        Way::Field { .. } => true,
+        Way::Stated(_) | Way::Lent { .. } | Way::Returned(_) => false,
+    }
+}
 
-/// A reference whose edges are asked for, what is noted of the ways that lead to it, and the others that are to be above its edges.
-#[derive(Clone, Copy)]
-struct Asked<'a> {
-    reference: Reference,
-    links: &'a [Link],
-    marks: &'a [Mark],
-    others: &'a Edges,
+/// The place behind the last way that is marked as given to a function.
+fn end_of_given(marks: &[Mark]) -> usize
+    ensures within { result ≤ length marks.now }
+    ensures none { (k : ℕ) (d : MarkRecord) → result ≤ k → k < length marks.now → (slice_index_or marks.now k d).is_returned ≡ false }
+{
+    let mut end = marks.len();
+    while end > 0 && !marks[end - 1].is_returned() {
+        end -= 1;
+    }
+    end
 }
 
 impl WayGraph {
-    /// Whether all edges are covered that come from a source by a label at a way that leads to the reference.
-    fn lead_is_under(&self, asked: &Asked<'_>, place: usize, source: usize, label: &Label) -> bool
-        requires inside { place < length self.now.ways }
-        requires notes { AreNotes self.now.ways asked.now.reference.way asked.now.links.now asked.now.marks.now }
-        requires leads { LeadsTo self.now.ways asked.now.reference.way place }
-        ensures { IsTrue result ↔ AreUnder self.now asked.now.reference asked.now.others.now place source label.now }
-    {
-        let Some(from) = self.source_at(source) else {
-            return true;
-        };
-        let others = asked.others.between(from, asked.reference.node());
-        match standing_of(others, label) {
-            Standing::Covered => true,
-            Standing::Lost => false,
-            Standing::Open(rest) => self.way_is_covered(asked, place, rest),
-        }
-    }
-
-    /// Whether all edges are covered that begin with what is stated of a way.
-    fn stated_are_under(&self, asked: &Asked<'_>, place: usize, leads: &[Lead]) -> bool
-        requires inside { place < length self.now.ways }
-        requires notes { AreNotes self.now.ways asked.now.reference.way asked.now.links.now asked.now.marks.now }
-        requires leads { LeadsTo self.now.ways asked.now.reference.way place }
-        ensures { IsTrue result ↔ ((l : LeadRecord) → Contains leads.now l → AreUnder self.now asked.now.reference asked.now.others.now place l.source l.label) }
-    {
-        for lead in leads {
-            if !self.lead_is_under(asked, place, lead.source(), lead.label()) {
-                return false;
-            }
-        }
-        true
-    }
-
-    /// Whether all edges are covered that begin at a way that leads to the reference.
-    fn way_is_under(&self, asked: &Asked<'_>, place: usize) -> bool
-        requires inside { place < length self.now.ways }
-        requires notes { AreNotes self.now.ways asked.now.reference.way asked.now.links.now asked.now.marks.now }
-        requires leads { LeadsTo self.now.ways asked.now.reference.way place }
-        ensures { (way : WayRecord) → slice_get self.now.ways place ≡ Some way
-            → (IsTrue result ↔ AllUnderAt self.now asked.now.reference asked.now.others.now place way) }
-    {
-        match &self.ways()[place] {
-            Way::Stated(leads) => self.stated_are_under(asked, place, leads),
-            Way::Lent { source, .. } => {
-                self.lead_is_under(asked, place, *source, &Label::itself())
-            }
-            Way::Field { .. } | Way::Returned(_) => true,
-        }
-    }
-
-    /// Whether all edges of the reference are covered.
-    fn reference_is_under(&self, asked: &Asked<'_>) -> bool
-        requires inside { asked.now.reference.way < length self.now.ways }
-        requires notes { AreNotes self.now.ways asked.now.reference.way asked.now.links.now asked.now.marks.now }
-        ensures { result ≡ edges_leq (reference_edges self.now.sources (all_leads self.now.ways) asked.now.reference) asked.now.others.now }
-    {
-        for place in 0..asked.reference.way() + 1 {
-            if asked.marks[place].leads() && !self.way_is_under(asked, place) {
-                return false;
-            }
-        }
-        true
-    }
-
-    /// Whether all edges of a reference are covered, with room for marks.
-    fn is_marked_under(
+    /// Whether what is drawn to a way leads to a node by edges below the others.
+    fn is_drawn_under(
         &self,
-        links: &[Link],
+        room: &mut [u8],
+        end: usize,
+        is_open: bool,
+        to: Node,
+        others: &Edges,
+    ) -> bool
+        requires inside { end < length self.now.ways }
+        requires room { end < length room.old }
+        ensures { result ≡ edges_leq (drawn_edges self.now to is_open end) others.now }
+    {
+        let mut under = Under::of(others);
+        let _more = self.tell_drawn(room, end, is_open, to, &mut under);
+        under.holds()
+    }
+
+    /// Whether what begins at a way, opened, leads to a node by edges below the others.
+    fn is_begun_under(&self, way: &Way, to: Node, others: &Edges) -> bool
+        ensures { result ≡ edges_leq (begun_open self.now to way.now) others.now }
+    {
+        let mut under = Under::of(others);
+        let _more = self.tell_begun(way, &[], true, to, &mut under);
+        under.holds()
+    }
+
+    /// Whether what is drawn to a way, opened, leads to a node by edges below the others. If that holds of a way, it holds of its
+    /// fields; and of its copies it holds if it holds of what they begin with.
+    fn is_way_passed(
+        &self,
+        covered: &mut [Covered],
+        passed: &[bool],
+        room: &mut [u8],
+        place: usize,
+        to: Node,
+        others: &Edges,
+    ) -> bool
+        requires inside { place < length self.now.ways }
+        requires passed { length passed.now ≡ length self.now.ways }
+        requires room { length room.old ≡ length self.now.ways }
+        requires before { (k : ℕ) (d : Bool) (way : WayRecord) → slice_get self.now.ways place ≡ Some way → original way ≡ Some k
+            → slice_index_or passed.now k d ≡ is_passed self.now to others.now k }
+        requires covered { AreCovered self.now to others.now covered.old }
+        ensures value { result ≡ is_passed self.now to others.now place }
+        ensures covered { AreCovered self.now to others.now covered.new }
+    {
+        let way = &self.ways()[place];
+        if let Way::Stated(leads) = way {
+            return self.are_leads_covered(covered, place, leads, to, others);
+        }
+        let Some(over) = drawn_from(way) else {
+            return self.is_begun_under(way, to, others);
+        };
+        if passed[over] {
+            return self.is_begun_under(way, to, others);
+        }
+        is_field(way) && self.is_chain_passed(covered, room, place, to, others)
+    }
+
+    /// Whether of each way that was given to a function, and leads to the reference's, what is drawn to it, opened, is below the others.
+    fn are_given_passed(
+        &self,
+        marks: &[Mark],
+        passed: &mut [bool],
+        room: &mut [u8],
+        reference: Reference,
+        others: &Edges,
+    ) -> bool
+        requires marks { length marks.now ≡ length self.now.ways }
+        requires passed { length passed.old ≡ length self.now.ways }
+        requires room { length room.old ≡ length self.now.ways }
+        requires earlier { IsTrue (are_earlier 0 self.now.ways) }
+        requires leading { AreLeading self.now.ways reference.way marks.now }
+        ensures { IsTrue result ↔ ((k : ℕ) → IsReturned self.now.ways reference.way 0 k → IsTrue (is_passed self.now reference.node others.now k)) }
+    {
+        let end = end_of_given(marks);
+        if end == 0 {
+            return true;
+        }
+        let _ways = self.ways();
+        let mut covered = [Covered::NOTHING; MOST_COVERED];
+        for place in 0..end {
+            if marks[place].leads() {
+                let it = self.is_way_passed(
+                    &mut covered,
+                    passed,
+                    room,
+                    place,
+                    reference.node(),
+                    others,
+                );
+                if marks[place].is_returned() && !it {
+                    return false;
+                }
+                passed[place] = it;
+            }
+        }
+        true
+    }
+
+    /// Whether each edge of a reference is below one of the others, with room for what is noted of each way.
+    fn is_reference_under(
+        &self,
         marks: &mut [Mark],
+        passed: &mut [bool],
+        room: &mut [u8],
         reference: Reference,
         others: &Edges,
     ) -> bool
         requires inside { reference.way < length self.now.ways }
+        requires marks { length marks.old ≡ length self.now.ways }
+        requires passed { length passed.old ≡ length self.now.ways }
+        requires room { length room.old ≡ length self.now.ways }
         requires earlier { IsTrue (are_earlier 0 self.now.ways) }
-        requires linked { length links.now ≡ length self.now.ways }
-        requires children { AreChildren self.now.ways links.now }
-        requires room { length marks.old ≡ length self.now.ways }
         ensures { result ≡ edges_leq (reference_edges self.now.sources (all_leads self.now.ways) reference) others.now }
     {
         self.mark(marks, reference.way());
-        self.reference_is_under(&Asked {
-            reference,
-            links,
-            marks,
-            others,
-        })
+        self.are_given_passed(marks, passed, room, reference, others)
+            && self.is_drawn_under(room, reference.way(), false, reference.node(), others)
     }
 
-    /// Whether each edge is below one of the others, with room for links and marks of all ways.
-    fn are_under(&self, links: &mut [Link], marks: &mut [Mark], others: &Edges) -> bool
-        requires links { length links.old ≡ length self.now.ways }
+    /// Whether each edge is below one of the others, with room for what is noted of each way.
+    fn are_under(
+        &self,
+        marks: &mut [Mark],
+        passed: &mut [bool],
+        room: &mut [u8],
+        others: &Edges,
+    ) -> bool
         requires marks { length marks.old ≡ length self.now.ways }
+        requires passed { length passed.old ≡ length self.now.ways }
+        requires room { length room.old ≡ length self.now.ways }
         ensures { result ≡ edges_leq (edges_of self.now) others.now }
     {
-        self.link(links);
         for reference in self.references() {
-            if !self.is_marked_under(links, marks, *reference, others) {
+            if !self.is_reference_under(marks, passed, room, *reference, others) {
                 return false;
             }
         }
@@ -137,9 +191,15 @@ impl WayGraph {
         ensures { result ≡ edges_leq (edges_of self.now) others.now }
     {
         let count = self.ways().len();
-        let mut links = [Link::NOWHERE; MOST_WAYS];
         let mut marks = [Mark::NOTHING; MOST_WAYS];
-        self.are_under(&mut links[..count], &mut marks[..count], others)
+        let mut passed = [false; MOST_WAYS];
+        let mut room = [0; MOST_WAYS];
+        self.are_under(
+            &mut marks[..count],
+            &mut passed[..count],
+            &mut room[..count],
+            others,
+        )
     }
 
     /// Whether each edge is below one of the others. It takes no memory of its own but tables on the stack.
@@ -150,8 +210,14 @@ impl WayGraph {
         if count > FEW_WAYS {
             return self.are_many_under(others);
         }
-        let mut links = [Link::NOWHERE; FEW_WAYS];
         let mut marks = [Mark::NOTHING; FEW_WAYS];
-        self.are_under(&mut links[..count], &mut marks[..count], others)
+        let mut passed = [false; FEW_WAYS];
+        let mut room = [0; FEW_WAYS];
+        self.are_under(
+            &mut marks[..count],
+            &mut passed[..count],
+            &mut room[..count],
+            others,
+        )
     }
 }

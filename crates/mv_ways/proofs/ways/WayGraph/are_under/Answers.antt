@@ -5,8 +5,8 @@ use Rattle.mv_ways.specs.Ways.{all_leads, reference_edges}
 use Rattle.mv_ways.proofs.WayGraph.Under.{leq_each_of}
 use Rattle.mv_ways.proofs.ways.WayGraph.are_under.Goals as goal
 
-pub returns-then-not-is_marked_under : goal.returns-then-not-is_marked_under
-returns-then-not-is_marked_under c =
+pub returns-then-not-is_reference_under : goal.returns-then-not-is_reference_under
+returns-then-not-is_reference_under c =
     let g = c.args.self.now in
     let others = c.args.others.now in
     let i = c.loop-reference.reference-index in
@@ -15,7 +15,7 @@ returns-then-not-is_marked_under c =
     let long = ap length same in
     let test = c.loop-reference-test.true in
     let inside : i < length g.references = omega (arith, long, test) in
-    let fails : edges_leq (reference_edges g.sources (all_leads g.ways) (get_or c.references-reference-items.result.now i d)) others ≡ false = sym c.is_marked_under.ensures ∙ c.if-not-is_marked_under.true in
+    let fails : edges_leq (reference_edges g.sources (all_leads g.ways) (get_or c.references-reference-items.result.now i d)) others ≡ false = sym c.is_reference_under.ensures ∙ c.if-not-is_reference_under.true in
     sym (leq_each_of (reference_edges g.sources (all_leads g.ways)) others g.references
     ∙ list_all_at (λ r. edges_leq (reference_edges g.sources (all_leads g.ways) r) others) g.references i d inside
     (subst (λ rs. edges_leq (reference_edges g.sources (all_leads g.ways) (get_or rs i d)) others ≡ false) same fails))

@@ -1,14 +1,12 @@
 use Rattle.mv_edges.proofs.Common.{◌≡◌, edges_leq, length, list_all, take, true}
-use Rattle.mv_ways.specs.Going.{AreChildren}
 use Rattle.mv_ways.specs.Ways.{all_leads, are_earlier, reference_edges}
 use Rattle.mv_ways.proofs.ways.WayGraph.are_under.Given as goal
 
 -- the edges of the first references are below the others
 abbrev pub invariant-loop-reference : goal.invariant-loop-reference
 invariant-loop-reference l = record {
-  linked : length l.links ≡ length l.self.ways;
-  marked : length l.marks ≡ length l.self.ways;
-  earlier : are_earlier 0 l.self.ways ≡ true;
-  children : AreChildren l.self.ways l.links;
+  marks : length l.marks ≡ length l.self.ways;
+  passed : length l.passed ≡ length l.self.ways;
+  room : length l.room ≡ length l.self.ways;
   under : list_all (λ r. edges_leq (reference_edges l.self.sources (all_leads l.self.ways) r) l.others) (take l.reference-index l.self.references) ≡ true;
 }

@@ -1,0 +1,41 @@
+use Rattle.mv_edges.proofs.Common.{◌≡◌, ◌&&◌, ◌<◌, ◌+◌, ◌∙◌, ◌∷◌, [], Some, ap, append-nil, arith, edges_leq, flat_map, get_or, length, slice_get, slice_get-get_or, sym, take, true}
+use Rattle.std.proofs.Math.Bool.{and-true}
+use Rattle.mv_ways.specs.Behind.{led_edges, tail_edges}
+use Rattle.mv_ways.specs.Covered.{open_tail}
+use Rattle.mv_ways.specs.Ways.{a_lead}
+use Rattle.mv_ways.proofs.WayGraph.Covered.{all_and_not, lead_covered, leads_more, noted_more}
+use Rattle.mv_ways.proofs.ways.WayGraph.are_leads_covered.Goals as goal
+use Rattle.mv_ways.proofs.ways.WayGraph.are_leads_covered.Goals.{then-is_lead_under, else-is_lead_under}
+
+pub loop-index-preserved : goal.loop-index-preserved
+loop-index-preserved c =
+    let g = c.args.self.now in
+    let to = c.args.to in
+    let others = c.args.others.now in
+    let leads = c.args.leads.now in
+    let i = c.loop-index.index in
+    let all = c.loop-index.all in
+    let d = c.index-leads-index.result in
+    let f = led_edges g.sources to (open_tail [] ∷ []) in
+    let test = c.loop-index-test.true in
+    let inside : i < length leads = omega (arith, test) in
+    let lead : a_lead c.source.result c.label.result.now ≡ d = λ k. a_lead (c.source.ensures k) (c.label.ensures k) in
+    let there : slice_get leads i ≡ Some d = slice_get-get_or leads i d inside ∙ ap Some (sym c.index-leads-index.is) in
+    let own : edges_leq (tail_edges g.sources to d (open_tail [])) others ≡ c.is_lead_under.result = sym (c.is_lead_under.ensures ∙ ap (λ l. edges_leq (tail_edges g.sources to l (open_tail [])) others) lead) in
+    let one : edges_leq (f d) others ≡ c.is_lead_under.result = ap (λ es. edges_leq es others) (append-nil (tail_edges g.sources to d (open_tail []))) ∙ own in
+    let more : edges_leq (flat_map f (take (i + 1) leads)) others ≡ (all && c.is_lead_under.result) =
+    leads_more f others leads i d inside ∙ ap (λ b. b && edges_leq (f (get_or leads i d)) others) (sym c.loop-index.invariant.all)
+    ∙ ap (λ x. all && edges_leq (f x) others) (sym c.index-leads-index.is) ∙ ap (λ b. all && b) one in
+    elim c.if-is_lead_under.branch [
+      | then-is_lead_under w ↦
+          let long : length w.note.new.covered ≡ length c.loop-index.covered = omega (arith, w.note.auto.covered) in
+          record {
+            covered = rw w.covered-is (noted_more g to others c.loop-index.covered w.note.new.covered c.args.place i long w.note.ensures
+                (lead_covered g to others c.args.place i leads d c.requires.there there (own ∙ w.if-is_lead_under.true)) c.loop-index.invariant.covered);
+            all = w.all-is ∙ sym (more ∙ ap (λ b. all && b) w.if-is_lead_under.true ∙ and-true all);
+          }
+      | else-is_lead_under w ↦ record {
+        covered = rw w.covered-is c.loop-index.invariant.covered;
+        all = w.all-is ∙ sym (more ∙ all_and_not all c.is_lead_under.result w.if-is_lead_under.false);
+      }
+    ]

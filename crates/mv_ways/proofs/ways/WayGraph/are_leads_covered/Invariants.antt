@@ -1,0 +1,10 @@
+use Rattle.mv_edges.proofs.Common.{◌≡◌, ◌∷◌, [], edges_leq, flat_map, length, take}
+use Rattle.mv_ways.specs.Behind.{led_edges}
+use Rattle.mv_ways.specs.Covered.{AreCovered, open_tail}
+use Rattle.mv_ways.proofs.ways.WayGraph.are_leads_covered.Given as goal
+
+abbrev pub invariant-loop-index : goal.invariant-loop-index
+invariant-loop-index l = record {
+  covered : AreCovered l.self l.to l.others l.covered;
+  all : l.all ≡ edges_leq (flat_map (led_edges l.self.sources l.to (open_tail [] ∷ [])) (take l.index l.leads)) l.others;
+}

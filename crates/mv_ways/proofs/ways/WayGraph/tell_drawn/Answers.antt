@@ -1,0 +1,79 @@
+use Rattle.mv_edges.proofs.Common.{◌≡◌, ◌++◌, ◌∷◌, ◌∙◌, ◌<◌, [], ◌+◌, arith, ap, sym, drop, get_or, length, subst, sorted, option_map_or, refl, Edge, Some, ℕ, Option}
+use Rattle.std.specs.Prelude.{IfSome}
+use Rattle.mv_ways.specs.Behind.{a_tail, begun_edges, edges_with}
+use Rattle.mv_ways.specs.Drawn.{all_drawn, path_before}
+use Rattle.mv_ways.specs.Going.{original}
+use Rattle.mv_ways.specs.Ways.{leads_at}
+use Rattle.mv_ways.proofs.WayGraph.Drawn.{drawn_all, drawn_on, original_below, some_smaller, some_weaker, tail_before, tail_path}
+use Rattle.mv_ways.proofs.WayGraph.Noted.{goes_below_at, way_at}
+use Rattle.mv_ways.proofs.ways.WayGraph.tell_drawn.Goals as goal
+
+pub returns-then-not-tell_begun : goal.returns-then-not-tell_begun
+returns-then-not-tell_begun g c = λ fs.
+    let it = c.args.self.now in
+    let place = c.in-Some.place in
+    let way = c.index-ways-place.result in
+    let drawing = c.loop-next.invariant.1.1 in
+    let before = rw c.in-Some.is at drawing.inside in
+    let same = rw c.in-Some.is at drawing.same in
+    let at = c.index-ways-place.is ∙ ap (λ ws. get_or ws place way) c.ways.ensures.value in
+    let t = a_tail (record { path = drop c.loop-next.at c.loop-next.room; is_open = c.args.is_open }) in
+    let begun = begun_edges it.sources c.args.to way (t ∷ []) in
+    let rest = option_map_or (λ k. edges_with it.sources c.args.to (leads_at (all_drawn it.ways) k) (tail_before way t ∷ [])) (original way) [] in
+    let all = edges_with it.sources c.args.to (leads_at (all_drawn it.ways) c.args.end) (a_tail (record { path = []; is_open = c.args.is_open }) ∷ []) in
+    let on = drawn_on it.sources c.args.to it.ways place way t drawing.told all c.ways.ensures.earlier (way_at it.ways place way before at) same in
+    let stop = rw c.from_on.ensures at (rw c.if-not-tell_begun.true at c.tell_begun.ensures) in
+    g.met.S.Sink.alike c.args.sink.now c.tell_begun.new.sink (drawing.told ++ (begun ++ (rest ++ fs))) (all ++ fs) (drawn_all drawing.told begun rest all fs on)
+    (g.met.S.Sink.joined c.args.sink.now c.loop-next.sink c.tell_begun.new.sink drawing.told (begun ++ (rest ++ fs)) drawing.is_told (stop (rest ++ fs)))
+
+pub loop-next-smaller : goal.loop-next-smaller
+loop-next-smaller g c =
+    let ways = c.args.self.now.ways in
+    let place = c.in-Some.place in
+    let way = c.index-ways-place.result in
+    let before = rw c.in-Some.is at c.loop-next.invariant.1.1.inside in
+    let at = c.index-ways-place.is ∙ ap (λ ws. get_or ws place way) c.ways.ensures.value in
+    let below = original_below place way (goes_below_at ways place way c.ways.ensures.earlier before at) in
+    rw c.drawn_from-next.ensures (rw c.in-Some.is (some_smaller (original way) place below))
+
+pub loop-next-preserved : goal.loop-next-preserved
+loop-next-preserved g c =
+    let it = c.args.self.now in
+    let place = c.in-Some.place in
+    let way = c.index-ways-place.result in
+    let inv = c.loop-next.invariant in
+    let drawing = inv.1.1 in
+    let before = rw c.in-Some.is at drawing.inside in
+    let room = rw c.in-Some.is at drawing.room in
+    let same = rw c.in-Some.is at drawing.same in
+    let at = c.index-ways-place.is ∙ ap (λ ws. get_or ws place way) c.ways.ensures.value in
+    let below = original_below place way (goes_below_at it.ways place way c.ways.ensures.earlier before at) in
+    let path = drop c.loop-next.at c.loop-next.room in
+    let t = a_tail (record { path = path; is_open = c.args.is_open }) in
+    let begun = begun_edges it.sources c.args.to way (t ∷ []) in
+    let all = edges_with it.sources c.args.to (leads_at (all_drawn it.ways) c.args.end) (a_tail (record { path = []; is_open = c.args.is_open }) ∷ []) in
+    let on = drawn_on it.sources c.args.to it.ways place way t drawing.told all c.ways.ensures.earlier (way_at it.ways place way before at) same in
+    let told = rw c.from_on.ensures at (rw c.if-not-tell_begun.false at c.tell_begun.ensures) in
+    let put = c.put_before-at.ensures in
+    let next = c.drawn_from-next.ensures in
+    let behind : tail_before way t ≡ a_tail (record { path = drop c.put_before-at.result c.put_before-at.new.room; is_open = c.args.is_open }) =
+    tail_path way path c.args.is_open ∙ ap (λ p. a_tail (record { path = p; is_open = c.args.is_open })) (sym put.path) in
+    let low = inv.0 in
+    let count = inv.1.0 in
+    let more = put.count in
+    let within = put.within in
+    let one = put.one in (
+      omega (arith, low, more, within),
+      (
+        omega (arith, count, more),
+        record {
+          told = drawing.told ++ begun;
+          is_told = g.met.S.Sink.joined c.args.sink.now c.loop-next.sink c.tell_begun.new.sink drawing.told begun drawing.is_told told;
+          same = ap (λ n. sorted ((drawing.told ++ begun) ++ option_map_or (λ k. edges_with it.sources c.args.to (leads_at (all_drawn it.ways) k) (a_tail (record { path = drop c.put_before-at.result c.put_before-at.new.room; is_open = c.args.is_open }) ∷ [])) n [])) next
+              ∙ ap (λ u. sorted ((drawing.told ++ begun) ++ option_map_or (λ k. edges_with it.sources c.args.to (leads_at (all_drawn it.ways) k) (u ∷ [])) (original way) [])) (sym behind)
+              ∙ on;
+          inside = subst (λ n. IfSome n (λ k. k < length it.ways)) (sym next) (some_weaker (original way) (λ k. k < place) (λ k. k < length it.ways) (λ k h. omega (arith, h, before)) below);
+          room = subst (λ n. IfSome n (λ k. k < c.put_before-at.result)) (sym next) (some_weaker (original way) (λ k. k < place) (λ k. k < c.put_before-at.result) (λ k h. omega (arith, h, room, within, one)) below);
+        },
+      ),
+    )

@@ -1,0 +1,27 @@
+-- What sinks keep: no edges change nothing, edges are told one after the other, and their order doesn't matter.
+use Rattle.std.proofs.Common.{◌≡◌, ◌∙◌, sym, ap, refl, Bool, true, false, ◌&&◌, List, [], ◌++◌}
+use Rattle.std.specs.List.{list_all, list_any}
+use Rattle.mv_edges.proofs.Common.{list_all-append}
+use Rattle.mv_edges.proofs.Settled.{leq-sorted}
+use Rattle.mv_edges.specs.Edges.{Edge, edge_leq, edges_leq}
+use Rattle.mv_edges.specs.Sorted.{sorted}
+
+pub under_none : (holds : Bool) → holds ≡ (holds && true)
+under_none true = refl
+under_none false = refl
+
+-- edges of two lists
+pub leq_append : (es fs others : List Edge) → edges_leq (es ++ fs) others ≡ (edges_leq es others && edges_leq fs others)
+leq_append es fs others = list_all-append (λ e. list_any (edge_leq e) others) es fs
+
+and_assoc : (a b c : Bool) → ((a && b) && c) ≡ (a && (b && c))
+and_assoc true b c = refl
+and_assoc false b c = refl
+
+pub under_joined : (r s t : Bool) (others its : List Edge) (es fs : List Edge) → its ≡ others → s ≡ (r && edges_leq es others) → t ≡ (s && edges_leq fs its) → t ≡ (r && edges_leq (es ++ fs) others)
+under_joined r s t others its es fs same first second =
+    second ∙ ap (λ b. b && edges_leq fs its) first ∙ and_assoc r (edges_leq es others) (edges_leq fs its)
+    ∙ ap (λ us. r && (edges_leq es others && edges_leq fs us)) same ∙ ap (λ b. r && b) (sym (leq_append es fs others))
+
+pub under_alike : (holds : Bool) (others es fs : List Edge) → sorted es ≡ sorted fs → (holds && edges_leq es others) ≡ (holds && edges_leq fs others)
+under_alike holds others es fs same = ap (λ b. holds && b) (sym (leq-sorted es others) ∙ ap (λ xs. edges_leq xs others) same ∙ leq-sorted fs others)
