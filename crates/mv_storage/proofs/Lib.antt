@@ -1,5 +1,6 @@
 pub mod Common
 pub mod Keys
+pub mod KnownLemmas
 pub mod Maps
 pub mod PlaceLemmas
 pub mod SlotReads

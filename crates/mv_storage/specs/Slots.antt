@@ -143,10 +143,17 @@ abbrev pub ArePlaced : BTreeMap Key ℕ → List (Key × ℕ) → Type 0
 ArePlaced tree [] = Unit {0}
 ArePlaced tree (t ∷ ts) = (get key_cmp tree t.0 ≡ Some t.1) × ArePlaced tree ts
 
--- a key that is remembered with a place has that place
-abbrev pub IsRemembered : BTreeMap Key ℕ → Option (Key × ℕ) → Type 0
-IsRemembered tree None = Unit {0}
-IsRemembered tree (Some t) = get key_cmp tree t.0 ≡ Some t.1
+-- each key that is remembered with a place has that place
+abbrev pub IsRemembered : BTreeMap Key ℕ → List (Option (Key × ℕ)) → Type 0
+IsRemembered tree lines = (i : ℕ) (t : Key × ℕ) → slice_get lines i ≡ Some (Some t) → get key_cmp tree t.0 ≡ Some t.1
+
+-- no key is remembered
+abbrev pub IsForgotten : List (Option (Key × ℕ)) → Type 0
+IsForgotten lines = (tree : BTreeMap Key ℕ) → IsRemembered tree lines
+
+-- a key's place is remembered, and nothing else but what was
+abbrev pub IsNotedDown : Key → ℕ → List (Option (Key × ℕ)) → List (Option (Key × ℕ)) → Type 0
+IsNotedDown key place old new = (tree : BTreeMap Key ℕ) → get key_cmp tree key ≡ Some place → IsRemembered tree old → IsRemembered tree new
 
 -- a key has this place, or none by now, and the place is free
 abbrev pub IsSettling : Places → Key → ℕ → Type 0

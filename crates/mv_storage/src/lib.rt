@@ -26,6 +26,7 @@
 #![tactic(auto)]
 
 mod entries;
+mod known;
 mod overlay;
 mod places;
 mod slot;

@@ -52,6 +52,20 @@ impl Overlay<'_> {
         self.storage.allocator()
     }
 
+    /// Takes out the memory that is kept for the words of a run: a list, of which the contents mean nothing. Nothing else changes.
+    pub fn take_room(&mut self) -> Vec<u128>
+        ensures same { self.new ≡ self.old }
+    {
+        self.storage.take_room()
+    }
+
+    /// Keeps memory for the words of the next run, if it is at most 64 MiB. Nothing else changes.
+    pub fn keep_room(&mut self, room: Vec<u128>)
+        ensures same { self.new ≡ self.old }
+    {
+        self.storage.keep_room(room)
+    }
+
     /// Whether the run sees a value under a key. The overlay remembers where it is, so that the next call with this key needs no
     /// search. Nothing else changes.
     #[inline(always)]

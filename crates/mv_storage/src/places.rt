@@ -1,6 +1,6 @@
 // Slots in a list, and the place that each key's slot has there. A place that is free holds the next free one, so that
 // taking a key out takes no memory.
-ghost use Rattle.std.specs.Prelude.{◌≡◌, ◌<◌, ◌↔◌, ◌∷◌, ◌++◌, [], IsTrue, length, None, Some, Ok, MatchOption, IfOk, OnErr, cond, is_some, unwrap_or, option_copied, slice_set};
+ghost use Rattle.std.specs.Prelude.{◌≡◌, ◌<◌, ◌↔◌, ◌∷◌, ◌++◌, [], IsTrue, length, None, Some, Ok, IfOk, OnErr, cond, is_some, unwrap_or, option_copied, slice_set};
 ghost use Rattle.std.specs.BTreeMap.{get, IsOrdered};
 ghost use Rattle.mv_move_types.specs.declared.tables.Key.{Key};
 ghost use Rattle.mv_machine.specs.State.{same_key};
@@ -11,6 +11,7 @@ ghost use Rattle.mv_storage.specs.Lending.{LendsAt};
 ghost use Rattle.mv_storage.specs.declared.slot.Slot.{Slot};
 ghost use Rattle.mv_storage.specs.declared.slot.Layer.TheVariants.{Current};
 
+use crate::known::Known;
 use crate::slot::Slot;
 use mv_move_types::Key;
 use std::alloc::{AllocError, Global};
@@ -67,11 +68,11 @@ impl Places {
 
     // The slot under a key, of which the place may be remembered.
     #[inline]
-    pub(crate) fn find_known(&self, last: &Option<(Key, usize)>, key: &Key) -> Option<&Slot>
-        requires { IsRemembered self.now.tree last.now }
+    pub(crate) fn find_known(&self, known: &Known, key: &Key) -> Option<&Slot>
+        requires { IsRemembered self.now.tree known.now.lines }
         ensures { option_copied result ≡ slot_at self.now key.now }
     {
-        match recalled(last, key) {
+        match known.recalled(&self.tree, key) {
             Some(place) => self.slots.get(place),
             None => self.find(key),
         }
@@ -79,29 +80,23 @@ impl Places {
 
     // The place of a key's slot, which is remembered from then on.
     #[inline(always)]
-    pub(crate) fn recall(&self, last: &mut Option<(Key, usize)>, key: &Key) -> Option<usize>
-        requires { IsRemembered self.now.tree last.old }
-        ensures remembered { IsRemembered self.now.tree last.new }
+    pub(crate) fn recall(&self, known: &mut Known, key: &Key) -> Option<usize>
+        requires { IsRemembered self.now.tree known.old.lines }
+        ensures remembered { IsRemembered self.now.tree known.new.lines }
         ensures place { result ≡ get key_cmp self.now.tree key.now }
     {
-        match recalled(last, key) {
+        match known.recalled(&self.tree, key) {
             Some(place) => Some(place),
-            None => self.search(last, key.address, key.place, key.index),
+            None => self.search(known, key.address, key.place, key.index),
         }
     }
 
     // The same by a search. The key is passed in its parts, since a whole one would be spilled to memory on the common path.
     #[cold]
     #[inline(never)]
-    fn search(
-        &self,
-        last: &mut Option<(Key, usize)>,
-        address: u128,
-        place: u16,
-        index: u16,
-    ) -> Option<usize>
-        requires { IsRemembered self.now.tree last.old }
-        ensures remembered { IsRemembered self.now.tree last.new }
+    fn search(&self, known: &mut Known, address: u128, place: u16, index: u16) -> Option<usize>
+        requires { IsRemembered self.now.tree known.old.lines }
+        ensures remembered { IsRemembered self.now.tree known.new.lines }
         ensures place { result ≡ get key_cmp self.now.tree (record { address = address; place = place; index = index }) }
     {
         let key = Key {
@@ -110,7 +105,7 @@ impl Places {
             index,
         };
         let found = self.place(&key)?;
-        *last = Some((key, found));
+        known.note(key, found);
         Some(found)
     }
 
@@ -190,20 +185,6 @@ impl Places {
         self.slots[place] = Slot::Vacant(self.free);
         self.free = place;
     }
-}
-
-// The place that is remembered, if it is this key's.
-#[inline(always)]
-pub(crate) fn recalled(last: &Option<(Key, usize)>, key: &Key) -> Option<usize>
-    ensures { MatchOption result (Unit {0}) (λ place. last.now ≡ Some (key.now, place)) }
-{
-    let Some((known, place)) = last else {
-        return None;
-    };
-    if known.address == key.address && known.place == key.place && known.index == key.index {
-        return Some(*place);
-    }
-    None
 }
 
 // Gives a key a place if it has none, and tells the one that it had. It fails only where memory runs out, and nothing

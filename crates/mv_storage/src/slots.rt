@@ -1,5 +1,5 @@
-// What a run does to the slots of keys, and the keys of those that it has changed, each with its place. The key that was
-// looked up last is remembered with its place, so that no search is needed as long as it is the same key.
+// What a run does to the slots of keys, and the keys of those that it has changed, each with its place. The keys that were
+// looked up last are remembered with their places, so that no search is needed as long as few of them take turns.
 ghost use Rattle.std.specs.Prelude.{◌≡◌, ℕ, None, Some, IfOk, OnOk, OnErr, false, true, cond, not, is_some, option_and_then};
 ghost use Rattle.std.specs.List.{list_any};
 ghost use Rattle.std.specs.BTreeMap.{BTreeMap, get};
@@ -12,7 +12,8 @@ ghost use Rattle.mv_storage.specs.declared.slot.Layer.{Layer};
 ghost use Rattle.mv_storage.specs.declared.slot.Layer.TheVariants.{Committed, Current};
 
 use crate::Value;
-use crate::places::{Places, enter_noted, recalled};
+use crate::known::Known;
+use crate::places::{Places, enter_noted};
 use crate::slot::{Layer, Slot};
 use mv_move_types::Key;
 use std::alloc::{AllocError, Global};
@@ -58,20 +59,20 @@ fn note_any(
 pub(crate) fn take_from(
     places: &mut Places,
     touched: &mut Vec<(Key, usize)>,
-    last: &mut Option<(Key, usize)>,
+    known: &mut Known,
     key: &Key,
     alloc: Global,
 ) -> Result<Option<Value>, AllocError>
     requires tracked { IsTracked places.old touched.old.items }
-    requires remembered { IsRemembered places.old.tree last.old }
+    requires remembered { IsRemembered places.old.tree known.old.lines }
     ensures tracked { IsTracked places.new touched.new.items }
-    ensures remembered { IsRemembered places.new.tree last.new }
+    ensures remembered { IsRemembered places.new.tree known.new.lines }
     ensures value { IfOk result (λ v. v ≡ value_at Current places.old key.now) }
     ensures current { OnOk result (ShowsAt Current key.now None places.old places.new) }
     ensures committed { ShowsSame Committed places.old places.new }
     ensures err { OnErr result (ShowsSame Current places.old places.new) }
 {
-    let Some(place) = places.recall(last, key) else {
+    let Some(place) = places.recall(known, key) else {
         return Ok(None);
     };
     note(&places.slots[place], touched, key, place)?;
@@ -83,22 +84,22 @@ pub(crate) fn take_from(
 pub(crate) fn edit_in(
     places: &mut Places,
     touched: &mut Vec<(Key, usize)>,
-    last: &mut Option<(Key, usize)>,
+    known: &mut Known,
     key: &Key,
     from: usize,
     new: &[u128],
     alloc: Global,
 ) -> Result<bool, AllocError>
     requires tracked { IsTracked places.old touched.old.items }
-    requires remembered { IsRemembered places.old.tree last.old }
+    requires remembered { IsRemembered places.old.tree known.old.lines }
     ensures tracked { IsTracked places.new touched.new.items }
-    ensures remembered { IsRemembered places.new.tree last.new }
+    ensures remembered { IsRemembered places.new.tree known.new.lines }
     ensures done { IfOk result (λ done. done ≡ is_some (option_and_then (spliced from new.now) (value_at Current places.old key.now))) }
     ensures current { OnOk result (ShowsAt Current key.now (edited from new.now (value_at Current places.old key.now)) places.old places.new) }
     ensures committed { ShowsSame Committed places.old places.new }
     ensures err { OnErr result (ShowsSame Current places.old places.new) }
 {
-    if let Some(place) = recalled(last, key) {
+    if let Some(place) = known.recalled(&places.tree, key) {
         if places.slots[place].has_versions() {
             return places.slots[place].edit(from, new, alloc);
         }
@@ -106,7 +107,7 @@ pub(crate) fn edit_in(
     edit_any(
         places,
         touched,
-        last,
+        known,
         key.address,
         key.place,
         key.index,
@@ -123,7 +124,7 @@ pub(crate) fn edit_in(
 fn edit_any(
     places: &mut Places,
     touched: &mut Vec<(Key, usize)>,
-    last: &mut Option<(Key, usize)>,
+    known: &mut Known,
     address: u128,
     place: u16,
     index: u16,
@@ -132,9 +133,9 @@ fn edit_any(
     alloc: Global,
 ) -> Result<bool, AllocError>
     requires tracked { IsTracked places.old touched.old.items }
-    requires remembered { IsRemembered places.old.tree last.old }
+    requires remembered { IsRemembered places.old.tree known.old.lines }
     ensures tracked { IsTracked places.new touched.new.items }
-    ensures remembered { IsRemembered places.new.tree last.new }
+    ensures remembered { IsRemembered places.new.tree known.new.lines }
     ensures done { IfOk result (λ done. done ≡ is_some (option_and_then (spliced from new.now) (value_at Current places.old (record { address = address; place = place; index = index })))) }
     ensures current { OnOk result (ShowsAt Current (record { address = address; place = place; index = index }) (edited from new.now (value_at Current places.old (record { address = address; place = place; index = index }))) places.old places.new) }
     ensures committed { ShowsSame Committed places.old places.new }
@@ -145,7 +146,7 @@ fn edit_any(
         place,
         index,
     };
-    let Some(at) = places.recall(last, &key) else {
+    let Some(at) = places.recall(known, &key) else {
         return Ok(false);
     };
     note(&places.slots[at], touched, &key, at)?;
@@ -156,19 +157,19 @@ fn edit_any(
 pub(crate) fn own_in(
     places: &mut Places,
     touched: &mut Vec<(Key, usize)>,
-    last: &mut Option<(Key, usize)>,
+    known: &mut Known,
     key: &Key,
     alloc: Global,
 ) -> Result<Option<usize>, AllocError>
     requires tracked { IsTracked places.old touched.old.items }
-    requires remembered { IsRemembered places.old.tree last.old }
+    requires remembered { IsRemembered places.old.tree known.old.lines }
     ensures tracked { IsTracked places.new touched.new.items }
-    ensures remembered { IsRemembered places.new.tree last.new }
+    ensures remembered { IsRemembered places.new.tree known.new.lines }
     ensures same { (layer : Layer) → ShowsSame layer places.old places.new }
     ensures none { IfOk result (λ found. is_some found ≡ is_some (value_at Current places.old key.now)) }
     ensures own { IfOk result (λ found. IfSome found (IsOwnAt places.new key.now)) }
 {
-    let Some(place) = places.recall(last, key) else {
+    let Some(place) = places.recall(known, key) else {
         return Ok(None);
     };
     note(&places.slots[place], touched, key, place)?;
@@ -180,23 +181,23 @@ pub(crate) fn own_in(
 pub(crate) fn put_into(
     places: &mut Places,
     touched: &mut Vec<(Key, usize)>,
-    last: &mut Option<(Key, usize)>,
+    known: &mut Known,
     key: Key,
     value: Value,
 ) -> Result<bool, AllocError>
     requires tracked { IsTracked places.old touched.old.items }
-    requires remembered { IsRemembered places.old.tree last.old }
+    requires remembered { IsRemembered places.old.tree known.old.lines }
     ensures tracked { IsTracked places.new touched.new.items }
-    ensures remembered { IsRemembered places.new.tree last.new }
+    ensures remembered { IsRemembered places.new.tree known.new.lines }
     ensures done { IfOk result (λ done. done ≡ not (is_some (value_at Current places.old key))) }
     ensures current { IfOk result (λ done. ShowsAt Current key (cond done (Some value) (value_at Current places.old key)) places.old places.new) }
     ensures committed { ShowsSame Committed places.old places.new }
     ensures err { OnErr result (ShowsSame Current places.old places.new) }
 {
-    if let Some(place) = recalled(last, &key) {
+    if let Some(place) = known.recalled(&places.tree, &key) {
         return Ok(places.slots[place].put(value));
     }
-    put_new(places, touched, last, key, value)
+    put_new(places, touched, known, key, value)
 }
 
 // The same for a key that isn't remembered. All that may fail is done first.
@@ -204,14 +205,14 @@ pub(crate) fn put_into(
 fn put_new(
     places: &mut Places,
     touched: &mut Vec<(Key, usize)>,
-    last: &mut Option<(Key, usize)>,
+    known: &mut Known,
     key: Key,
     value: Value,
 ) -> Result<bool, AllocError>
     requires tracked { IsTracked places.old touched.old.items }
-    requires remembered { IsRemembered places.old.tree last.old }
+    requires remembered { IsRemembered places.old.tree known.old.lines }
     ensures tracked { IsTracked places.new touched.new.items }
-    ensures remembered { IsRemembered places.new.tree last.new }
+    ensures remembered { IsRemembered places.new.tree known.new.lines }
     ensures done { IfOk result (λ done. done ≡ not (is_some (value_at Current places.old key))) }
     ensures current { IfOk result (λ done. ShowsAt Current key (cond done (Some value) (value_at Current places.old key)) places.old places.new) }
     ensures committed { ShowsSame Committed places.old places.new }
@@ -223,11 +224,11 @@ fn put_new(
     match had {
         None => {
             places.fill(fresh, Slot::added(value));
-            *last = Some((key, fresh));
+            known.note(key, fresh);
             Ok(true)
         }
         Some(place) => {
-            *last = Some((key, place));
+            known.note(key, place);
             Ok(places.slots[place].put(value))
         }
     }

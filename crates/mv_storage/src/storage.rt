@@ -8,6 +8,7 @@ ghost use Rattle.std.specs.Prelude.{ℕ, true, false, nat_lt, Some, Ok};
 ghost use Rattle.std.specs.Borrow.{sem};
 ghost use Rattle.mv_storage.specs.Lending.{LendsIn};
 
+use crate::known::Known;
 use crate::places::Places;
 use crate::slot::Layer;
 use crate::slots::{edit_in, own_in, put_into, settle, take_from};
@@ -15,6 +16,10 @@ use crate::{Entries, Overlay, Value};
 use mv_move_types::Key;
 use std::alloc::{AllocError, Global};
 use std::marker::Model;
+use std::mem::replace;
+
+// So many words are kept for the next run at most (64 MiB), which is what a run's locals take at most.
+const MOST_KEPT: usize = 0x40_0000;
 
 /// Values, each under its key. A contract sees those that are committed, and what the run at work has made of them by now:
 /// each is the list of entries by ascending key, every value as its words.
@@ -22,8 +27,10 @@ use std::marker::Model;
 pub struct Storage {
     places: Places,
     touched: Vec<(Key, usize)>,
-    // the key that was looked up last, and its place
-    last: Option<(Key, usize)>,
+    // the keys that were looked up last, and their places
+    known: Known,
+    // memory for the words of the next run; what it holds means nothing
+    room: Vec<u128>,
     alloc: Global,
 }
 
@@ -36,7 +43,7 @@ impl Model for Storage {
 
     ghost view = { λ s. layers s.places };
 
-    ghost invariant = { λ s. IsTracked s.places s.touched.items × IsRemembered s.places.tree s.last };
+    ghost invariant = { λ s. IsTracked s.places s.touched.items × IsRemembered s.places.tree s.known.lines };
 }
 
 // The words so far after a place, so many.
@@ -86,7 +93,8 @@ impl Storage {
         Storage {
             places: Places::new(alloc),
             touched: Vec::new(alloc),
-            last: None,
+            known: Known::new(),
+            room: Vec::new(alloc),
             alloc,
         }
     }
@@ -94,6 +102,22 @@ impl Storage {
     // The allocator that it takes memory from.
     pub(crate) fn allocator(&self) -> Global {
         self.alloc
+    }
+
+    // Takes out the memory that is kept for the words of a run.
+    pub(crate) fn take_room(&mut self) -> Vec<u128>
+        ensures { self.new ≡ self.old }
+    {
+        replace(&mut self.room, Vec::new(self.alloc))
+    }
+
+    // Keeps memory for the words of the next run, unless it is more than any run needs.
+    pub(crate) fn keep_room(&mut self, room: Vec<u128>)
+        ensures { self.new ≡ self.old }
+    {
+        if room.len() <= MOST_KEPT {
+            self.room = room;
+        }
     }
 
     /// The committed words under a key.
@@ -141,7 +165,7 @@ impl Storage {
         ensures found { result ≡ is_some (words_under self.old.current key.now) }
         ensures same { self.new ≡ self.old }
     {
-        match self.places.recall(&mut self.last, key) {
+        match self.places.recall(&mut self.known, key) {
             Some(place) => self.places.slots[place].is_seen(),
             None => false,
         }
@@ -154,7 +178,7 @@ impl Storage {
         ensures word { result ≡ option_and_then (λ words. slice_get words at) (words_under self.old.current key.now) }
         ensures same { self.new ≡ self.old }
     {
-        match self.places.recall(&mut self.last, key) {
+        match self.places.recall(&mut self.known, key) {
             Some(place) => self.places.slots[place].word(at),
             None => None,
         }
@@ -165,7 +189,7 @@ impl Storage {
     pub(crate) fn find(&self, key: &Key) -> Option<&[u128]>
         ensures { option_copied result ≡ words_under self.now.current key.now }
     {
-        match self.places.find_known(&self.last, key) {
+        match self.places.find_known(&self.known, key) {
             Some(slot) => slot.current(),
             None => None,
         }
@@ -239,7 +263,7 @@ impl Storage {
         let own = own_in(
             &mut self.places,
             &mut self.touched,
-            &mut self.last,
+            &mut self.known,
             key,
             self.alloc,
         );
@@ -260,7 +284,7 @@ impl Storage {
         edit_in(
             &mut self.places,
             &mut self.touched,
-            &mut self.last,
+            &mut self.known,
             key,
             from,
             new,
@@ -278,7 +302,7 @@ impl Storage {
         take_from(
             &mut self.places,
             &mut self.touched,
-            &mut self.last,
+            &mut self.known,
             key,
             self.alloc,
         )
@@ -295,7 +319,7 @@ impl Storage {
         put_into(
             &mut self.places,
             &mut self.touched,
-            &mut self.last,
+            &mut self.known,
             key,
             value,
         )
@@ -318,6 +342,6 @@ impl Storage {
         ensures current { self.new.current ≡ seen layer self.old }
     {
         settle(&mut self.places, &mut self.touched, layer);
-        self.last = None;
+        self.known.forget();
     }
 }

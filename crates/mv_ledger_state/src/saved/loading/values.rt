@@ -111,14 +111,11 @@ fn put(overlay: &mut Overlay<'_>, number: u64, next: Stored) -> Result<bool, All
     ensures current { IfOk result (λ done. overlay.new.storage.now.current ≡ cond done (with_words overlay.old.storage.now.current next.key next.value) overlay.old.storage.now.current) }
     ensures loan { overlay.new.storage.ghost_name ≡ overlay.old.storage.ghost_name }
 {
-    if overlay.exists(&next.key) {
-        return Ok(false);
-    }
-    overlay.put(next.key, next.value)?;
+    let done = overlay.put_new(next.key, next.value)?;
     if number % KEPT_AFTER == 0 {
         overlay.commit()?;
     }
-    Ok(true)
+    Ok(done)
 }
 
 /// Reads values by ascending key after their number, and puts them into the storage of an overlay.

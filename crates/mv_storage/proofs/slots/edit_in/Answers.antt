@@ -10,7 +10,7 @@ returns-then-has_versions c =
     let p = c.in-Some.place in
     let t = c.edit.new.self in
     let n : Places = record { tree = m.tree; slots = with_item m.slots p t; nothing = m.nothing; free = m.free } in
-    let at : get key_cmp m.tree k ≡ Some p = rw c.in-Some.ensures at c.requires.remembered in
+    let at : get key_cmp m.tree k ≡ Some p = c.in-Some.ensures in
     let w = wrote m n k p c.index_mut.result.now t c.requires.tracked.sound (sym at) c.index_mut.ensures.value c.edit.ensures.used refl refl in
     record {
       tracked = w.tracked c.index.result.now c.args.touched.now.items c.args.touched.now.items c.index.ensures c.requires.tracked (λ q h. h) (λ kept. cc (c.has_versions.ensures c.if-has_versions.true, kept)) (λ tree _ h. h);

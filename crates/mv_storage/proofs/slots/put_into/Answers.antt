@@ -12,7 +12,7 @@ returns-in-Some c =
     let s = c.index_mut.result.now in
     let t = c.put.new.self in
     let n : Places = record { tree = m.tree; slots = with_item m.slots p t; nothing = m.nothing; free = m.free } in
-    let at : get key_cmp m.tree k ≡ Some p = rw c.in-Some.ensures at c.requires.remembered in
+    let at : get key_cmp m.tree k ≡ Some p = c.in-Some.ensures in
     let is : slot_at m k ≡ Some s = slot-read m k p s c.requires.tracked.sound at c.index_mut.ensures.value in
     let put = wrote-at m n k p t c.requires.tracked.sound at c.put.ensures.used refl refl in
     let touched = c.args.touched.now.items in

@@ -3,6 +3,7 @@ use Rattle.mv_storage.proofs.Common.{is_vacant, key_cmp, slot_at, Places, Commit
 use Rattle.mv_storage.proofs.Keys.{same_key-refl}
 use Rattle.mv_storage.proofs.PlaceLemmas.{HasPlace, place-read, put-at, same-sound, same-slots}
 use Rattle.mv_storage.proofs.Steps.{tracked-same, tracked-added, tracked-put, placed-same, placed-entries, slot-read, has-shows, has-same, put-from}
+use Rattle.mv_storage.proofs.KnownLemmas.{remembered-kept, kept-added, kept-same}
 use Rattle.mv_storage.proofs.slots.put_new.Goals as goal
 
 -- a place that is free is in the list
@@ -46,7 +47,8 @@ returns-in-None c =
     let absent : slot_at m k ≡ None = sym (c.vacancy.ensures.same k) ∙ ap (λ o. option_and_then (slice_get v.slots.items) o) none in
     record {
       tracked = rw (rw c.in-None.is at had.noted) (tracked-added m n k p t c.args.touched.now.items c.requires.tracked (rw (← c.vacancy.ensures.tree) none) put (rw (← c.vacancy.ensures.tree) gets));
-      remembered = gets k ∙ ap (λ b. cond b (Some p) (get key_cmp v.tree k)) (same_key-refl k);
+      remembered = c.note.ensures n.tree (gets k ∙ ap (λ b. cond b (Some p) (get key_cmp v.tree k)) (same_key-refl k))
+          (remembered-kept v.tree n.tree c.args.known.now.lines (kept-added v n k p none gets) (rw c.vacancy.ensures.tree c.requires.remembered));
       done = rw absent refl;
       current = has-shows Current m n k (Some t) (Some c.args.value) put.has c.added.ensures.current;
       committed = has-same Committed m n k (Some t) put.has (rw absent c.added.ensures.committed);
@@ -74,7 +76,8 @@ returns-in-Some c =
       tracked = rw (rw c.in-Some.is at had.noted)
           (tracked-put m n k s t touched touched c.requires.tracked is put (λ q h. h) (λ kept now. cc (c.put.ensures.change, kept, now))
           (placed-same m n k p touched (rw (← c.vacancy.ensures.tree) at) (rw (← c.vacancy.ensures.tree) gets) c.requires.tracked.placed));
-      remembered = gets k ∙ ap (λ b. cond b (Some p) (get key_cmp v.tree k)) (same_key-refl k);
+      remembered = c.note-in-Some.ensures n.tree (gets k ∙ ap (λ b. cond b (Some p) (get key_cmp v.tree k)) (same_key-refl k))
+          (remembered-kept v.tree n.tree c.args.known.now.lines (kept-same v n k p at gets) (rw c.vacancy.ensures.tree c.requires.remembered));
       done = rw is c.put.ensures.done;
       current = rw is (has-shows Current m n k (Some t) _ put.has c.put.ensures.current);
       committed = has-same Committed m n k (Some t) put.has (rw is c.put.ensures.committed);

@@ -21,7 +21,7 @@ invariant_of-self-lent c = λ w.
     let fits = subst (λ (l : Layers). IfSome (words_under l.current c.args.key.now) (λ old. c.args.from + c.args.width ≤ length old)) (sym c.self.view_is) c.requires.fits in (
       opened-tracked c.self.inside.places c.own_in-own.new.places c.own_in-own.new.touched.items c.own_in-own.ensures.tracked c.self.invariant.0.sound.ordered c.own_in-own.ensures.same c.args.key.now c.args.from c.args.width fits
           c.own_place-place.result c.own_place-place.new.lent c.own_in-own.result (c.own_in-own.ensures.own, c.own_place-place.ensures.place) w,
-      subst (λ (tree : BTreeMap Key ℕ). IsRemembered tree c.own_in-own.new.last)
+      subst (λ (tree : BTreeMap Key ℕ). IsRemembered tree c.own_in-own.new.known.lines)
           (sym (opened-tree c.self.inside.places c.own_in-own.new.places c.own_in-own.new.touched.items c.own_in-own.ensures.tracked c.self.invariant.0.sound.ordered c.own_in-own.ensures.same c.args.key.now c.args.from c.args.width fits c.own_place-place.result w))
           c.own_in-own.ensures.remembered,
     )
