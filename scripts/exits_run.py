@@ -1,12 +1,13 @@
 """How try-exits runs the program, and what it runs it on."""
 
 import os
+import re
 import resource
 import select
 import subprocess
 from functools import lru_cache
 from pathlib import Path
-from typing import Any, Callable, Dict, Iterator, Optional, Sequence, Tuple, Union
+from typing import Any, Callable, Dict, Iterator, List, Optional, Sequence, Tuple, Union
 
 import common
 from common import EXAMPLES
@@ -24,6 +25,10 @@ READ, WRITE, MEMORY = b"fault: read\n", b"fault: write\n", b"fault: memory\n"
 MEGABYTE = 1 << 20
 # The bytes of the example's first record.
 FIRST = 124
+# What the names of files that stay end in.
+LEFT = re.compile(r"\.(?:previous|unsaved)(?:-\d+)?$")
+# The place of a record's sender.
+SENDER = 2
 # A module whose function never ends, and a run of it that uses up the largest budget.
 SPIN = bytes.fromhex("""0158000000000000000000000000000000010143a11ceb0b0500000006010002030205050701070807080f100c1f080000000100000000014d
     047370696e00000000000000000000000000000001000104000001050000020100""")
@@ -35,18 +40,21 @@ ONE = 15 * "00" + "01"
 HEAD = STREAM.read_bytes()[19:124]
 SAVED = b"MVL2\1\1" + HEAD + bytes.fromhex("0100" + "01" + ONE + "0700000000000000")
 OLD_FORM = b"MVL1\1\1" + HEAD + bytes.fromhex("01" + 31 * "00" + "01" + ONE + "0000" + "0700000000000000")
-# How it ends where the ledger after the example is kept, where it shows at the end that it can't be, and where that shows before
-# the first record is answered.
-KEPT, NOT_KEPT, REFUSED = (0, REPORT, b""), (1, REPORT, WRITE), (1, b"", WRITE)
+# How it ends where the ledger after the example is kept, and where it can't be, whenever that shows.
+KEPT, NOT_KEPT = (0, REPORT, b""), (1, REPORT, WRITE)
 # The ledger of nothing, as one that stands where another is saved.
 OLD = b"MVL2\0\0"
 COUNTED = b"3 count 00000000000000000000000000000001::M::Coin stored 1 packed 1 unpacked 0\n3 end 1\n"
 
 
+# The program that is tried, if not that of these sources.
+GIVEN: List[str] = []
+
+
 @lru_cache(maxsize=None)
 def program() -> str:
-    """The program of these sources, which is built where there is none."""
-    return common.program() or ""
+    """The program that is tried: the one that was given, otherwise that of these sources, which is built where there is none."""
+    return GIVEN[0] if GIVEN else common.program() or ""
 
 
 def closes(number: int) -> Callable[[], None]:
@@ -61,6 +69,13 @@ def no_bytes() -> None:
     resource.setrlimit(resource.RLIMIT_FSIZE, (0, 0))
 
 
+def nobody() -> None:
+    """From here on the program has no rights but anyone's."""
+    os.setgroups([])
+    os.setgid(65534)
+    os.setuid(65534)
+
+
 def broken_pipe() -> int:
     """An end of a pipe that nobody reads."""
     read, write = os.pipe()
@@ -69,9 +84,8 @@ def broken_pipe() -> int:
 
 
 def fault_in(errors: bytes) -> bytes:
-    """What standard error says of a fault: its first lines, without the one behind them that has the file and the reason."""
-    lines = errors.splitlines(keepends=True)
-    return b"".join(lines[:-1] if lines and lines[-1].startswith(b"moveledger: ") else lines)
+    """What standard error says, without the lines that have a file and a reason."""
+    return b"".join(line for line in errors.splitlines(keepends=True) if not line.startswith(b"moveledger: "))
 
 
 def ended(words: Sequence[Given], stdout: Any = subprocess.PIPE, **settings: Any) -> End:
@@ -81,8 +95,14 @@ def ended(words: Sequence[Given], stdout: Any = subprocess.PIPE, **settings: Any
 
 def explained(words: Sequence[Given], **settings: Any) -> Tuple[int, str]:
     """The status, and all that standard error says."""
-    run = subprocess.run([program(), *words], stdout=subprocess.PIPE, stderr=subprocess.PIPE, **settings)
+    pipes: Dict[str, Any] = {"stdout": subprocess.PIPE, "stderr": subprocess.PIPE, **settings}
+    run = subprocess.run([program(), *words], **pipes)
     return run.returncode, run.stderr.decode()
+
+
+def not_kept(path: Given, why: str) -> Tuple[int, str]:
+    """How it ends, and what is said, where it shows before the first record that a ledger can't be saved by a name."""
+    return 1, f"moveledger: {os.fsdecode(path)}: {why}: the ledger won't be saved\n{WRITE.decode()}"
 
 
 def saved(path: Given, **settings: Any) -> End:
@@ -99,6 +119,32 @@ def line_from(number: int, seconds: float = 60) -> bytes:
             break
         line += byte
     return line
+
+
+class Shelf:
+    """A folder with files that programs keep their ledgers in."""
+
+    def __init__(self, folder: str):
+        self.folder = Path(folder)
+
+    def file(self, name: str, text: Optional[bytes] = None) -> Path:
+        """A file of this name, with this text if one is given."""
+        path = self.folder / name
+        if text is not None:
+            path.write_bytes(text)
+        return path
+
+    def state(self, name: str) -> Tuple[Optional[bytes], List[str]]:
+        """What a file has, and what else the folder has that a program may have left."""
+        path = self.folder / name
+        left = sorted(other.name for other in self.folder.iterdir() if other.name.startswith(".") or LEFT.match(other.suffix))
+        return path.read_bytes() if path.is_file() else None, left
+
+
+def mint_by(sender: int) -> bytes:
+    """A mint of the example's coin by this sender."""
+    mint = STREAM.read_bytes()[FIRST:]
+    return mint[:SENDER] + sender.to_bytes(16, "big") + mint[SENDER + 16 :]
 
 
 class Running:

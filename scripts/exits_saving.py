@@ -2,41 +2,18 @@
 
 import fcntl
 import os
-import resource
 import signal
 import subprocess
 from pathlib import Path
-from typing import Any, Callable, Iterator, List, Optional, Sequence, Tuple
+from typing import Callable, Iterator, List, Optional, Sequence, Tuple
 
-from common import TOP
+from common import has
 from exits_run import (
-    COUNTED, EMPTY, FIRST, KEPT, MEGABYTE, MEMORY, NOT_KEPT, OLD, OLD_FORM, READ, REFUSED, REPORT, RUN, SAVED, SPIN, STREAM, WRITE,
-    Cases, End, Given, Running, closes, ended, explained, fault_in, limits, no_bytes, program, saved)
+    COUNTED, EMPTY, FIRST, KEPT, MEGABYTE, MEMORY, NOT_KEPT, OLD, OLD_FORM, READ, REPORT, SAVED, STREAM, WRITE, Cases, End, Given, Running,
+    Shelf, closes, ended, explained, fault_in, limits, line_from, mint_by, no_bytes, nobody, not_kept, program, saved)
 
 IN_USE = "another program has this ledger in use"
-NO_LEDGER = "what stands there is no saved ledger, and stays"
-# A mint of the example's coin, by another sender.
-SENDER = 2
-
-
-class Shelf:
-    """A folder with files that programs keep their ledgers in."""
-
-    def __init__(self, folder: str):
-        self.folder = Path(folder)
-
-    def file(self, name: str, text: Optional[bytes] = None) -> Path:
-        """A file of this name, with this text if one is given."""
-        path = self.folder / name
-        if text is not None:
-            path.write_bytes(text)
-        return path
-
-    def state(self, name: str) -> Tuple[Optional[bytes], List[str]]:
-        """What a file has, and what else the folder has that a program may have left."""
-        path = self.folder / name
-        left = sorted(other.name for other in self.folder.iterdir() if other.name.startswith(".") or other.suffix == ".previous")
-        return path.read_bytes() if path.is_file() else None, left
+NO_LEDGER = "this file isn't a saved ledger; it was left unchanged"
 
 
 def refused_ledgers() -> Iterator[Tuple[bytes, int]]:
@@ -117,10 +94,9 @@ def much_is_given(shelf: Shelf, audit: Path) -> Cases:
     endless.communicate()
 
 
-def mint_by(sender: int) -> bytes:
-    """A mint of the example's coin by this sender."""
-    mint = STREAM.read_bytes()[FIRST:]
-    return mint[:SENDER] + sender.to_bytes(16, "big") + mint[SENDER + 16 :]
+def lock_of(path: Path) -> Path:
+    """The file that is locked while a ledger is saved by a name."""
+    return path.with_name(f".moveledger-lock-{path.name}")
 
 
 def in_use(folder: str) -> Cases:
@@ -135,13 +111,15 @@ def in_use(folder: str) -> Cases:
     one = Running([program(), *both, "-"])
     yield "a program has a ledger in use", one.sent(b"\4\0", 2), counted
     yield "another one is told so", explained([*both, audit]), refused
-    yield "it is told so of a link to it", explained(["apply", "--load", kept, "--save", link, audit]), refused
+    yield "it is told so of a link to it", explained(["apply", "--load", kept, "--save", link, audit])[0], 1
     yield "so is one that migrates it", explained(["migrate", kept, kept]), refused
     yield "one that only reads it isn't", ended(["apply", "--load", kept, audit]), (0, counted, b"")
-    found = explained(["migrate", old_form, kept]), shelf.state("kept")
-    yield "one that would replace it is told so, too", found, ((1, f"fault: write\nmoveledger: {kept}: {IN_USE}\n"), (SAVED, []))
+    found = explained(["migrate", old_form, kept])[0], shelf.state("kept")
+    yield "nor can one migrate another there", found, (1, (SAVED, [".moveledger-lock-kept"]))
+    found = explained(["apply", "--save", kept, STREAM]), kept.read_bytes()
+    yield "nor can one save there that hasn't loaded it", found, (not_kept(kept, IN_USE), SAVED)
     yield "the first one goes on", (one.sent(mint_by(2)), one.closed()), (b"2 returned 5\n", (0, b"", ""))
-    yield "and then another one", ended([*both, audit])[0], 0
+    yield "and then another one", (ended([*both, audit])[0], shelf.state("kept")[1]), (0, [])
     for text, shows in (OLD_FORM, "another ledger"), (SAVED + b"more", "the same file, written to"):
         shelf.file("kept", SAVED)
         one = Running([program(), *both, "-"])
@@ -154,7 +132,61 @@ def in_use(folder: str) -> Cases:
         found = one.closed(), shelf.state("kept"), shelf.file("kept.previous").read_bytes()
         yield f"what stands there meanwhile stays: {shows}", found, ((0, b"", said), (SAVED, ["kept.previous"]), text)
         shelf.file("kept.previous").unlink()
+    shelf.file("kept", SAVED)
+    one = Running([program(), *both, "-"])
+    one.sent(mint_by(2))
+    os.replace(shelf.file("other", b"letters"), kept)
+    unsaved = shelf.folder / "kept.unsaved"
+    said = f"moveledger: the ledger is whole in {unsaved}: move or copy it to {kept}\nfault: write\nmoveledger: {kept}: {NO_LEDGER}\n"
+    found = one.closed(), kept.read_bytes(), unsaved.exists() and ended(["apply", "--load", unsaved, audit])[1]
+    yield "a file that is no ledger, moved there meanwhile", found, ((1, b"", said), b"letters", counted.replace(b"stored 1 packed 1", b"stored 2 packed 2"))
+    unsaved.unlink(missing_ok=True)
+    yield from locked(shelf, kept)
     yield from at_once(shelf, both, kept)
+
+
+def locked(shelf: Shelf, kept: Path) -> Cases:
+    """What comes of locks that others hold, or that can't be had."""
+    found: object
+    shelf.file("kept", SAVED)
+    with open(kept, "rb") as reader:
+        # Who may read a ledger may not hold up who saves it.
+        fcntl.flock(reader, fcntl.LOCK_EX)
+        found = ended(["apply", "--load", kept, "--save", kept, shelf.file("audit")])[0], shelf.state("kept")
+        yield "a lock of the ledger itself holds up nobody", found, (0, (SAVED, []))
+    place = lock_of(shelf.folder / "new")
+    stands: List[Tuple[Optional[bytes], str]] = [(None, "nothing stands there"), (b"", "an empty file"), (SAVED, "a ledger")]
+    for text, shows in stands:
+        new = shelf.file("new", text)
+        with open(place, "wb") as lock:
+            fcntl.flock(lock, fcntl.LOCK_EX)
+            found = explained(["apply", "--save", new, STREAM]), new.read_bytes() if new.exists() else None, place.exists()
+            yield f"another one saves there, and {shows}", found, (not_kept(new, IN_USE), text, True)
+        yield f"one that has ended, and {shows}", (saved(new)[0], new.read_bytes(), place.exists()), (0, SAVED, False)
+    place.symlink_to("elsewhere")
+    found = explained(["apply", "--save", new, STREAM])[0], (shelf.folder / "elsewhere").exists(), new.read_bytes()
+    yield "a link in the place of a lock isn't followed", found, (1, False, SAVED)
+    place.unlink()
+    new.chmod(0o640)
+    one = Running([program(), "apply", "--save", new, "-"])
+    one.sent(STREAM.read_bytes()[:FIRST])
+    mode = place.stat().st_mode & 0o777 if place.exists() else None
+    one.closed()
+    yield "only its owner may open a lock", mode, 0o200
+    if has("strace"):
+        new.write_bytes(SAVED)
+        why = "its place can't be locked: No locks available (os error 37)"
+        words = failing("flock", "ENOLCK", ["apply", "--load", new, "--save", new, STREAM])
+        yield "no locks on this disk, and the ledger is loaded", words, (1, b"", f"fault: read\nmoveledger: {new}: {why}\n")
+        words = failing("flock", "ENOLCK", ["apply", "--save", new, STREAM])
+        yield "no locks on this disk", (words[::2], words[1], new.read_bytes()), (not_kept(new, why), REPORT, SAVED)
+
+
+def failing(calls: str, error: str, words: Sequence[Given]) -> Tuple[int, bytes, str]:
+    """How the program ends where these calls fail: its status, its report, and what it says."""
+    before = ["strace", "-f", "-qq", "-o", "/dev/null", "-e", f"trace={calls}", "-e", f"inject={calls}:error={error}", program()]
+    run = subprocess.run([*before, *words], stdout=subprocess.PIPE, stderr=subprocess.PIPE)
+    return run.returncode, run.stdout, run.stderr.decode()
 
 
 def at_once(shelf: Shelf, both: Sequence[Given], kept: Path) -> Cases:
@@ -170,30 +202,53 @@ def at_once(shelf: Shelf, both: Sequence[Given], kept: Path) -> Cases:
     _, report, _ = ended(["apply", "--load", kept, shelf.file("audit", b"\4\0")])
     stored = int(report.split()[4]) if report else 0
     yield "two programs at once: what is acknowledged is stored", (stored - 1, acknowledged >= 10), (acknowledged, True)
+    lost, count = 0, 0
+    for round in range(12):
+        place = shelf.folder / f"place{round}"
+        if round % 3:
+            place.write_bytes(b"" if round % 3 == 1 else OLD)
+        records = [shelf.file(f"mint{n}", STREAM.read_bytes()[:FIRST] + mint_by(100 + n)) for n in range(2)]
+        words: List[List[Given]] = [[program(), "apply", "--save", place, file] for file in records]
+        pair = [subprocess.Popen(it, stdout=subprocess.PIPE, stderr=subprocess.PIPE) for it in words]
+        good = [file for file, run in zip(records, pair) if run.communicate() and run.returncode == 0]
+        stands = [path.read_bytes() for path in shelf.folder.glob(f"place{round}*")]
+        count += len(good)
+        lost += sum(saved_after(shelf, file) not in stands for file in good) + (round % 3 == 2 and OLD not in stands)
+    yield "two that haven't loaded, at once: both ledgers stand, and the old one", (lost, count >= 12), (0, True)
+
+
+def saved_after(shelf: Shelf, records: Path) -> bytes:
+    """The ledger after these records."""
+    alone = shelf.file("alone", b"")
+    ended(["apply", "--save", alone, records])
+    return alone.read_bytes()
 
 
 def slips(folder: str) -> Cases:
     """What comes of a ledger that is saved where something stands that wasn't loaded."""
     shelf = Shelf(folder)
     text = shelf.file("text", b"letters to the bank\n")
-    told = f"fault: write\nmoveledger: {text}: {NO_LEDGER}\n"
-    yield "no ledger takes the place of another file", (explained(["apply", "--save", text, STREAM]), saved(text), shelf.state("text")), (
-        (1, told), REFUSED, (b"letters to the bank\n", []))
+    found: object = explained(["apply", "--save", text, STREAM]), saved(text), shelf.state("text")
+    yield "no ledger takes the place of another file", found, (not_kept(text, NO_LEDGER), NOT_KEPT, (b"letters to the bank\n", []))
     old_form = shelf.file("old", OLD_FORM)
     yield "nor is one migrated there", (ended(["migrate", old_form, text]), shelf.state("text")), ((1, b"", WRITE), (b"letters to the bank\n", []))
     short = shelf.file("short", b"MVL")
-    yield "nor takes one the place of a part of a mark", (saved(short), shelf.state("short")), (REFUSED, (b"MVL", []))
+    yield "nor takes one the place of a part of a mark", (saved(short), shelf.state("short")), (NOT_KEPT, (b"MVL", []))
     yield "an empty file is replaced", (saved(shelf.file("none", b"")), shelf.state("none")), (KEPT, (SAVED, []))
-    kept, previous = shelf.file("kept", OLD), shelf.file("kept.previous")
-    said = f"moveledger: {kept}: the ledger that stood there is kept as {previous}\n"
-    yield "a ledger that wasn't loaded stays beside", (explained(["apply", "--save", kept, STREAM]), kept.read_bytes(), previous.read_bytes()), (
-        (0, said), SAVED, OLD)
-    yield "one that stayed before goes then", (saved(kept), kept.read_bytes(), previous.read_bytes()), (KEPT, SAVED, SAVED)
-    found = ended(["migrate", old_form, kept]), kept.read_bytes(), previous.read_bytes()
-    yield "it stays beside one that is migrated", found, ((0, b"", b""), SAVED, SAVED)
-    previous.write_bytes(b"letters")
-    yield "no other file of that name goes", (saved(kept), kept.read_bytes(), previous.read_bytes()), (NOT_KEPT, SAVED, b"letters")
-    previous.unlink()
+    kept = shelf.file("kept", OLD)
+    for number, name in enumerate(("kept.previous", "kept.previous-1", "kept.previous-2")):
+        said = f"moveledger: {kept}: the ledger that stood there is kept as {shelf.folder / name}\n"
+        mint = shelf.file("mint", STREAM.read_bytes()[:FIRST] + mint_by(100 + number))
+        shelf.file(f"before{number}", kept.read_bytes())
+        yield f"slip {number + 1}: the ledger stays beside", explained(["apply", "--save", kept, mint]), (0, said)
+    stands = [shelf.file(f"kept.previous{more}").read_bytes() if (shelf.folder / f"kept.previous{more}").exists() else None for more in ("", "-1", "-2")]
+    yield "all that stayed before stay then", stands, [shelf.file(f"before{number}").read_bytes() for number in range(3)]
+    found = ended(["migrate", old_form, kept]), kept.read_bytes(), shelf.state("kept")[1]
+    wanted = ["kept.previous", "kept.previous-1", "kept.previous-2", "kept.previous-3"]
+    yield "one stays beside one that is migrated", found, ((0, b"", b""), SAVED, wanted)
+    other, previous = shelf.file("other", OLD), shelf.file("other.previous", b"letters")
+    found = saved(other), other.read_bytes(), previous.read_bytes(), (shelf.folder / "other.previous-1").exists()
+    yield "no other file of that name goes", found, (KEPT, SAVED, b"letters", True)
     (shelf.folder / "far").mkdir()
     aim = shelf.file("far/aim", OLD)
     link = shelf.folder / "link"
@@ -201,28 +256,36 @@ def slips(folder: str) -> Cases:
     yield "it stays beside what a link leads to", (saved(link), aim.read_bytes(), shelf.file("far/aim.previous").read_bytes()), (KEPT, SAVED, OLD)
 
 
-def waits_for_nothing(words: Sequence[Given]) -> End:
-    """How it ends while its standard input stays open, and gives nothing."""
-    read, write = os.pipe()
-    try:
-        return ended(words, stdin=read, timeout=60)
-    finally:
-        os.close(read)
-        os.close(write)
+def said_before(words: Sequence[Given]) -> Tuple[bytes, bytes, Tuple[int, bytes, str]]:
+    """What is said before a record is given, what is answered to one, and how it ends."""
+    run = Running([program(), *words])
+    assert run.run.stderr is not None
+    said = line_from(run.run.stderr.fileno(), 5)
+    return said, run.sent(b"\4\0", 1), run.closed()
 
 
 def found_before(folder: str) -> Cases:
-    """That a ledger can't be saved is told before the first record is answered, and in the asked order of faults."""
+    """That a ledger can't be saved is told before the first record is answered, and is the last fault."""
     shelf = Shelf(folder)
-    text = shelf.file("text", b"text")
-    none, other = (Path(folder, "no/new"), "into a folder that isn't there"), (text, "in the place of another file")
-    for place, shows in none, (Path(folder), "in the place of a folder"), other:
-        yield f"nothing is waited for where it can't be saved {shows}", waits_for_nothing(["apply", "--save", place, "-"]), REFUSED
-    for place, shows in none, other:
+    text, long = shelf.file("text", b"text"), shelf.folder / (239 * "n")
+    own = shelf.folder / ".moveledger-20261129"
+    missing, is_folder = "No such file or directory (os error 2)", "Is a directory (os error 21)"
+    places: List[Tuple[Given, str, str]] = [
+        (Path(folder, "no/new"), missing, "into a folder that isn't there"), (Path(folder), is_folder, "in the place of a folder"),
+        (text, NO_LEDGER, "in the place of another file"), (f"{folder}/sub/", is_folder, "by the name of a folder"),
+        (own, "names that begin with .moveledger- are the program's own", "by a name of the program's own"),
+        (long, "File name too long (os error 36)", "by a name of 239 letters")]
+    for place, why, shows in places:
+        status, said = not_kept(place, why)
+        first, _, rest = said.partition("\n")
+        found: object = said_before(["apply", "--save", place, "-"])
+        yield f"it is said before the first record that it can't be saved {shows}", found, ((first + "\n").encode(), b"1 end 0\n", (status, b"", rest))
         yield f"a file that isn't there, before one that can't be saved {shows}", ended(["apply", "--save", place, f"{folder}/none"]), (1, b"", READ)
         yield f"a folder as input, before one that can't be saved {shows}", ended(["apply", "--save", place, folder]), (1, b"", READ)
         bad: List[Given] = ["apply", "--load", text, "--save", place, STREAM]
         yield f"a refused ledger, before one that can't be saved {shows}", ended(bad), (3, b"load refused 1\n", b"")
+    yield "no name", explained(["apply", "--save", "", STREAM], cwd=folder), not_kept('""', "there is no name")
+    yield "what stands there then", (sorted(os.listdir(folder)), text.read_bytes()), (["text"], b"text")
     fifo = shelf.folder / "fifo"
     os.mkfifo(fifo)
     with subprocess.Popen(["cat", fifo], stdout=subprocess.PIPE) as reading:
@@ -241,78 +304,72 @@ def leftovers(folder: str) -> Cases:
     """What killed programs leave, and what comes of it."""
     found: object
     shelf = Shelf(folder)
-    kept, new = shelf.file("kept", OLD), shelf.file(".moveledger-0")
+    kept, new = shelf.file("kept", OLD), shelf.file(".moveledger-new-kept")
     kept.chmod(0o644)
+    left = [".moveledger-lock-kept", ".moveledger-new-kept"]
     found = killed(kept), shelf.state("kept"), new.stat().st_mode & 0o777
-    yield "a killed save leaves a file that is its owner's alone", found, (-signal.SIGXFSZ, (OLD, [".moveledger-0"]), 0o600)
+    yield "a killed save leaves a file that is its owner's alone", found, (-signal.SIGXFSZ, (OLD, left), 0o600)
     yield "the next save takes it away", (saved(kept), shelf.state("kept")), (KEPT, (SAVED, ["kept.previous"]))
-    for number in 0, 1, 7, 999, 1_000:
-        shelf.file(f".moveledger-{number}", b"left")
-    (shelf.folder / ".moveledger-8").symlink_to("kept")
-    shelf.file(".moveledger-x", b"another's")
-    left = [".moveledger-8", ".moveledger-x", "kept.previous"]
-    yield "so it does with all that are left", (saved(kept), shelf.state("kept")), (KEPT, (SAVED, left))
-    with open(shelf.file(".moveledger-0", b"held"), "rb") as held:
-        fcntl.flock(held, fcntl.LOCK_EX)
-        found = saved(kept), shelf.state("kept")
-    yield "but not with one that a program holds", found, (KEPT, (SAVED, [".moveledger-0", *left]))
+    shelf.file("kept.previous").unlink()
+    both: List[Given] = ["apply", "--load", kept, "--save", kept, shelf.file("audit", b"\4\0")]
+    for text in b"", b"\0\0\0\0" + SAVED[4:], b"MVL":
+        new.write_bytes(text)
+        yield f"so it does with one of {len(text)} bytes", (ended(both)[0], shelf.state("kept")), (0, (SAVED, []))
+    for number in range(2):
+        new.write_bytes(OLD)
+        name = f"kept.unsaved{'-1' if number else ''}"
+        said = f"moveledger: {kept}: what an earlier program couldn't put in place is kept as {shelf.folder / name}\n"
+        found = explained(both), shelf.file(name).read_bytes() if (shelf.folder / name).exists() else None, kept.read_bytes(), new.exists()
+        yield f"one that is whole stays as {name}", found, ((0, said), OLD, SAVED, False)
+    for name in "kept.unsaved", "kept.unsaved-1":
+        (shelf.folder / name).unlink(missing_ok=True)
+    os.link(kept, new)
+    yield "the ledger by that name, too", (ended(both)[0], shelf.state("kept")), (0, (SAVED, []))
+    names = [f".moveledger-{it}" for it in ("0", "20261129", "999", "x", "new-other", "lock-other")]
+    for name in names:
+        shelf.file(name, b"another's")
+    yield "no other file is touched", (ended(both)[0], shelf.state("kept")), (0, (SAVED, sorted(names)))
+    for name in names:
+        (shelf.folder / name).unlink()
     kept.write_bytes(OLD)
     run = subprocess.run([program(), "apply", "--save", kept, STREAM], capture_output=True, preexec_fn=no_bytes, restore_signals=False)
-    found = (run.returncode, run.stdout, fault_in(run.stderr)), kept.read_bytes()
-    yield "a limit of a file's size, where its signal is ignored", found, (NOT_KEPT, OLD)
+    found = (run.returncode, run.stdout, run.stderr.decode()), shelf.state("kept")
+    said = f"fault: write\nmoveledger: {kept}: File too large (os error 27)\n"
+    yield "a limit of a file's size, where its signal is ignored", found, ((1, REPORT, said), (OLD, []))
+    if has("strace"):
+        yield from at_each_call(shelf)
 
 
-def begun(path: Given, records: bytes, lines: int, **settings: Any) -> Tuple[Running, bytes]:
-    """The program with what hands records on to it, once so many lines of answers to these are there, and these lines."""
-    run = Running([TOP / "scripts/until-signal", program(), "apply", "--save", path, "-"], **settings)
-    return run, run.sent(records, lines)
-
-
-def signalled(run: Running) -> Tuple[int, bytes, bytes]:
-    """How a program ends while its input stays open: its status, the rest of its report, and its standard error."""
-    came = run.ended()
-    run.end_input()
-    return came
-
-
-def ended_by_signals(folder: str) -> Cases:
-    """What comes of a run over a pipe that a signal ends: what was answered is saved."""
+def at_each_call(shelf: Shelf) -> Cases:
+    """What stands there where calls fail, or the program is killed at one of them."""
     found: object
-    shelf = Shelf(folder)
-    kept, example = shelf.folder / "kept", STREAM.read_bytes()
-    for number in signal.SIGTERM, signal.SIGINT:
-        run, lines = begun(kept, example + b"\4", 2, start_new_session=True)
-        os.killpg(run.run.pid, number)
-        found = lines, signalled(run), shelf.state("kept")
-        yield f"a run over a pipe that {number.name} ends", found, (REPORT, (128 + number, b"", b""), (SAVED, []))
-        kept.unlink()
-    run, lines = begun(kept, SPIN + 20 * RUN, 1)
-    run.run.send_signal(signal.SIGTERM)
-    status, rest, errors = signalled(run)
-    whole = b"".join(b"%d exhausted steps 10000000\n" % n for n in range(2, 22))
-    found = lines, status, whole.startswith(rest), errors, kept.read_bytes()[:4] == OLD[:4]
-    yield "one that is ended within a record", found, (b"1 published 1\n", 143, True, b"", True)
-    kept.unlink()
-    run, lines = begun(kept, example, 2)
-    run.end_input()
-    yield "one whose input ends", (lines, run.ended(), shelf.state("kept")), (REPORT, (0, b"", b""), (SAVED, []))
-    kept.unlink()
-    run, lines = begun(kept, example + b"\1", 2)
-    run.end_input()
-    status, rest, errors = run.ended()
-    found = lines, status, rest, fault_in(errors), shelf.state("kept")
-    yield "one whose input ends within a record", found, (REPORT, 0, b"3 refused 1\n", b"", (SAVED, []))
-    run, lines = begun(f"{folder}/no/kept", b"", 0)
-    status, rest, errors = signalled(run)
-    yield "one that ends by itself", (status, rest, fault_in(errors)), REFUSED
-    run, lines = begun(kept, example + b"\1" + 10 * b"\xff" + example, 3)
-    status, rest, errors = signalled(run)
-    yield "one with what is no record", (lines, status, rest), (REPORT + b"3 refused 1\n", 0, b"")
-    kept.write_bytes(OLD)
-    words: List[Given] = [TOP / "moveledger", "apply", "--save", kept, STREAM]
-    limited = subprocess.run(words, capture_output=True, preexec_fn=no_bytes)
-    found = (limited.returncode, limited.stdout, fault_in(limited.stderr)), kept.read_bytes()
-    yield "a limit of a file's size, by the script at the top", found, (NOT_KEPT, OLD)
+    last, name = shelf.file("last", OLD), shelf.folder / "last.unsaved"
+    status, report, said = failing("rename,renameat,renameat2", "EIO", ["apply", "--load", last, "--save", last, STREAM])
+    why = f"moveledger: the ledger is whole in {name}: move or copy it to {last}\nfault: write\nmoveledger: {last}: Input/output error (os error 5)\n"
+    found = status, report, said, last.read_bytes(), name.read_bytes() if name.exists() else None
+    yield "the last step fails: the new ledger stays, and is told", found, (1, REPORT, why, OLD, SAVED)
+    lost, count = [], 0
+    for loads in True, False:
+        for number in range(1, 200):
+            own = Shelf(str(shelf.folder / f"{loads}{number}"))
+            own.folder.mkdir()
+            kept = own.file("kept", OLD)
+            inject = "trace=%file,%desc", "-e", f"inject=%file,%desc:signal=KILL:when={number}"
+            words: List[Given] = ["strace", "-f", "-qq", "-o", "/dev/null", "-e", *inject, program(), "apply"]
+            words += ["--load", kept, "--save", kept, STREAM] if loads else ["--save", kept, STREAM]
+            run = subprocess.run(words, stdout=subprocess.PIPE, stderr=subprocess.PIPE)
+            first = kept.read_bytes()
+            again = ended(["apply", "--save", kept, own.file("none", b"")])
+            texts = {path.read_bytes() for path in own.folder.iterdir() if path.name.startswith("kept")}
+            is_kept = first in (OLD, SAVED) and again == (0, b"", b"") and own.state("kept")[0] == OLD
+            # Whatever stood there first, stands there after the next save, which hasn't loaded it.
+            if not is_kept or first not in texts or texts - {OLD, SAVED} or any(it.startswith(".") for it in own.state("kept")[1]):
+                lost.append((loads, number, first, again, own.state("kept")))
+            if run.returncode == 0:
+                break
+            count += 1
+    # (strace counts the calls of each name by themselves)
+    yield "the program is killed at each of its calls", (lost, count > 10), ([], True)
 
 
 def migrated(folder: str) -> Cases:
@@ -337,13 +394,6 @@ def migrated(folder: str) -> Cases:
     yield "a ledger that isn't there is migrated", ended(["migrate", f"{folder}/no", new]), (1, b"", READ)
     found = ended(["migrate", shelf.file("e", b"MVL1\0\0\0"), shelf.file("none")]), shelf.state("none")
     yield "the empty ledger is migrated", found, ((0, b"", b""), (OLD, []))
-
-
-def nobody() -> None:
-    """From here on the program has no rights but anyone's."""
-    os.setgroups([])
-    os.setgid(65534)
-    os.setuid(65534)
 
 
 def replaced(folder: str) -> Cases:
@@ -379,12 +429,12 @@ def replaced(folder: str) -> Cases:
     yield "a link to a link is followed from where it lies", found, (KEPT, (SAVED, []), True)
     circle = shelf.folder / "circle"
     circle.symlink_to("circle")
-    yield "a link that leads to itself", (saved(circle), circle.is_symlink()), (REFUSED, True)
+    yield "a link that leads to itself", (saved(circle), circle.is_symlink()), (NOT_KEPT, True)
     other = shelf.folder / "other"
     os.link(shelf.file("one", OLD), other)
     yield "another name of a file keeps the old text", (saved(shelf.folder / "one"), other.read_bytes()), (KEPT, OLD)
-    yield "a folder in the place of a file", (saved(folder), Path(folder).is_dir()), (REFUSED, True)
-    yield "a folder that isn't there", saved(f"{folder}/no/new"), REFUSED
+    yield "a folder in the place of a file", (saved(folder), Path(folder).is_dir()), (NOT_KEPT, True)
+    yield "a folder that isn't there", saved(f"{folder}/no/new"), NOT_KEPT
 
 
 def written_to(folder: str) -> Cases:
@@ -412,47 +462,63 @@ def written_to(folder: str) -> Cases:
     with open(shelf.file("gone", b"old"), "rb") as gone:
         (shelf.folder / "gone").unlink()
         found = saved(f"/dev/fd/{gone.fileno()}", pass_fds=[gone.fileno()]), gone.read(), shelf.state("gone")
-    yield "a file that has no name any more", found, (REFUSED, b"old", (None, []))
+    yield "a file that has no name any more", found, (NOT_KEPT, b"old", (None, []))
 
 
 def named(folder: str) -> Cases:
-    """What comes of names, of ledgers and of the new files that take their places."""
+    """What comes of names of ledgers."""
     shelf = Shelf(folder)
     yield "a name alone", (saved("alone", cwd=folder), shelf.state("alone")), (KEPT, (SAVED, []))
-    long = shelf.folder / (255 * "n")
-    yield "a name of 255 letters", (saved(long), shelf.state(long.name)), (KEPT, (SAVED, []))
-    soft, hard = resource.getrlimit(resource.RLIMIT_NOFILE)
-    if hard < 1_100:
-        print("skip  names for new files that are all in use: so many files can't be open here")
-        return
-    resource.setrlimit(resource.RLIMIT_NOFILE, (max(soft, 1_100), hard))
-    kept, held = shelf.file("kept", OLD), []
-    for number in range(1_000):
-        held.append(open(shelf.file(f".moveledger-{number}", b"another's"), "rb"))
-        fcntl.flock(held[-1], fcntl.LOCK_EX)
-    yield "names for new files that are all in use", (saved(kept), kept.read_bytes()), (REFUSED, OLD)
-    for file in held:
-        file.close()
-    yield "names of 1,000 saves that were killed", (saved(kept), shelf.state("kept")), (KEPT, (SAVED, ["kept.previous"]))
+    long = shelf.folder / (238 * "n")
+    yield "a name of 238 letters", (saved(long), shelf.state(long.name)), (KEPT, (SAVED, []))
+    yield "and what stood there", (saved(long), shelf.state(long.name)), (KEPT, (SAVED, [f"{long.name}.previous"]))
+    other = shelf.file(".moveledger-x", b"")
+    link = shelf.folder / "link"
+    link.symlink_to(other.name)
+    found = saved(link), other.read_bytes()
+    yield "a link that leads to a name of the program's own", found, (NOT_KEPT, b"")
+
+
+def mounted(folder: Path, options: str) -> bool:
+    return subprocess.run(["mount", "-t", "tmpfs", "-o", options, "tmpfs", folder], stderr=subprocess.DEVNULL).returncode == 0
 
 
 def full_disk(folder: str) -> Cases:
-    """A disk that has no room for a ledger."""
-    if subprocess.run(["mount", "-t", "tmpfs", "-o", "size=8k", "tmpfs", folder], stderr=subprocess.DEVNULL).returncode != 0:
+    """Disks that have no room for a ledger, and a ledger that is a mount."""
+    found: object
+    disk, few, bound = Path(folder, "disk"), Path(folder, "few"), Path(folder, "bound")
+    for place in disk, few:
+        place.mkdir()
+    no_space = "No space left on device (os error 28)"
+    if not mounted(disk, "size=8k"):
         print("skip  a full disk: none can be mounted")
         return
     try:
-        kept, rest = Path(folder, "kept"), Path(folder, "rest")
+        kept, rest = disk / "kept", disk / "rest"
         kept.write_bytes(OLD)
         rest.write_bytes(bytes(4096))
-        found = saved(kept), kept.read_bytes(), sorted(os.listdir(folder))
-        yield "a full disk", found, (NOT_KEPT, OLD, ["kept", "rest"])
+        found = explained(["apply", "--save", kept, STREAM]), kept.read_bytes(), sorted(os.listdir(disk))
+        yield "a full disk", found, ((1, f"fault: write\nmoveledger: {kept}: {no_space}\n"), OLD, ["kept", "rest"])
         rest.unlink()
-        found = saved(kept), kept.read_bytes(), sorted(os.listdir(folder))
+        found = saved(kept), kept.read_bytes(), sorted(os.listdir(disk))
         yield "the same disk with room", found, (KEPT, SAVED, ["kept", "kept.previous"])
+        if mounted(few, "nr_inodes=2"):
+            kept = few / "kept"
+            kept.write_bytes(OLD)
+            found = explained(["apply", "--load", kept, "--save", kept, STREAM]), kept.read_bytes(), os.listdir(few)
+            yield "a disk that takes no more files", found, (not_kept(kept, no_space), OLD, ["kept"])
+        bound.write_bytes(OLD)
+        if subprocess.run(["mount", "--bind", bound, bound], stderr=subprocess.DEVNULL).returncode == 0:
+            why = "Invalid cross-device link (os error 18)"
+            loads: List[List[Given]] = [[], ["--load", bound]]
+            for load in loads:
+                found = explained(["apply", *load, "--save", bound, STREAM]), bound.read_bytes(), sorted(os.listdir(folder))
+                yield f"a ledger that is a mount{', and is loaded' if load else ''}", found, (not_kept(bound, why), OLD, ["bound", "disk", "few"])
     finally:
         # Also while something still looks into it.
-        subprocess.run(["umount", "--lazy", folder], check=True)
+        for place in disk, few, bound:
+            if os.path.ismount(place) or place == bound:
+                subprocess.run(["umount", "--lazy", place], stderr=subprocess.DEVNULL)
 
 
 def read_only(top: str) -> Cases:
@@ -488,15 +554,22 @@ def read_only(top: str) -> Cases:
         ("a folder that may only be written to", 0o333, 0o666),
     ):
         kept.chmod(mode)
-        yield shows, (tried("kept", folder_mode), kept.read_bytes()), ((REFUSED, ["kept"]), OLD)
-    yield "a new file in a folder that may only be read", tried("new", 0o555), (REFUSED, ["kept"])
+        came = tried("kept", folder_mode)
+        kept.chmod(0o644)
+        yield shows, (came, kept.read_bytes()), ((NOT_KEPT, ["kept"]), OLD)
+    yield "a new file in a folder that may only be read", tried("new", 0o555), (NOT_KEPT, ["kept"])
     if as_nobody:
         kept.write_bytes(b"")
         os.chown(kept, 65534, 0)
         kept.chmod(0o664)
         found = tried("kept", 0o777), kept.read_bytes(), kept.stat().st_gid, kept.stat().st_mode & 0o777
         yield "a group that can't be set may do what all others may", found, ((KEPT, ["kept"]), SAVED, 65534, 0o644)
+        kept.write_bytes(OLD)
+        os.chown(kept, 65533, 65533)
+        kept.chmod(0o666)
+        sticky = tried("kept", 0o1777), kept.read_bytes()
+        yield "another's file in a sticky folder", sticky, ((NOT_KEPT, ["kept"]), OLD)
 
 
 SAVING: List[Callable[[str], Cases]] = [
-    loaded_and_saved, in_use, slips, found_before, leftovers, ended_by_signals, migrated, replaced, written_to, named, full_disk, read_only]
+    loaded_and_saved, in_use, slips, found_before, leftovers, migrated, replaced, written_to, named, full_disk, read_only]

@@ -46,9 +46,11 @@ end_after_check (Err refusal.Memory) = Memory
 -- the end after a text was to be kept
 abbrev pub end_after_keeping : {A : Type 0} → Result A KeepError → End
 end_after_keeping (Ok done) = Done
-end_after_keeping (Err keep.Write) = Write
+end_after_keeping (Err (keep.Write number)) = Write
 end_after_keeping (Err keep.NoLedger) = Write
 end_after_keeping (Err keep.InUse) = Write
+end_after_keeping (Err (keep.NoLock number)) = Write
+end_after_keeping (Err keep.Name) = Write
 end_after_keeping (Err keep.Memory) = Memory
 
 -- the end where a command line isn't understood, or asks for help

@@ -76,8 +76,14 @@ pub fn end_of_keeping(kept: Result<(), KeepError>) -> End
 {
     match kept {
         Ok(()) => End::Done,
-        Err(KeepError::Write | KeepError::NoLedger | KeepError::InUse) => End::Write,
         Err(KeepError::Memory) => End::Memory,
+        Err(
+            KeepError::Write(_)
+            | KeepError::NoLedger
+            | KeepError::InUse
+            | KeepError::NoLock(_)
+            | KeepError::Name,
+        ) => End::Write,
     }
 }
 

@@ -37,8 +37,8 @@ pub use ending::{
 };
 pub use mv_analyser::ProveError;
 pub use mv_commands::{
-    Before, Hold, KeepError, LineError, Place, Seen, Task, command, is_one, keep, may_keep,
-    not_text,
+    Found, Hold, KeepError, LineError, Looks, Notice, Place, Seen, Sort, Stand, Task, Tell,
+    claim_place, command, is_one, keep, not_text, release,
 };
 pub use mv_ledger::{Ledger, LoadError};
 pub use pacing::{AfterRecord, Gathering, Prompt};

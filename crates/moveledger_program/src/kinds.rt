@@ -1,4 +1,6 @@
 // What a file plainly is, where it isn't what a command reads.
+ghost use Rattle.std.specs.Prelude.{◌≡◌, None};
+
 /// What the first bytes of a file are plainly the beginning of.
 #[derive(Clone, Copy, Debug, PartialEq, Eq)]
 pub enum Kind {
@@ -10,6 +12,8 @@ pub enum Kind {
     Text,
     /// A stream of records.
     Stream,
+    /// Zeros, with which no record begins.
+    Zeros,
 }
 
 /// How many of a file's bytes are looked at.
@@ -36,6 +40,7 @@ pub fn kind_of(front: &[u8]) -> Option<Kind> {
     }
     match front.first() {
         None => None,
+        Some(0) => Some(Kind::Zeros),
         Some(1..=4) => Some(Kind::Stream),
         Some(_) if front.iter().all(|byte| is_of_text(*byte)) => Some(Kind::Text),
         Some(_) => None,
@@ -43,13 +48,26 @@ pub fn kind_of(front: &[u8]) -> Option<Kind> {
 }
 
 impl Kind {
-    /// What is said of a file of this kind, where another one is wanted.
-    pub fn advice(self) -> &'static str {
-        match self {
-            Kind::Module => "this is a module, in bytes: `prove` and `check` take it",
-            Kind::Ledger => "this is a saved ledger: `apply --load` takes it",
-            Kind::Text => "this is text: tools/moveasm makes bytes of it",
-            Kind::Stream => "this is a stream of records: `apply` takes it",
+    /// What is said of a file of this kind, where another one is wanted; None where there is nothing to say.
+    pub fn advice(self, wanted: Kind) -> Option<&'static str>
+        ensures { self ≡ wanted → result ≡ None }
+    {
+        if self == wanted {
+            return None;
+        }
+        match (self, wanted) {
+            (Kind::Module, _) => Some("this is a module, in bytes: `prove` and `check` take it"),
+            (Kind::Ledger, _) => Some("this is a saved ledger: `apply --load` takes it"),
+            (Kind::Stream, _) => Some("this is a stream of records: `apply` takes it"),
+            (Kind::Text, Kind::Stream) => Some(
+                "this is a text, not a stream: assemble it first, `tools/moveasm FILE -o FILE.stream`",
+            ),
+            (Kind::Text, Kind::Module) => Some(
+                "this is a text, not a module: assemble it first, `tools/moveasm FILE -o FILE.module`",
+            ),
+            (Kind::Text, _) => Some("this is text, not a saved ledger"),
+            (Kind::Zeros, Kind::Stream) => Some("this begins with a zero, as no record does"),
+            (Kind::Zeros, _) => None,
         }
     }
 }

@@ -9,9 +9,11 @@
 //! ```
 #![tactic(auto)]
 
+mod files;
 mod kinds;
 mod meter;
 mod program;
+mod saving;
 mod told;
 
 use std::process::ExitCode;

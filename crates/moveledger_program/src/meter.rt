@@ -5,7 +5,7 @@ ghost use Rattle.moveledger_program.specs.Meter.{meter_text};
 use moveledger::{AfterRecord, EngineError};
 use std::alloc::{AllocError, Global};
 use std::cell::Cell;
-use std::io::{self, IsTerminal, Read, Write};
+use std::io::{self, IsTerminal, Printer, Read, Write};
 use std::time::{Duration, Instant};
 
 /// A reader that counts the bytes that it gives.
@@ -107,34 +107,125 @@ impl<'a> Screen<'a> {
     }
 }
 
-/// Standard output. Where that is a terminal, as standard error may be, the line there is taken away before anything is
-/// written.
+/// A writer that notes the system's number of a write that failed.
 #[derive(Drop)]
-pub struct Report<'a> {
+pub struct Noted<'a, W> {
+    inner: W,
+    failed: &'a Cell<Option<i32>>,
+}
+
+impl<'a, W: Write> Noted<'a, W> {
+    /// Notes it there.
+    pub fn new(inner: W, failed: &'a Cell<Option<i32>>) -> Self
+        ensures { W.contents result.inner ≡ W.contents inner }
+    {
+        Noted { inner, failed }
+    }
+}
+
+impl<W: Write> Write for Noted<'_, W> {
+    ghost contents = { λ r. W.contents r.inner };
+
+    fn write(&mut self, buf: &[u8]) -> io::Result<usize> {
+        match self.inner.write(buf) {
+            Ok(n) => Ok(n),
+            Err(e) => {
+                self.failed.set(e.raw_os_error());
+                Err(e)
+            }
+        }
+    }
+
+    fn flush(&mut self) -> io::Result<()> {
+        self.inner.flush()
+    }
+}
+
+/// The report, as it goes to standard output. Where that is a terminal, as standard error may be, the line there is taken away
+/// before anything is written.
+#[derive(Drop)]
+pub struct Report<'a, W> {
+    inner: W,
     screen: &'a Screen<'a>,
     is_terminal: bool,
 }
 
-impl<'a> Report<'a> {
+impl<'a, W: Write> Report<'a, W> {
     /// Standard output beside a screen.
-    pub fn new(screen: &'a Screen<'a>) -> Self {
+    pub fn new(inner: W, screen: &'a Screen<'a>) -> Self
+        ensures { W.contents result.inner ≡ W.contents inner }
+    {
         Report {
+            inner,
             screen,
             is_terminal: screen.rt.stdout().is_terminal(),
         }
     }
 }
 
-impl Write for Report<'_> {
+impl<W: Write> Write for Report<'_, W> {
+    ghost contents = { λ r. W.contents r.inner };
+
     fn write(&mut self, buf: &[u8]) -> io::Result<usize> {
         if self.is_terminal {
             self.screen.erase();
         }
-        io::writer(self.screen.rt).write(buf)
+        self.inner.write(buf)
     }
 
     fn flush(&mut self) -> io::Result<()> {
-        Ok(())
+        self.inner.flush()
+    }
+}
+
+/// Standard output, of which a failed write is noted. It has one lifetime, which is all that the borrow checker follows in the type of a
+/// writer that is handed on.
+#[derive(Drop)]
+pub struct Printing<'a> {
+    noted: Noted<'a, Printer<'a, HostRuntime>>,
+}
+
+impl<'a> Printing<'a> {
+    /// Notes a failed write there.
+    pub fn new(rt: &'a HostRuntime, failed: &'a Cell<Option<i32>>) -> Self {
+        Printing {
+            noted: Noted::new(io::writer(rt), failed),
+        }
+    }
+}
+
+impl Write for Printing<'_> {
+    fn write(&mut self, buf: &[u8]) -> io::Result<usize> {
+        self.noted.write(buf)
+    }
+
+    fn flush(&mut self) -> io::Result<()> {
+        self.noted.flush()
+    }
+}
+
+/// A report on standard output, likewise.
+#[derive(Drop)]
+pub struct Reported<'a> {
+    report: Report<'a, Printing<'a>>,
+}
+
+impl<'a> Reported<'a> {
+    /// Standard output beside a screen.
+    pub fn new(rt: &'a HostRuntime, failed: &'a Cell<Option<i32>>, screen: &'a Screen<'a>) -> Self {
+        Reported {
+            report: Report::new(Printing::new(rt, failed), screen),
+        }
+    }
+}
+
+impl Write for Reported<'_> {
+    fn write(&mut self, buf: &[u8]) -> io::Result<usize> {
+        self.report.write(buf)
+    }
+
+    fn flush(&mut self) -> io::Result<()> {
+        self.report.flush()
     }
 }
 

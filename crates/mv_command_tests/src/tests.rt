@@ -1,3 +1,4 @@
 // What stands in a file's place where a ledger is kept there.
 
+mod disk;
 mod keeping;

@@ -1,5 +1,5 @@
 // The command line.
-ghost use Rattle.std.specs.Prelude.{◌≡◌, [], ◌∷◌, IfOk, IfErr, OnOk, false, map, option_map};
+ghost use Rattle.std.specs.Prelude.{◌≡◌, [], ◌∷◌, IfOk, IfErr, IsTrue, OnOk, false, map, option_map};
 ghost use Rattle.clap.specs.Words.{app_of, fault_of, first_of, found_of, rows_of, rule_of, subcommand_of, subcommand_rows_of, takes};
 ghost use Rattle.clap.specs.declared.builder.Command.TheViews.{out-Command};
 ghost use Rattle.mv_commands.specs.Line.{apply, check, given_as, ledger_commands, migrate, moveledger, name_of, named_task, path_option, prove, task_in, seen, IsOfKind, IsWords};
@@ -38,6 +38,18 @@ pub enum LineError {
     /// An allocation failed.
     #[error("fault: memory")]
     Memory,
+}
+
+impl LineError {
+    /// Whether the words ask for help, which this error has then.
+    pub fn is_help(&self) -> bool
+        ensures { IsTrue result → IsOfKind (ErrorKind.DisplayHelp ∷ ErrorKind.DisplayVersion ∷ []) self.now }
+    {
+        match self {
+            LineError::Words(error) => !error.use_stderr(),
+            LineError::Memory => false,
+        }
+    }
 }
 
 /// A name that has to be given, and what help says of it.
@@ -129,7 +141,7 @@ fn check_command<'a>(alloc: Global) -> Result<Command<'a>, AllocError>
         .arg(name_arg(
             alloc,
             "CERT",
-            "The text of its certificate, as prove prints it",
+            "The file with the text of its certificate, as prove prints it",
         ))
 }
 
@@ -141,8 +153,10 @@ fn ledger_commands<'a>(alloc: Global) -> Result<Command<'a>, AllocError>
     Command::new(alloc, "moveledger")
         .about("A proved bytecode verifier for Move with a ledger of resources")
         .after_help(
-            "Exit status: 0 done; 1 a fault, which standard error names; 2 the command line isn't understood, or \
-             asks for help; 3 a module, a certificate or a saved ledger is refused, or a module is too complex.",
+            "Version: moveledger --version prints it\n\n\
+             Exit status: 0 done; 1 a fault, which standard error names; 2 a mistake in the command line, or\n\
+             help was asked for; 3 a module, a certificate or a saved ledger is refused, or a module is too\n\
+             complex.",
         )
         .subcommand_required(true)
         .subcommand(apply_command(alloc)?)?

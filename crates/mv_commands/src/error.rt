@@ -3,18 +3,25 @@ use std::alloc::AllocError;
 use std::io::{self, ErrorKind};
 use thiserror::Error;
 
-/// Why a text isn't kept.
+/// Why a text isn't kept. Where the system refused a call, its number is given, if there is one: `io::Error::from_raw_os_error`
+/// has its words.
 #[derive(Clone, Copy, Debug, PartialEq, Eq, Error)]
 pub enum KeepError {
     /// The file can't be made, written, synced or put into its place.
     #[error("fault: write")]
-    Write,
+    Write(Option<i32>),
     /// What stands there is no saved ledger, and isn't empty.
     #[error("fault: write")]
     NoLedger,
-    /// What stands there is a ledger that another program has in use.
+    /// Another program saves there.
     #[error("fault: write")]
     InUse,
+    /// The place can't be locked.
+    #[error("fault: write")]
+    NoLock(Option<i32>),
+    /// No ledger is saved by this name: it is empty, or one of the program's own.
+    #[error("fault: write")]
+    Name,
     /// An allocation failed.
     #[error("fault: memory")]
     Memory,
@@ -32,18 +39,19 @@ impl From<AllocError> for KeepError {
 }
 
 impl From<io::Error> for KeepError {
-    ghost use Rattle.std.specs.Prelude.{◌≡◌, ◌↔◌};
-    ghost use Rattle.std.specs.IoError.{error_kind};
+    ghost use Rattle.std.specs.Prelude.{◌≡◌, ◌≢◌, ◌⊎◌};
+    ghost use Rattle.std.specs.IoError.{error_kind, raw_os_error};
     ghost use Rattle.std.specs.declared.io.ErrorKind.TheVariants.{OutOfMemory};
-    ghost use Rattle.mv_commands.specs.declared.error.KeepError.TheVariants.{Memory};
+    ghost use Rattle.mv_commands.specs.declared.error.KeepError.TheVariants.{Memory, Write};
 
-    ghost from_gives = { λ e fault. (fault ≡ Memory) ↔ (error_kind e ≡ OutOfMemory) };
+    ghost from_gives = { λ e fault. ((error_kind e ≡ OutOfMemory) × (fault ≡ Memory))
+        ⊎ ((error_kind e ≢ OutOfMemory) × (fault ≡ Write (raw_os_error e))) };
 
     fn from(e: io::Error) -> Self {
         if e.kind() == ErrorKind::OutOfMemory {
             KeepError::Memory
         } else {
-            KeepError::Write
+            KeepError::Write(e.raw_os_error())
         }
     }
 }

@@ -1,23 +1,24 @@
 // A text takes the place of a file, whole or not at all.
-ghost use Rattle.std.specs.Prelude.{◌≡◌, IfOk, OnOk, option_map, string_bytes};
-ghost use Rattle.std.specs.Fs.{metadata_mode, permissions_mode};
+ghost use Rattle.std.specs.Prelude.{◌≡◌, OnOk};
 ghost use Rattle.std.specs.Io.KnownBytes.{Appends};
-ghost use Rattle.std.specs.Path.{path_bytes};
-ghost use Rattle.mv_commands.specs.Keeping.{folder_of, mode_while_written, previous_name};
+ghost use Rattle.mv_commands.specs.Keeping.{mode_while_written, mode_without_group};
 
-use crate::bytes::{MARK, filled, is_mark};
+use crate::bytes::MARK;
+use crate::claim::{Claim, Stand, is_ledger};
 use crate::error::KeepError;
-use crate::holding::{Before, Hold, Place, Seen, is_as_loaded, is_one};
-use crate::leftovers::new_file;
-use std::alloc::{AllocError, Global};
-use std::fs::{self, File, Metadata, OpenFile, OpenOptions, Permissions};
-use std::io::{self, ErrorKind, Write};
-use std::os::unix::fs::{MetadataExt, PermissionsExt, lchown};
-use std::path::{Path, PathBuf};
+use crate::fresh::{NewFile, fill};
+use crate::holding::{Found, Hold, Looks, Seen, Sort, is_as_loaded};
+use crate::names::{NotPut, put, put_first};
+use crate::on_disk::{OnDisk, Whose, number_of, set_aside};
+use crate::telling::{Notice, Tell};
+use std::fs::{self, File, OpenFile, OpenOptions, Permissions};
+use std::io::{self, Write};
+use std::os::unix::fs::{OpenOptionsExt, PermissionsExt, lchown};
+use std::path::Path;
 use std::rt::Files;
 
-/// The most names that are looked at, one after the other: 39 symbolic links, and what the last of them leads to.
-const MOST_NAMES: u32 = 40;
+/// How often a place is looked at that changes meanwhile.
+const TRIES: u32 = 3;
 
 /// The permissions that are asked for where no file stood.
 const NEW_MODE: u32 = 0o666;
@@ -28,320 +29,216 @@ const OWNER_BITS: u32 = 0o700;
 /// The bits of a mode by which all others may.
 const OTHER_BITS: u32 = 0o007;
 
-/// What is put behind the name of a ledger that stays beside the one that takes its place.
-const PREVIOUS: &str = ".previous";
-
-/// What a text is put into.
-#[derive(Drop)]
-enum Stand<F> {
-    /// What is no regular file, or is standard output: it is written to as it is.
-    AsItIs(F),
-    /// The place of a regular file, or of none that is there.
-    Place(Target),
-}
-
-/// The place of a regular file.
-#[derive(Drop)]
-struct Target {
-    path: PathBuf,
-    /// What stands there.
-    found: Option<Metadata>,
-    /// By which name that has to stay, if it has to.
-    previous: Option<String>,
-}
-
-/// Atomically replaces the file of this name by a text, or makes it. At any moment the old file is there, or the new one whole,
-/// even if the machine stops. A symbolic link stays, and what it leads to is replaced. The old file's mode is kept, and so are its
-/// owner and group if the program may set them. Anything that isn't a regular file, and standard output itself, is written to as
-/// it is.
+/// Replaces the file of a claimed place by the text of a ledger, or makes it; or writes the text to what is written to as it is, by
+/// its name `path`. At any moment the old file is there, or the new one whole, even if the machine stops. A symbolic link stays, and
+/// what it leads to is replaced. The old file's mode is kept, and so are its owner and group if the program may set them.
 ///
-/// What stands there is replaced if it is what was loaded, or is empty. Any other ledger stays beside the new one, and the name
-/// by which it stays is returned.
+/// What stands there is replaced if it is what was loaded, or is empty. Any other ledger stays beside the new one, by a name that is
+/// told before.
 ///
 /// # Errors
 ///
-/// `NoLedger` if what stands there isn't what was loaded, isn't empty and isn't a saved ledger; `InUse` if another program holds
-/// it; `Write` if it can't be replaced for another reason; `Memory` if an allocation failed. A regular file that stood there is
-/// as it was, unless only the last step failed, which syncs the folder after the file was replaced. No other file is left, except
-/// perhaps the name by which a ledger was to stay.
-pub fn keep<R: Files + AllocGlobal + Clone + Drop>(
+/// `NoLedger` if what stands there isn't what was loaded, isn't empty and isn't a saved ledger; `InUse` if another program has
+/// changed it meanwhile; `Write` if it can't be replaced for another reason; `Memory` if an allocation failed. The file that stood
+/// there is as it was, unless only the last step failed, which is told. Where the new file is whole it isn't removed: it stays by a
+/// name that is told.
+pub fn keep<R: Files + Looks + AllocGlobal, T: Tell>(
     rt: &R,
     path: &str,
-    before: Before,
+    stand: &Stand<R::File>,
+    loaded: Option<Seen>,
     text: &[u8],
-) -> Result<Option<String>, KeepError>
-where
-    R::File: Hold,
-{
-    match what_stands(rt, path, before)? {
-        Stand::AsItIs(mut file) => match file.write_all(text) {
-            Ok(()) => Ok(None),
-            Err(e) => Err(KeepError::from(e)),
-        },
-        Stand::Place(target) => replace(rt, target, text),
-    }
-}
-
-/// Tests whether `keep` can replace the file of this name, as far as that shows before there is a text. It opens no pipe, and
-/// changes no file that stays.
-///
-/// # Errors
-///
-/// As `keep`.
-pub fn may_keep<R: Files + AllocGlobal + Clone + Drop>(
-    rt: &R,
-    path: &str,
-    before: Before,
+    tell: &T,
 ) -> Result<(), KeepError>
 where
     R::File: Hold,
 {
-    if let Ok(found) = fs::metadata(rt, path) {
-        if !found.is_file() && !found.is_dir() {
-            return Ok(());
+    match stand {
+        Stand::AsItIs => {
+            let mut file = OpenOptions::new().append(true).open(rt, path)?;
+            Ok(as_it_is(&mut file, text)?)
         }
+        Stand::Place(claim) => replace(rt, claim, loaded, text, tell),
     }
-    let Stand::Place(target) = what_stands(rt, path, before)? else {
+}
+
+/// Writes a text to what is written to as it is.
+fn as_it_is<W: Write>(file: &mut W, text: &[u8]) -> io::Result<()>
+    ensures { OnOk result (Appends (W.contents file.old) (W.contents file.new) text.now) }
+{
+    file.write_all(text)
+}
+
+/// Puts a text into a place.
+fn replace<R: Files + Looks + AllocGlobal, T: Tell>(
+    rt: &R,
+    claim: &Claim<R::File>,
+    loaded: Option<Seen>,
+    text: &[u8],
+    tell: &T,
+) -> Result<(), KeepError>
+where
+    R::File: Hold,
+{
+    let found = rt.look(claim.target.as_str())?;
+    let file = match filled_file(rt, claim.new.as_path(), found, text) {
+        Ok(file) => file,
+        Err(NotFilled::NotMade(e)) => return Err(e),
+        Err(NotFilled::Part(e)) => {
+            let _ = fs::remove_file(rt, claim.new.as_path());
+            return Err(e);
+        }
+    };
+    let mut names = OnDisk::new(rt, tell, claim, &file);
+    let Err(e) = placed(&mut names, loaded) else {
         return Ok(());
     };
-    let folder = folder_of(target.path.as_path());
-    let _folder = File::open(rt, folder)?;
-    let (new, _file) = new_file(rt, folder, mode_while_written(&None))?;
-    Ok(fs::remove_file(rt, new.as_path())?)
+    if names.is_placed {
+        names.tell(Notice::Placed(number_of(e)));
+    } else if !names.is_lost {
+        let _ = set_aside(&mut names, Whose::Ours);
+    }
+    Err(e)
 }
 
-/// What a text of this name is put into.
-fn what_stands<R: Files + AllocGlobal>(
-    rt: &R,
-    path: &str,
-    before: Before,
-) -> Result<Stand<R::File>, KeepError>
-where
-    R::File: Hold,
-{
-    match OpenOptions::new().append(true).open(rt, path) {
-        Ok(file) => {
-            let found = file.metadata()?;
-            if found.is_file() && !is_one(Place::of(&found), before.output) {
-                return Ok(Stand::Place(target_of(rt, path, found, before.loaded)?));
-            }
-            Ok(Stand::AsItIs(file))
-        }
-        Err(e) if e.kind() == ErrorKind::NotFound => Ok(Stand::Place(Target {
-            path: led_to(rt, path)?,
-            found: None,
-            previous: None,
-        })),
-        Err(e) => Err(KeepError::from(e)),
-    }
+/// Why there is no new file that is whole.
+#[derive(Clone, Copy, Debug, PartialEq, Eq)]
+enum NotFilled {
+    /// It isn't there.
+    NotMade(KeepError),
+    /// It has a part.
+    Part(KeepError),
 }
 
-/// The place of a regular file that was found by a name.
-fn target_of<R: Files + AllocGlobal>(
+/// A new file with a text, with the mode of what stands in its place, and its owner and group if the program may set them.
+fn filled_file<R: Files>(
     rt: &R,
-    path: &str,
-    found: Metadata,
-    loaded: Option<Seen>,
-) -> Result<Target, KeepError>
-where
-    R::File: Hold,
-{
-    let path = led_to(rt, path)?;
-    // Otherwise it has no name by which it could be replaced.
-    if !is_one(Place::of(&found), Place::of_name(rt, path.as_path())) {
-        return Err(KeepError::Write);
-    }
-    let previous = if has_to_stay(rt, path.as_path(), &found, loaded)? {
-        Some(previous_name(rt.alloc(), path.as_path())?)
-    } else {
-        None
+    new: Path<'_>,
+    found: Option<Found>,
+    text: &[u8],
+) -> Result<R::File, NotFilled> {
+    let mode = found.map(|found| found.mode);
+    let mut options = OpenOptions::new();
+    options
+        .write(true)
+        .create_new(true)
+        .mode(mode_while_written(mode));
+    let file = match options.open(rt, new) {
+        Ok(file) => file,
+        Err(e) => return Err(NotFilled::NotMade(KeepError::from(e))),
     };
-    Ok(Target {
-        path,
-        found: Some(found),
-        previous,
-    })
+    let permissions = match found {
+        Some(found) => Some(given(rt, new, &found)),
+        None => None,
+    };
+    if text.len() < MARK {
+        return Err(NotFilled::Part(KeepError::NoLedger));
+    }
+    let (mark, body) = text.split_at(MARK);
+    let mut new_file = NewFile { file, permissions };
+    match fill(&mut new_file, mark, body) {
+        Ok(()) => Ok(new_file.file),
+        Err(e) => Err(NotFilled::Part(KeepError::from(e))),
+    }
+}
+
+/// Gives a new file the owner and the group of the old one, as far as the program may, and says which permissions it gets then.
+fn given<R: Files>(rt: &R, new: Path<'_>, old: &Found) -> Permissions {
+    let (owner, group) = (Some(old.owner), Some(old.group));
+    if lchown(rt, new, owner, group).is_ok() || lchown(rt, new, None, group).is_ok() {
+        return Permissions::from_mode(old.mode);
+    }
+    Permissions::from_mode(mode_without_group(old.mode))
+}
+
+/// The mode of a file whose group isn't that of the old one: the group may do no more than all others.
+fn mode_without_group(mode: u32) -> u32
+    ensures { result ≡ mode_without_group mode }
+{
+    mode & (OWNER_BITS | OTHER_BITS | (mode & OTHER_BITS) << 3)
+}
+
+/// The mode that a new file is made with: while it is written it is its owner's alone, where a file with a mode stood.
+fn mode_while_written(mode: Option<u32>) -> u32
+    ensures { result ≡ mode_while_written mode }
+{
+    match mode {
+        Some(mode) => mode & OWNER_BITS,
+        None => NEW_MODE,
+    }
+}
+
+/// Gives a new file that is whole its place.
+fn placed<R: Files + Looks + AllocGlobal, T: Tell>(
+    names: &mut OnDisk<'_, R, T>,
+    loaded: Option<Seen>,
+) -> Result<(), KeepError>
+where
+    R::File: Hold,
+{
+    for _ in 0..TRIES {
+        match placed_once(names, loaded) {
+            Ok(()) => return Ok(()),
+            Err(NotPut::Changed) => {}
+            Err(NotPut::Failed(e)) => return Err(e),
+        }
+    }
+    Err(KeepError::InUse)
+}
+
+/// Looks at the place, and gives the new file that place.
+fn placed_once<R: Files + Looks + AllocGlobal, T: Tell>(
+    names: &mut OnDisk<'_, R, T>,
+    loaded: Option<Seen>,
+) -> Result<(), NotPut>
+where
+    R::File: Hold,
+{
+    let Some(found) = names.rt.look(names.claim.target.as_str())? else {
+        return placed_first(names);
+    };
+    names.stands = Some(found.seen);
+    let stays = has_to_stay(names.rt, names.claim.target.as_path(), &found, loaded)?;
+    put(names, stays)
+}
+
+/// Gives the new file a place where nothing stands: by a link, which replaces nothing. Where the disk has no hard links, it is
+/// renamed.
+fn placed_first<R: Files + Looks + AllocGlobal, T: Tell>(
+    names: &mut OnDisk<'_, R, T>,
+) -> Result<(), NotPut>
+where
+    R::File: Hold,
+{
+    names.stands = None;
+    let put_first = put_first(names);
+    if names.is_placed {
+        let _ = fs::remove_file(names.rt, names.claim.new.as_path());
+        return put_first;
+    }
+    match put_first {
+        Err(NotPut::Failed(_)) if names.rt.look(names.claim.target.as_str())?.is_none() => {
+            put(names, false)
+        }
+        other => other,
+    }
 }
 
 /// Whether what stands in a place has to stay beside what takes it: it is a saved ledger, and isn't what was loaded.
 fn has_to_stay<R: Files>(
     rt: &R,
     path: Path<'_>,
-    found: &Metadata,
+    found: &Found,
     loaded: Option<Seen>,
-) -> Result<bool, KeepError>
-where
-    R::File: Hold,
-{
-    if found.len() == 0 || is_as_loaded(Seen::of(found), loaded) {
+) -> Result<bool, KeepError> {
+    if found.sort != Sort::File {
+        return Err(KeepError::NoLedger);
+    }
+    if found.seen.length == 0 || is_as_loaded(found.seen, loaded) {
         return Ok(false);
     }
-    let mut file = File::open(rt, path)?;
-    // What was loaded is held by this program, also where it was written to meanwhile.
-    let is_ours = is_one(Place::of(found), loaded.map(|seen| seen.place()));
-    if !is_ours && matches!(file.try_hold(), Ok(false)) {
-        return Err(KeepError::InUse);
-    }
-    if !is_ledger(&mut file)? {
+    if !is_ledger(&mut File::open(rt, path)?)? {
         return Err(KeepError::NoLedger);
     }
     Ok(true)
-}
-
-/// Whether a file begins as a saved ledger does.
-fn is_ledger<F: io::Read>(file: &mut F) -> io::Result<bool> {
-    let mut front = [0u8; MARK];
-    let n = filled(file, &mut front)?;
-    Ok(is_mark(&front[..n]))
-}
-
-/// Puts a text into the place of what stands there, or of nothing, and gives the name by which that stays, if it does.
-fn replace<R: Files + AllocGlobal + Clone + Drop>(
-    rt: &R,
-    target: Target,
-    text: &[u8],
-) -> Result<Option<String>, KeepError>
-where
-    R::File: Hold,
-{
-    let folder = File::open(rt, folder_of(target.path.as_path()))?;
-    let mode = mode_while_written(&permissions_of(&target.found));
-    let (new, mut file) = new_file(rt, folder_of(target.path.as_path()), mode)?;
-    let permissions = match &target.found {
-        Some(found) => Some(given(rt, new.as_path(), found)),
-        None => None,
-    };
-    let is_whole = written(&mut file, text, permissions);
-    let is_placed = placed(rt, &folder, is_whole, new.as_path(), &target);
-    if let Err(e) = is_placed {
-        let _ = fs::remove_file(rt, new.as_path());
-        return Err(KeepError::from(e));
-    }
-    folder.sync_all()?;
-    Ok(target.previous)
-}
-
-/// The permissions of a file, if there is one.
-fn permissions_of(found: &Option<Metadata>) -> Option<Permissions>
-    ensures { option_map permissions_mode result ≡ option_map metadata_mode found.now }
-{
-    match found {
-        Some(found) => Some(found.permissions()),
-        None => None,
-    }
-}
-
-/// Writes a new file's text, gives it its permissions, and waits until the disk has it.
-fn written<F: Write + OpenFile>(
-    file: &mut F,
-    text: &[u8],
-    permissions: Option<Permissions>,
-) -> io::Result<()>
-    ensures { OnOk result (Appends (F.contents file.old) (F.contents file.new) text.now) }
-{
-    file.write_all(text)?;
-    if let Some(permissions) = permissions {
-        file.set_permissions(permissions)?;
-    }
-    file.sync_all()
-}
-
-/// Gives a new file the owner and the group of the old one, as far as the program may, and says which permissions it gets then.
-fn given<R: Files>(rt: &R, new: Path<'_>, old: &Metadata) -> Permissions {
-    let permissions = old.permissions();
-    let (owner, group) = (Some(old.uid()), Some(old.gid()));
-    if lchown(rt, new, owner, group).is_ok() || lchown(rt, new, None, group).is_ok() {
-        return permissions;
-    }
-    Permissions::from_mode(mode_without_group(permissions.mode()))
-}
-
-/// The mode of a file whose group isn't that of the old one: the group may do no more than all others.
-fn mode_without_group(mode: u32) -> u32 {
-    mode & (OWNER_BITS | OTHER_BITS | (mode & OTHER_BITS) << 3)
-}
-
-/// Gives a new file that is whole the name of the old one. If the old one has to stay, it gets another name first. The folder is
-/// synced before the renaming, so that a folder that can't be synced is found while the old file still has its name.
-fn placed<R: Files>(
-    rt: &R,
-    folder: &R::File,
-    is_whole: io::Result<()>,
-    new: Path<'_>,
-    target: &Target,
-) -> io::Result<()> {
-    is_whole?;
-    let path = target.path.as_path();
-    if let Some(previous) = &target.previous {
-        named_too(rt, path, previous.as_str())?;
-    }
-    folder.sync_all()?;
-    fs::rename(rt, new, path)
-}
-
-/// Gives a ledger one more name, in the place of another ledger or of an empty file.
-fn named_too<R: Files>(rt: &R, path: Path<'_>, name: &str) -> io::Result<()> {
-    match fs::hard_link(rt, path, name) {
-        Err(e) if e.kind() == ErrorKind::AlreadyExists => {
-            if !may_go(rt, name)? {
-                return Err(e);
-            }
-            fs::remove_file(rt, name)?;
-            fs::hard_link(rt, path, name)
-        }
-        linked => linked,
-    }
-}
-
-/// Whether a name is that of a ledger or of an empty file.
-fn may_go<R: Files>(rt: &R, name: &str) -> io::Result<bool> {
-    let found = fs::symlink_metadata(rt, name)?;
-    Ok(found.is_file() && (found.len() == 0 || is_ledger(&mut File::open(rt, name)?)?))
-}
-
-/// The name to which a name leads by symbolic links.
-fn led_to<R: Files + AllocGlobal>(rt: &R, path: &str) -> Result<PathBuf, KeepError> {
-    let mut target = PathBuf::from_str(rt.alloc(), path)?;
-    for _ in 0..MOST_NAMES {
-        match fs::read_link(rt, target.as_path()) {
-            Ok(next) => {
-                target = folder_of(target.as_path()).join(rt.alloc(), next)?;
-            }
-            // It is no link, or there is nothing yet.
-            Err(e) if matches!(e.kind(), ErrorKind::InvalidInput | ErrorKind::NotFound) => {
-                return Ok(target);
-            }
-            Err(e) => return Err(KeepError::from(e)),
-        }
-    }
-    Err(KeepError::Write)
-}
-
-/// The folder that a file lies in.
-fn folder_of(path: Path<'_>) -> Path<'_>
-    ensures { path_bytes result ≡ folder_of (path_bytes path.entry) }
-{
-    match path.parent() {
-        Some(folder) if !folder.as_str().is_empty() => folder,
-        _ => Path::new("."),
-    }
-}
-
-/// The name by which a ledger stays.
-fn previous_name(alloc: Global, path: Path<'_>) -> Result<String, AllocError>
-    ensures { IfOk result (λ name. string_bytes name ≡ previous_name (path_bytes path.entry)) }
-{
-    let mut name = String::from_str(alloc, path.as_str())?;
-    name.push_str(PREVIOUS)?;
-    Ok(name)
-}
-
-/// The mode that a new file is made with: while it is written it is its owner's alone, where a file with permissions stood.
-fn mode_while_written(permissions: &Option<Permissions>) -> u32
-    ensures { result ≡ mode_while_written (option_map permissions_mode permissions.now) }
-{
-    match permissions {
-        Some(permissions) => permissions.mode() & OWNER_BITS,
-        None => NEW_MODE,
-    }
 }

@@ -14,14 +14,25 @@
 #![tactic(auto)]
 
 mod bytes;
+mod claim;
 mod command_line;
 mod error;
+mod fresh;
 mod holding;
 mod keeping;
-mod leftovers;
+mod names;
+mod on_disk;
+mod own_names;
+mod shelf;
+mod telling;
 
 pub use bytes::{MARK, filled, is_mark};
+pub use claim::{Claim, Stand, claim_place, release};
 pub use command_line::{LineError, Task, command, not_text};
 pub use error::KeepError;
-pub use holding::{Before, Hold, Place, Seen, is_one};
-pub use keeping::{keep, may_keep};
+pub use fresh::{Fresh, NewFile, fill};
+pub use holding::{Found, Hold, Lock, Looks, Place, Seen, Sort, held, is_one};
+pub use keeping::keep;
+pub use names::{Names, NotPut, put, put_aside, put_first};
+pub use shelf::Shelf;
+pub use telling::{Notice, Tell};

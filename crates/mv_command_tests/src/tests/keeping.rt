@@ -1,369 +1,252 @@
-// A disk whose calls fail, one after the other: what stands in a file's place, and what is left beside it.
+// What stands in a ledger's place, and beside it, whatever happens at whichever call of the programs that save there.
 
-use mv_commands::{Before, Hold, KeepError, Seen, keep, may_keep};
-use std::alloc::{Allocator, Global};
-use std::cell::Cell;
-use std::fs::{Metadata, OpenFile, OpenOptions, Permissions};
-use std::io::{self, ErrorKind, Read, Seek, SeekFrom, Write};
-use std::path::PathBuf;
+use crate::tests::disk::{Disk, Event, LEDGER, LINK, Program, Text};
+use mv_commands::{KeepError, Looks, Seen, Stand, claim_place, keep, release};
+use std::alloc::Global;
 use std::process::Abort;
-use std::rt::Files;
-use std::test::Fail;
 
-/// A disk with a file that may stand in a folder, one by which it stays, and a new one beside them: the last byte of each, if it
-/// is there.
-#[derive(Drop)]
-struct Disk {
-    /// Where the file lies: a link of the folder that the program runs in leads there, or it is that folder.
-    way: Way,
-    old: Cell<Option<u8>>,
-    new: Cell<Option<u8>>,
-    previous: Cell<Option<u8>>,
-    /// What the new file has that isn't synced.
-    is_dirty: Cell<bool>,
-    /// Whether a file that wasn't synced got the old one's name.
-    is_early: Cell<bool>,
-    /// How many calls there were, and which one of them fails.
-    calls: Cell<u32>,
-    failing: u32,
+/// The ledger that stands there, that of somebody else, and those that programs save.
+const OLD: &[u8] = b"MVL2o";
+
+const OTHER: &[u8] = b"MVL2x";
+
+const FIRST: &[u8] = b"MVL2a";
+
+const SECOND: &[u8] = b"MVL2b";
+
+/// What stands in the place before, and what is loaded.
+#[derive(Clone, Copy, Debug, PartialEq, Eq)]
+struct Before {
+    stands: Option<&'static [u8]>,
+    is_loaded: bool,
 }
 
-/// The way from the name that is given to the file.
-#[derive(Clone, Copy)]
-struct Way {
-    /// What the link has, if the name that is given is one.
-    link: Option<&'static str>,
-    folder: &'static str,
-    file: &'static str,
-    previous: &'static str,
-}
-
-const HERE: Way = Way {
-    link: None,
-    folder: ".",
-    file: "ledger",
-    previous: "ledger.previous",
-};
-
-const FAR: Way = Way {
-    link: Some("far/ledger"),
-    folder: "./far",
-    file: "./far/ledger",
-    previous: "./far/ledger.previous",
-};
-
-/// The name that is given.
-const LEDGER: &str = "ledger";
-
-impl Disk {
-    fn with(way: Way, old: Option<u8>, failing: u32) -> Self {
-        Disk {
-            way,
-            old: Cell::new(old),
-            new: Cell::new(None),
-            previous: Cell::new(None),
-            is_dirty: Cell::new(false),
-            is_early: Cell::new(false),
-            calls: Cell::new(0),
-            failing,
-        }
-    }
-
-    /// Counts a call, and says whether it goes well.
-    fn called(&self) -> io::Result<()> {
-        self.calls.set(self.calls.get().saturating_add(1));
-        if self.calls.get() == self.failing {
-            return Err(io::Error::from(ErrorKind::Other));
-        }
-        Ok(())
-    }
-
-    /// What a file has, by its name. A new one has to lie in the file's own folder.
-    fn named(&self, path: &str) -> io::Result<&Cell<Option<u8>>> {
-        if path == LEDGER || path == self.way.file {
-            return Ok(&self.old);
-        }
-        if path == self.way.previous {
-            return Ok(&self.previous);
-        }
-        match path.rsplit_once('/') {
-            Some((folder, _)) if folder == self.way.folder => Ok(&self.new),
-            _ => Err(io::Error::from(ErrorKind::NotFound)),
-        }
-    }
-}
-
-/// A file of the disk that is open; None is its folder.
-#[derive(Drop)]
-struct Open<'a> {
-    disk: &'a Disk,
-    holds: Option<&'a Cell<Option<u8>>>,
-    is_read: bool,
-}
-
-/// What the file begins with, where it has to stay.
-const MARK: [u8; 4] = *b"MVL2";
-
-impl Read for Open<'_> {
-    fn read(&mut self, buf: &mut [u8]) -> io::Result<usize> {
-        if self.is_read || buf.len() < 4 {
-            return Ok(0);
-        }
-        self.is_read = true;
-        buf[..4].copy_from_slice(&MARK);
-        Ok(4)
-    }
-}
-
-impl Write for Open<'_> {
-    fn write(&mut self, buf: &[u8]) -> io::Result<usize> {
-        self.disk.called()?;
-        let (Some(file), Some(byte)) = (self.holds, buf.first()) else {
-            return Ok(0);
-        };
-        file.set(Some(*byte));
-        self.disk.is_dirty.set(true);
-        Ok(1)
-    }
-
-    fn flush(&mut self) -> io::Result<()> {
-        Ok(())
-    }
-}
-
-impl Seek for Open<'_> {
-    fn seek(&mut self, _to: SeekFrom) -> io::Result<u64> {
-        Ok(0)
-    }
-}
-
-impl OpenFile for Open<'_> {
-    fn metadata(&self) -> io::Result<Metadata> {
-        self.disk.called()?;
-        Ok(Metadata::of_file(1))
-    }
-
-    fn set_len(&self, _size: u64) -> io::Result<()> {
-        Ok(())
-    }
-
-    fn sync_all(&self) -> io::Result<()> {
-        self.disk.called()?;
-        if self.holds.is_some() {
-            self.disk.is_dirty.set(false);
-        }
-        Ok(())
-    }
-
-    fn sync_data(&self) -> io::Result<()> {
-        self.sync_all()
-    }
-
-    fn set_permissions(&self, _perm: Permissions) -> io::Result<()> {
-        self.disk.called()
-    }
-}
-
-impl Hold for Open<'_> {
-    fn try_hold(&self) -> io::Result<bool> {
-        Ok(true)
-    }
-}
-
-/// A runtime that has this disk.
-#[derive(Clone, Copy)]
-struct Runtime<'a>(&'a Disk);
-
-impl<'a> Files for Runtime<'a> {
-    type File = Open<'a>;
-
-    type Dir = io::Empty;
-
-    fn open_file(&self, how: &OpenOptions, path: &str) -> io::Result<Open<'a>> {
-        let disk = self.0;
-        disk.called()?;
-        let way = disk.way;
-        if path == way.folder {
-            return Ok(Open {
-                disk,
-                holds: None,
-                is_read: true,
-            });
-        }
-        let file = disk.named(path)?;
-        if how.asks_create_new() {
-            file.set(Some(0));
-        }
-        if file.get().is_none() {
-            return Err(io::Error::from(ErrorKind::NotFound));
-        }
-        Ok(Open {
-            disk,
-            holds: Some(file),
-            is_read: false,
-        })
-    }
-
-    fn open_dir(&self, _path: &str) -> io::Result<io::Empty> {
-        Ok(io::empty())
-    }
-
-    fn metadata(&self, path: &str) -> io::Result<Metadata> {
-        self.0.called()?;
-        if self.0.named(path)?.get().is_none() {
-            return Err(io::Error::from(ErrorKind::NotFound));
-        }
-        Ok(Metadata::of_file(1))
-    }
-
-    fn symlink_metadata(&self, path: &str) -> io::Result<Metadata> {
-        self.metadata(path)
-    }
-
-    fn copy(&self, _from: &str, _to: &str) -> io::Result<u64> {
-        Err(io::Error::from(ErrorKind::Unsupported))
-    }
-
-    fn rename(&self, from: &str, to: &str) -> io::Result<()> {
-        let disk = self.0;
-        disk.called()?;
-        let way = disk.way;
-        if disk.is_dirty.get() || to != way.file {
-            disk.is_early.set(true);
-        }
-        disk.named(to)?.set(disk.named(from)?.get());
-        disk.named(from)?.set(None);
-        Ok(())
-    }
-
-    fn remove_file(&self, path: &str) -> io::Result<()> {
-        self.0.named(path)?.set(None);
-        Ok(())
-    }
-
-    fn create_dir(&self, _path: &str) -> io::Result<()> {
-        Err(io::Error::from(ErrorKind::Unsupported))
-    }
-
-    fn remove_dir(&self, _path: &str) -> io::Result<()> {
-        Err(io::Error::from(ErrorKind::Unsupported))
-    }
-
-    fn remove_dir_all<B: Allocator>(&self, _alloc: B, _path: &str) -> io::Result<()> {
-        Err(io::Error::from(ErrorKind::Unsupported))
-    }
-
-    fn read_link<B: Allocator>(&self, alloc: B, path: &str) -> io::Result<PathBuf<B>> {
-        let disk = self.0;
-        disk.called()?;
-        let way = disk.way;
-        match way.link {
-            Some(link) if path == LEDGER => Ok(PathBuf::from_str(alloc, link)?),
-            _ => Err(io::Error::from(ErrorKind::InvalidInput)),
-        }
-    }
-
-    fn hard_link(&self, original: &str, link: &str) -> io::Result<()> {
-        self.0.called()?;
-        if self.0.named(link)?.get().is_some() {
-            return Err(io::Error::from(ErrorKind::AlreadyExists));
-        }
-        self.0.named(link)?.set(self.0.named(original)?.get());
-        Ok(())
-    }
-}
-
-const OLD: u8 = b'o';
-
-const NEW: u8 = b'n';
-
-/// What was loaded: the file as the disk describes it, or none.
-fn before(is_loaded: bool) -> Before {
-    let loaded = if is_loaded {
-        Some(Seen::of(&Metadata::of_file(1)))
-    } else {
-        None
-    };
+const BEFORE: [Before; 4] = [
     Before {
-        output: None,
-        loaded,
+        stands: None,
+        is_loaded: false,
+    },
+    Before {
+        stands: Some(b""),
+        is_loaded: false,
+    },
+    Before {
+        stands: Some(OLD),
+        is_loaded: true,
+    },
+    Before {
+        stands: Some(OLD),
+        is_loaded: false,
+    },
+];
+
+/// A program claims the place of this name, loads what stands there if it is to, and saves a text.
+fn saves(
+    disk: &Disk,
+    alloc: Global,
+    who: u8,
+    path: &str,
+    is_loaded: bool,
+    text: &[u8],
+) -> Result<(), KeepError> {
+    let rt = (Program { disk, who }, alloc);
+    let load = if is_loaded { Some(path) } else { None };
+    let stand = claim_place(&rt, path, None, load, disk)?;
+    let loaded = match (&stand, is_loaded) {
+        (Stand::Place(_), true) => seen(&rt, path)?,
+        _ => None,
+    };
+    disk.is_loaded();
+    let kept = keep(&rt, path, &stand, loaded, text, disk);
+    release(&rt, stand);
+    kept
+}
+
+/// What is found under a name.
+fn seen<R: Looks>(rt: &R, path: &str) -> Result<Option<Seen>, KeepError> {
+    Ok(rt.look_through(path)?.map(|found| found.seen))
+}
+
+/// A disk on which this stands, and on which this happens at a call.
+fn disk_with(before: Before, event: Event, at: u32) -> Disk {
+    let disk = Disk::new(event, at);
+    if let Some(text) = before.stands {
+        disk.has(LEDGER, text);
+    }
+    disk.has("other", OTHER);
+    disk
+}
+
+// What has to be true at any moment: the old ledger is there, or the one that the first program went on with from it; what was saved
+// is there; a name that had a ledger has a whole one.
+fn nothing_is_lost(
+    rt: &impl Abort,
+    disk: &Disk,
+    before: Before,
+    saved: &[(&'static [u8], bool)],
+    shows: &str,
+    at: u32,
+) {
+    if before.stands == Some(OLD) {
+        let is_there = disk.keeps(OLD) || before.is_loaded && disk.keeps(FIRST);
+        assert!(rt; is_there, "{shows} at call {at}: the old ledger");
+        let text = disk.text(LEDGER);
+        let wholes = [OLD, FIRST, SECOND];
+        let is_whole = wholes.iter().any(|whole| text == Some(Text::of(whole)));
+        assert!(rt;
+            is_whole,
+            "{shows} at call {at}: a whole ledger in the place"
+        );
+    }
+    for (text, is_saved) in saved {
+        let is_there = !*is_saved || disk.keeps(text);
+        assert!(rt; is_there, "{shows} at call {at}: a ledger that was saved");
     }
 }
 
-/// What came of a text that was to be kept: how it ended, what the file then has, what the new one has, and whether a file got
-/// the old one's name before the disk had it.
-type Kept = (Result<(), KeepError>, Option<u8>, Option<u8>, bool);
-
-/// How a text of one byte is kept on a disk with this file, of whose calls one fails, and how many calls there were.
-fn kept(alloc: Global, way: Way, old: Option<u8>, failing: u32) -> (Kept, u32) {
-    let disk = Disk::with(way, old, failing);
-    let result = match keep(&(Runtime(&disk), alloc), LEDGER, before(true), &[NEW]) {
-        Ok(_) => Ok(()),
-        Err(e) => Err(e),
-    };
-    let kept = (result, disk.old.get(), disk.new.get(), disk.is_early.get());
-    (kept, disk.calls.get())
-}
-
-// Of so many calls that replace a file this one fails, or none where it is behind them.
-fn stays_whole(
-    rt: &impl Abort,
-    alloc: Global,
-    way: Way,
-    old: Option<u8>,
-    calls: u32,
-    failing: u32,
-) {
-    let (found, called) = kept(alloc, way, old, failing);
-    let is_new = failing >= calls;
-    let wanted = if failing > calls {
-        Ok(())
-    } else {
-        Err(KeepError::Write)
-    };
-    let text = if is_new { Some(NEW) } else { old };
-    assert_eq!(rt; found, (wanted, text, None, false), "call {failing}");
-    assert!(rt; called == calls || failing <= calls, "{called} calls");
-}
-
-// The calls of a file that is replaced: the old file and what that is, its link, its name; its folder, the new file, what that
-// is and what has its name, a write, its mode, its sync, the folder's, the new name, and the folder's sync again. After the last
-// but one there is the new text.
+// Each call fails, one after the other.
 #[test]
 fn files_stay_whole_whichever_call_fails(rt: HostRuntime) {
-    for (way, old, calls) in [
-        (HERE, Some(OLD), 14u32),
-        (HERE, None, 11),
-        (FAR, Some(OLD), 15),
-    ] {
-        for failing in 1..=calls.saturating_add(1) {
-            stays_whole(&rt, rt.alloc(), way, old, calls, failing);
+    for before in BEFORE {
+        for path in [LEDGER, LINK] {
+            for at in 1..=MOST_CALLS {
+                let disk = disk_with(before, Event::Fails, at);
+                let kept = saves(&disk, rt.alloc(), 1, path, before.is_loaded, FIRST);
+                let is_saved = kept == Ok(());
+                nothing_is_lost(&rt, &disk, before, &[(FIRST, is_saved)], "fails", at);
+                assert!(rt;
+                    !is_saved || disk.text(LEDGER) == Some(Text::of(FIRST)),
+                    "saved at {at}"
+                );
+                assert!(rt;
+                    is_saved
+                        || matches!(
+                            kept,
+                            Err(KeepError::Write(Some(5)) | KeepError::NoLock(Some(5)))
+                        ),
+                    "reason at {at}"
+                );
+                assert!(rt; at <= disk.called() || is_saved, "no call {at}");
+            }
         }
     }
 }
 
-// A ledger that wasn't loaded stays by another name, beside the file that a link leads to.
+/// More calls than a save has.
+const MOST_CALLS: u32 = 80;
+
+// A program is killed, or the machine stops, at each call. Then another one saves there, which has loaded what stands there or
+// nothing. Nothing of what ended well is lost, and no lock is left that keeps the second one off.
 #[test]
-fn another_ledger_stays(rt: HostRuntime) -> Result<(), Fail> {
-    for way in [HERE, FAR] {
-        let disk = Disk::with(way, Some(OLD), 0);
-        let named = match keep(&(Runtime(&disk), rt.alloc()), LEDGER, before(false), &[NEW]) {
-            Ok(Some(name)) => name.as_str() == way.previous,
-            _ => false,
-        };
-        let texts = (disk.old.get(), disk.previous.get(), disk.new.get());
-        assert_eq!(rt; (named, texts), (true, (Some(NEW), Some(OLD), None)));
+fn killed_at_each_call_and_another_follows(rt: HostRuntime) {
+    for event in [Event::Killed, Event::Stops, Event::StopsWithNames] {
+        for before in BEFORE {
+            for at in 1..=MOST_CALLS {
+                let disk = disk_with(before, event, at);
+                let first = saves(&disk, rt.alloc(), 1, LEDGER, before.is_loaded, FIRST);
+                let is_first = first == Ok(());
+                nothing_is_lost(&rt, &disk, before, &[(FIRST, is_first)], "killed", at);
+                let second = saves(&disk, rt.alloc(), 2, LEDGER, false, SECOND);
+                assert_eq!(rt;
+                    second,
+                    Ok(()),
+                    "the second one after {at} of {event:?}, {before:?}"
+                );
+                let saved = [(FIRST, is_first), (SECOND, true)];
+                nothing_is_lost(&rt, &disk, before, &saved, "followed", at);
+                assert!(rt; !disk.has_leftovers(), "leftovers after {at}");
+            }
+        }
     }
-    Ok(())
 }
 
-// That a text can be kept is asked without a change.
+// Somebody moves a ledger into the place, at each call: it stays, except where that is after the last look at it. Then it is the
+// next call that puts the new ledger there.
 #[test]
-fn asking_changes_nothing(rt: HostRuntime) {
-    for old in [Some(OLD), None] {
-        let disk = Disk::with(HERE, old, 0);
-        let may = may_keep(&(Runtime(&disk), rt.alloc()), LEDGER, before(true));
-        let texts = (disk.old.get(), disk.previous.get(), disk.new.get());
-        assert_eq!(rt; (may, texts), (Ok(()), (old, None, None)));
+fn what_is_moved_in_stays(rt: HostRuntime) {
+    for before in BEFORE {
+        let mut lost = 0u32;
+        for at in 1..=MOST_CALLS {
+            let disk = disk_with(before, Event::Moved, at);
+            let kept = saves(&disk, rt.alloc(), 1, LEDGER, before.is_loaded, FIRST);
+            assert!(rt;
+                kept != Ok(()) || disk.keeps(FIRST),
+                "saved with one moved in at {at}"
+            );
+            let is_seen = !before.is_loaded || at > disk.loaded();
+            if is_seen
+                && at <= disk.called()
+                && disk.text("other").is_none()
+                && !disk.keeps(OTHER)
+            {
+                lost = lost.saturating_add(1);
+            }
+        }
+        let window = if before.stands.is_some() { 1 } else { 0 };
+        assert!(rt; lost <= window, "{lost} lost");
     }
+}
+
+// Two programs: the second one is refused while the first has the place, and saves after it.
+#[test]
+fn two_programs_save_in_turn(rt: HostRuntime) {
+    let disk = disk_with(
+        Before {
+            stands: Some(OLD),
+            is_loaded: false,
+        },
+        Event::Nothing,
+        0,
+    );
+    let first = (
+        Program {
+            disk: &disk,
+            who: 1,
+        },
+        rt.alloc(),
+    );
+    let Ok(stand) = claim_place(&first, LEDGER, None, None, &disk) else {
+        assert!(rt; false, "no claim");
+        return;
+    };
+    let refused = saves(&disk, rt.alloc(), 2, LEDGER, false, SECOND);
+    assert!(rt; refused == Err(KeepError::InUse));
+    let refused = saves(&disk, rt.alloc(), 2, LINK, false, SECOND);
+    assert!(rt; refused == Err(KeepError::InUse));
+    assert!(rt; keep(&first, LEDGER, &stand, None, FIRST, &disk) == Ok(()));
+    release(&first, stand);
+    assert!(rt; saves(&disk, rt.alloc(), 2, LEDGER, false, SECOND) == Ok(()));
+    for (name, text) in [
+        (LEDGER, SECOND),
+        ("ledger.previous", OLD),
+        ("ledger.previous-1", FIRST),
+    ] {
+        assert!(rt; disk.text(name) == Some(Text::of(text)), "{name}");
+    }
+    assert!(rt; !disk.has_leftovers());
+}
+
+// What isn't a ledger stays; nor is one saved by the program's own names.
+#[test]
+fn refused_places_are_as_they_were(rt: HostRuntime) {
+    let text = Before {
+        stands: Some(b"text"),
+        is_loaded: false,
+    };
+    let disk = disk_with(text, Event::Nothing, 0);
+    assert!(rt; saves(&disk, rt.alloc(), 1, LEDGER, false, FIRST) == Err(KeepError::NoLedger));
+    assert!(rt; disk.text(LEDGER) == Some(Text::of(b"text")) && !disk.has_leftovers());
+    for (name, error) in [
+        ("", KeepError::Name),
+        (".moveledger-lock-ledger", KeepError::Name),
+        ("ledger/.moveledger-0", KeepError::Name),
+        ("ledger/", KeepError::Write(Some(21))),
+        ("..", KeepError::Write(Some(21))),
+    ] {
+        assert!(rt;
+            saves(&disk, rt.alloc(), 1, name, false, FIRST) == Err(error),
+            "{name}"
+        );
+    }
+    assert!(rt; !disk.has_leftovers());
 }
