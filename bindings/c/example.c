@@ -146,7 +146,7 @@ static void answer(moveledger *ledger, const struct text *records, uint64_t *ans
 
 int main(void)
 {
-    moveledger ledger = {NULL};
+    moveledger ledger = {NULL, 0};
     uint64_t answered = 0;
     struct text block = {.length = 0}, next = {.length = 0};
     moveledger_bytes saved = {NULL, 0, NULL}, lines = {NULL, 0, NULL};

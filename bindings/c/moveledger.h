@@ -1,13 +1,25 @@
 /* moveledger.h: the ledger as a library.
  *
- * A ledger is held by a `moveledger` of yours, a struct of one pointer, which is NULL where it holds none. One ledger is used by
- * one call at a time; different ledgers may be used by different threads at the same time. Every call returns, and answers a
- * status. No call aborts the process. What a call changes, and what stays as it was, stands beside it. */
+ * A ledger is held by a `moveledger` of yours, which holds none where `own` is NULL. Calls that only read (save, show, audit) may use one
+ * ledger at once; a call that changes it (apply, free) is alone with it. A call that finds the ledger in use answers BUSY, and nothing
+ * changes. Different ledgers may be used by different threads at the same time. Every call returns, and answers a status. No call aborts
+ * the process, if its thread has moveledger_stack_bytes of stack. What a call changes, and what stays as it was, stands beside it.
+ *
+ * Compilers: what has the __atomic builtins (GCC, Clang), otherwise C11 with <stdatomic.h>. */
 #ifndef MOVELEDGER_H
 #define MOVELEDGER_H
 
 #include <stddef.h>
 #include <stdint.h>
+
+#if !defined(__GNUC__) && !defined(__cplusplus)
+#include <stdatomic.h>
+#endif
+
+/* The version that this header is of. */
+#define MOVELEDGER_VERSION "1.0.0"
+/* How much stack any call may take, in bytes. */
+#define moveledger_stack_bytes ((size_t)1 << 20)
 
 #ifdef __cplusplus
 extern "C" {
@@ -21,14 +33,21 @@ enum moveledger_status {
     MOVELEDGER_LOAD_REFUSED = 2,   /* bytes are no saved ledger: *why is the reason */
     MOVELEDGER_TOO_COMPLEX = 3,    /* the search for a certificate reached its limits */
     MOVELEDGER_MEMORY = 4,         /* an allocation failed */
-    MOVELEDGER_ARGUMENTS = 5       /* a null pointer where none is allowed, a `moveledger` that holds no ledger, an unknown form,
+    MOVELEDGER_ARGUMENTS = 5,      /* a null pointer where none is allowed, a `moveledger` that holds no ledger, an unknown form,
                                       or a length above PTRDIFF_MAX; no ledger, count or report changed */
+    MOVELEDGER_BUSY = 6            /* another call uses the ledger; nothing changed, and it may be asked again */
 };
 
-/* What holds a ledger, or none: begin with {NULL}. The ledger is the library's own; never copy it to a second one that is used. */
+/* What holds a ledger, or none: begin with {NULL, 0}. Both parts are the library's own; never copy it to a second one that is used. */
 typedef struct moveledger {
     void *own;
+    int32_t users;                      /* how many calls read it now; -1 while one changes it */
 } moveledger;
+
+/* What the library itself takes: it never sees `users`. */
+typedef struct moveledger_own {
+    void *own;
+} moveledger_own;
 
 /* Bytes that the library gives: `length` bytes at `bytes`, to be given back by moveledger_bytes_free. They may be read and
  * written. Empty bytes may have bytes == NULL. */
@@ -42,26 +61,29 @@ typedef struct moveledger_bytes {
 enum moveledger_form { MOVELEDGER_TEXT = 0, MOVELEDGER_JSON = 1 };
 
 /* An empty ledger in *ledger. After anything but DONE *ledger holds none. What it held before is overwritten, and not freed. */
-int32_t moveledger_new(moveledger *ledger);
+int32_t moveledger_new(moveledger_own *ledger);
 /* The ledger that the bytes save, in *ledger, as with moveledger_new; *why is the reason after LOAD_REFUSED, otherwise 0. */
-int32_t moveledger_load(const uint8_t *saved, size_t length, moveledger *ledger, uint8_t *why);
-/* Frees a ledger: *ledger then holds none. Where it holds none, and at NULL, nothing is done. */
-void moveledger_free(moveledger *ledger);
+int32_t moveledger_load(const uint8_t *saved, size_t length, moveledger_own *ledger, uint8_t *why);
+/* Frees a ledger: *ledger then holds none. Where it holds none, and at NULL, nothing is done. Through this header it answers DONE or BUSY. */
+void moveledger_free(moveledger_own *ledger);
 
 /* Answers the records in `records`, and appends their lines to *report (begin with {NULL, 0, NULL}). Records are numbered from
  * *answered + 1, and *answered goes up by the number of records that were answered, so that several calls go on where the
- * last one ended. A cut record at the end is answered as the last one (`refused 1`), as at the end of a stream.
+ * last one ended. A cut record at the end is answered as the last one (`refused 1`), as at the end of a stream. The records may not lie in
+ * the report's own bytes. After 2^64 - 1 records none is answered any more.
  * MEMORY: the report is a beginning of the whole one, and the ledger is as some records left it: the records up to *answered,
  * and perhaps the one after them (whose lines may be written in part). */
-int32_t moveledger_apply(moveledger *ledger, const uint8_t *records, size_t length, uint64_t *answered, moveledger_bytes *report);
+int32_t moveledger_apply(moveledger_own *ledger, const uint8_t *records, size_t length, uint64_t *answered, moveledger_bytes *report);
 /* The ledger's text, as `apply --save` writes it, in *saved. The ledger stays as it was. Here and below, what `*saved`, `*lines`,
- * `*certificate` or `*migrated` held before is overwritten, and not freed; after anything but DONE it is {NULL, 0, NULL}. */
-int32_t moveledger_save(moveledger *ledger, moveledger_bytes *saved);
+ * `*certificate` or `*migrated` held before is overwritten, and not freed; after anything but DONE it is {NULL, 0, NULL}, and where there
+ * is a `*why`, it is 0 unless the status has a reason. */
+int32_t moveledger_save(moveledger_own *ledger, moveledger_bytes *saved);
 /* The lines of a show or an audit, without numbers, each ended by a line feed. The ledger stays as it was. */
-int32_t moveledger_show(moveledger *ledger, uint32_t form, moveledger_bytes *lines);
-int32_t moveledger_audit(moveledger *ledger, uint32_t form, moveledger_bytes *lines);
+int32_t moveledger_show(moveledger_own *ledger, uint32_t form, moveledger_bytes *lines);
+int32_t moveledger_audit(moveledger_own *ledger, uint32_t form, moveledger_bytes *lines);
 
-/* Without a ledger. prove: the certificate's hexadecimal, as the command prints it, without a line end.
+/* Without a ledger. prove: the certificate's hexadecimal, as the command prints it, without a line end. It has no limit of time: a module of
+ * 7 KB is known that takes 72 seconds.
  * check: DONE where the module passes with the certificate of that text. migrate: a saved ledger in the current form. */
 int32_t moveledger_prove(const uint8_t *module, size_t length, moveledger_bytes *certificate, uint8_t *why);
 int32_t moveledger_check(const uint8_t *module, size_t length, const uint8_t *certificate, size_t certificate_length, uint8_t *why);
@@ -71,47 +93,126 @@ int32_t moveledger_migrate(const uint8_t *saved, size_t length, moveledger_bytes
 void moveledger_bytes_free(moveledger_bytes *bytes);
 
 /* The library itself takes pointers as references: none of them is NULL, but that of a length of 0, and no length is above
- * PTRDIFF_MAX. In C and C++ each call goes through a function below, which tests that first. Other languages call the library's
- * functions by their names, and test it where their types don't say it; so does `(moveledger_new)(ledger)`. */
+ * PTRDIFF_MAX; and it takes a ledger as its own while a call runs. In C and C++ each call goes through a function below, which tests that
+ * first, clears what is to hold an answer, and counts who uses a ledger. Other languages call the library's functions by their names, and
+ * see to that where their types don't say it; so does `(moveledger_new)(ledger)`. */
 static inline int moveledger_is_slice(const uint8_t *bytes, size_t length) {
     return (bytes || !length) && length <= PTRDIFF_MAX;
 }
+/* Changes a ledger's number of users from `*from`, unless it is another one, which it then puts there. */
+static inline int moveledger_changes_users(const moveledger *ledger, int32_t *from, int32_t to) {
+    int32_t *users = (int32_t *)&ledger->users;
+#ifdef __GNUC__
+    return __atomic_compare_exchange_n(users, from, to, 0, __ATOMIC_ACQ_REL, __ATOMIC_ACQUIRE);
+#else
+    return atomic_compare_exchange_strong((_Atomic int32_t *)users, from, to);
+#endif
+}
+/* Begins a call that changes a ledger. */
+static inline int moveledger_begins_change(const moveledger *ledger) {
+    int32_t users = 0;
+    return moveledger_changes_users(ledger, &users, -1);
+}
+/* Begins a call that reads a ledger, beside others that do. */
+static inline int moveledger_begins_reading(const moveledger *ledger) {
+    int32_t users = 0;
+    while (users >= 0 && users < INT32_MAX)
+        if (moveledger_changes_users(ledger, &users, users + 1)) return 1;
+    return 0;
+}
+/* Ends a call on a ledger. */
+static inline void moveledger_ends_use(const moveledger *ledger) {
+    int32_t users = 1;
+    while (!moveledger_changes_users(ledger, &users, users < 0 ? 0 : users - 1)) {}
+}
+static inline void moveledger_clear_bytes(moveledger_bytes *bytes) {
+    if (bytes) bytes->bytes = NULL, bytes->length = 0, bytes->own = NULL;
+}
+static inline void moveledger_clear_ledger(moveledger *ledger) {
+    if (ledger) ledger->own = NULL, ledger->users = 0;
+}
+static inline void moveledger_clear_reason(uint8_t *why) {
+    if (why) *why = 0;
+}
 static inline int32_t moveledger_new_tested(moveledger *ledger) {
-    return ledger ? moveledger_new(ledger) : (int32_t)MOVELEDGER_ARGUMENTS;
+    moveledger_own own = {NULL};
+    moveledger_clear_ledger(ledger);
+    if (!ledger) return MOVELEDGER_ARGUMENTS;
+    const int32_t status = moveledger_new(&own);
+    ledger->own = own.own;
+    return status;
 }
 static inline int32_t moveledger_load_tested(const uint8_t *saved, size_t length, moveledger *ledger, uint8_t *why) {
-    return moveledger_is_slice(saved, length) && ledger && why ? moveledger_load(saved, length, ledger, why)
-                                                               : (int32_t)MOVELEDGER_ARGUMENTS;
+    moveledger_own own = {NULL};
+    moveledger_clear_ledger(ledger);
+    moveledger_clear_reason(why);
+    if (!moveledger_is_slice(saved, length) || !ledger || !why) return MOVELEDGER_ARGUMENTS;
+    const int32_t status = moveledger_load(saved, length, &own, why);
+    ledger->own = own.own;
+    return status;
 }
-static inline void moveledger_free_tested(moveledger *ledger) {
-    if (ledger) moveledger_free(ledger);
+static inline int32_t moveledger_free_tested(moveledger *ledger) {
+    if (!ledger) return MOVELEDGER_DONE;
+    if (!moveledger_begins_change(ledger)) return MOVELEDGER_BUSY;
+    moveledger_own own = {ledger->own};
+    ledger->own = NULL;
+    moveledger_free(&own);
+    moveledger_ends_use(ledger);
+    return MOVELEDGER_DONE;
 }
 static inline int32_t moveledger_apply_tested(moveledger *ledger, const uint8_t *records, size_t length, uint64_t *answered,
                                               moveledger_bytes *report) {
-    return ledger && moveledger_is_slice(records, length) && answered && report
-               ? moveledger_apply(ledger, records, length, answered, report)
-               : (int32_t)MOVELEDGER_ARGUMENTS;
+    if (!ledger || !moveledger_is_slice(records, length) || !answered || !report) return MOVELEDGER_ARGUMENTS;
+    if (!moveledger_begins_change(ledger)) return MOVELEDGER_BUSY;
+    moveledger_own own = {ledger->own};
+    const int32_t status = moveledger_apply(&own, records, length, answered, report);
+    ledger->own = own.own;
+    moveledger_ends_use(ledger);
+    return status;
 }
-static inline int32_t moveledger_save_tested(moveledger *ledger, moveledger_bytes *saved) {
-    return ledger && saved ? moveledger_save(ledger, saved) : (int32_t)MOVELEDGER_ARGUMENTS;
+static inline int32_t moveledger_save_tested(const moveledger *ledger, moveledger_bytes *saved) {
+    moveledger_clear_bytes(saved);
+    if (!ledger || !saved) return MOVELEDGER_ARGUMENTS;
+    if (!moveledger_begins_reading(ledger)) return MOVELEDGER_BUSY;
+    moveledger_own own = {ledger->own};
+    const int32_t status = moveledger_save(&own, saved);
+    moveledger_ends_use(ledger);
+    return status;
 }
-static inline int32_t moveledger_show_tested(moveledger *ledger, uint32_t form, moveledger_bytes *lines) {
-    return ledger && lines ? moveledger_show(ledger, form, lines) : (int32_t)MOVELEDGER_ARGUMENTS;
+static inline int32_t moveledger_show_tested(const moveledger *ledger, uint32_t form, moveledger_bytes *lines) {
+    moveledger_clear_bytes(lines);
+    if (!ledger || !lines) return MOVELEDGER_ARGUMENTS;
+    if (!moveledger_begins_reading(ledger)) return MOVELEDGER_BUSY;
+    moveledger_own own = {ledger->own};
+    const int32_t status = moveledger_show(&own, form, lines);
+    moveledger_ends_use(ledger);
+    return status;
 }
-static inline int32_t moveledger_audit_tested(moveledger *ledger, uint32_t form, moveledger_bytes *lines) {
-    return ledger && lines ? moveledger_audit(ledger, form, lines) : (int32_t)MOVELEDGER_ARGUMENTS;
+static inline int32_t moveledger_audit_tested(const moveledger *ledger, uint32_t form, moveledger_bytes *lines) {
+    moveledger_clear_bytes(lines);
+    if (!ledger || !lines) return MOVELEDGER_ARGUMENTS;
+    if (!moveledger_begins_reading(ledger)) return MOVELEDGER_BUSY;
+    moveledger_own own = {ledger->own};
+    const int32_t status = moveledger_audit(&own, form, lines);
+    moveledger_ends_use(ledger);
+    return status;
 }
 static inline int32_t moveledger_prove_tested(const uint8_t *module, size_t length, moveledger_bytes *certificate, uint8_t *why) {
+    moveledger_clear_bytes(certificate);
+    moveledger_clear_reason(why);
     return moveledger_is_slice(module, length) && certificate && why ? moveledger_prove(module, length, certificate, why)
                                                                      : (int32_t)MOVELEDGER_ARGUMENTS;
 }
 static inline int32_t moveledger_check_tested(const uint8_t *module, size_t length, const uint8_t *certificate,
                                               size_t certificate_length, uint8_t *why) {
+    moveledger_clear_reason(why);
     return moveledger_is_slice(module, length) && moveledger_is_slice(certificate, certificate_length) && why
                ? moveledger_check(module, length, certificate, certificate_length, why)
                : (int32_t)MOVELEDGER_ARGUMENTS;
 }
 static inline int32_t moveledger_migrate_tested(const uint8_t *saved, size_t length, moveledger_bytes *migrated, uint8_t *why) {
+    moveledger_clear_bytes(migrated);
+    moveledger_clear_reason(why);
     return moveledger_is_slice(saved, length) && migrated && why ? moveledger_migrate(saved, length, migrated, why)
                                                                  : (int32_t)MOVELEDGER_ARGUMENTS;
 }

@@ -1,4 +1,4 @@
-/* Tries calls of the library: with wrong arguments, in two threads, and very often with memory that stays flat.
+/* Tries calls of the library: with wrong arguments, in two threads, on one ledger in many, and very often with memory that stays flat.
  * usage: calls STREAM [COUNT]    STREAM is examples/first-coin.stream; COUNT is how often records are applied, 20,000 if none is
  * given. What went wrong is printed, and the status is 1. */
 #include "moveledger.h"
@@ -31,10 +31,61 @@ static void want_arguments(int32_t status, const moveledger_bytes *bytes, const 
     want(bytes->bytes == NULL && bytes->length == 0, what);
 }
 
+/* What a caller has in places that it never began: after wrong arguments they hold what the header says. */
+static struct garbage {
+    moveledger ledger;
+    moveledger_bytes bytes;
+    uint8_t why;
+} garbage(void)
+{
+    struct garbage made;
+    memset(&made, 0x41, sizeof made);
+    return made;
+}
+
+static void want_cleared(int32_t status, const struct garbage *left, bool is_load, bool has_bytes, bool has_why, const char *what)
+{
+    want(status == MOVELEDGER_ARGUMENTS, what);
+    want(!is_load || (left->ledger.own == NULL && left->ledger.users == 0), what);
+    want(!has_bytes || (left->bytes.bytes == NULL && left->bytes.length == 0 && left->bytes.own == NULL), what);
+    want(!has_why || left->why == 0, what);
+}
+
+static void try_garbage(moveledger *ledger)
+{
+    moveledger none = {NULL, 0};
+    struct garbage it = garbage();
+    want_cleared(moveledger_load(NULL, 5, &it.ledger, &it.why), &it, true, false, true, "load without bytes into garbage");
+    moveledger_free(&it.ledger);
+    it = garbage();
+    want_cleared(moveledger_load(stream, length, &it.ledger, NULL), &it, true, false, false, "load without a reason into garbage");
+    it = garbage();
+    want_cleared(moveledger_load(stream, length, NULL, &it.why), &it, false, false, true, "load without a place, of a reason");
+    it = garbage();
+    want_cleared(moveledger_save(NULL, &it.bytes), &it, false, true, false, "save without a ledger into garbage");
+    moveledger_bytes_free(&it.bytes);
+    it = garbage();
+    want_cleared(moveledger_save(&none, &it.bytes), &it, false, true, false, "save of no ledger into garbage");
+    it = garbage();
+    want_cleared(moveledger_show(NULL, MOVELEDGER_TEXT, &it.bytes), &it, false, true, false, "show without a ledger into garbage");
+    it = garbage();
+    want_cleared(moveledger_show(ledger, 7, &it.bytes), &it, false, true, false, "show of no form into garbage");
+    it = garbage();
+    want_cleared(moveledger_audit(NULL, MOVELEDGER_TEXT, &it.bytes), &it, false, true, false, "audit without a ledger into garbage");
+    it = garbage();
+    want_cleared(moveledger_prove(NULL, 5, &it.bytes, &it.why), &it, false, true, true, "prove without a module into garbage");
+    moveledger_bytes_free(&it.bytes);
+    it = garbage();
+    want_cleared(moveledger_check(NULL, 5, stream, length, &it.why), &it, false, false, true, "check without a module into garbage");
+    it = garbage();
+    want_cleared(moveledger_migrate(NULL, 5, &it.bytes, &it.why), &it, false, true, true, "migrate without bytes into garbage");
+    moveledger_bytes_free(&it.bytes);
+}
+
 static void try_arguments_of_ledgers(moveledger *ledger)
 {
     const size_t too_long = (size_t)PTRDIFF_MAX + 1;
-    moveledger other = {NULL}, none = {NULL};
+    moveledger other = {NULL, 0}, none = {NULL, 0};
     moveledger_bytes bytes = {NULL, 0, NULL};
     uint64_t answered = 7;
     uint8_t why = 0;
@@ -90,7 +141,7 @@ static void try_arguments_of_modules(void)
 /* Wrong arguments change nothing: what is saved before and after is the same. */
 static void try_arguments(void)
 {
-    moveledger ledger = {NULL};
+    moveledger ledger = {NULL, 0};
     moveledger_bytes before = {NULL, 0, NULL}, after = {NULL, 0, NULL}, report = {NULL, 0, NULL};
     uint64_t answered = 0;
     want(moveledger_new(&ledger) == MOVELEDGER_DONE, "a ledger is made");
@@ -98,6 +149,7 @@ static void try_arguments(void)
     want(moveledger_save(&ledger, &before) == MOVELEDGER_DONE, "a ledger is saved");
     try_arguments_of_ledgers(&ledger);
     try_arguments_of_modules();
+    try_garbage(&ledger);
     want(moveledger_save(&ledger, &after) == MOVELEDGER_DONE, "a ledger is saved again");
     want(before.length == after.length && memcmp(before.bytes, after.bytes, after.length) == 0, "it is the same");
     moveledger_bytes_free(&before);
@@ -117,7 +169,7 @@ struct minting {
 static void *mint(void *given)
 {
     struct minting *told = given;
-    moveledger ledger = {NULL};
+    moveledger ledger = {NULL, 0};
     uint64_t answered = 0;
     uint8_t record[MOST];
     want(moveledger_new(&ledger) == MOVELEDGER_DONE, "a thread's ledger is made");
@@ -155,6 +207,69 @@ static void try_threads(void)
     }
 }
 
+/* What threads that use one ledger are told, and how often each status came. */
+struct sharing {
+    moveledger *ledger;
+    bool is_writing;
+    unsigned long done, busy, other;
+};
+
+enum { SHARERS = 6, WRITERS = 2, SHARED_CALLS = 2000 };
+
+static void *share(void *given)
+{
+    struct sharing *told = given;
+    for (unsigned nth = 0; nth < SHARED_CALLS; ++nth) {
+        moveledger_bytes bytes = {NULL, 0, NULL};
+        uint64_t answered = 1;
+        const int32_t status = told->is_writing ? moveledger_apply(told->ledger, stream + FIRST, length - FIRST, &answered, &bytes)
+                               : nth % 2        ? moveledger_show(told->ledger, MOVELEDGER_TEXT, &bytes)
+                                                : moveledger_save(told->ledger, &bytes);
+        *(status == MOVELEDGER_DONE ? &told->done : status == MOVELEDGER_BUSY ? &told->busy : &told->other) += 1;
+        moveledger_bytes_free(&bytes);
+    }
+    return NULL;
+}
+
+/* Threads that use one ledger at once by mistake are told so, and the ledger stays; those that only read it are never refused. */
+static void try_sharing(unsigned writers)
+{
+    moveledger ledger = {NULL, 0};
+    struct sharing told[SHARERS] = {{0}};
+    pthread_t threads[SHARERS];
+    moveledger_bytes report = {NULL, 0, NULL}, saved = {NULL, 0, NULL};
+    uint64_t answered = 0;
+    want(moveledger_new(&ledger) == MOVELEDGER_DONE, "a shared ledger is made");
+    want(moveledger_apply(&ledger, stream, length, &answered, &report) == MOVELEDGER_DONE, "records of a shared ledger");
+    moveledger_bytes_free(&report);
+    for (unsigned at = 0; at < SHARERS; ++at) {
+        told[at].ledger = &ledger;
+        told[at].is_writing = at < writers;
+        want(pthread_create(&threads[at], NULL, share, &told[at]) == 0, "a thread is started");
+    }
+    unsigned long done = 0, busy = 0, other = 0;
+    for (unsigned at = 0; at < SHARERS; ++at) {
+        want(pthread_join(threads[at], NULL) == 0, "a thread ends");
+        done += told[at].done, busy += told[at].busy, other += told[at].other;
+    }
+    want(other == 0, "calls on a ledger that is in use are done, or told so");
+    want(done > 0 && (writers > 0 || busy == 0), "calls that only read a ledger are never refused");
+    want(ledger.users == 0, "no call uses the ledger any more");
+    want(moveledger_save(&ledger, &saved) == MOVELEDGER_DONE && saved.length > 0, "the ledger is there afterwards");
+    moveledger_bytes_free(&saved);
+    /* A call that is at work is met by one that would free the ledger. */
+    ledger.users = 1;
+    want(moveledger_free(&ledger) == MOVELEDGER_BUSY && ledger.own != NULL, "a ledger that is read isn't freed");
+    want(moveledger_save(&ledger, &saved) == MOVELEDGER_DONE, "a ledger that is read is read by another");
+    moveledger_bytes_free(&saved);
+    ledger.users = -1;
+    want(moveledger_save(&ledger, &saved) == MOVELEDGER_BUSY && saved.bytes == NULL, "a ledger that is changed isn't read");
+    ledger.users = 0;
+    want(moveledger_free(&ledger) == MOVELEDGER_DONE && ledger.own == NULL, "a ledger is freed");
+    want(moveledger_free(&ledger) == MOVELEDGER_DONE, "a ledger is freed twice");
+    want(moveledger_save(&ledger, &saved) == MOVELEDGER_ARGUMENTS, "a freed ledger holds none");
+}
+
 /* The memory that the process has, in bytes. */
 static long resident(void)
 {
@@ -171,7 +286,7 @@ static long resident(void)
  * the tool's own memory grows. */
 static void try_often(unsigned long count)
 {
-    moveledger ledger = {NULL};
+    moveledger ledger = {NULL, 0};
     uint64_t answered = 0;
     long before = 0;
     moveledger_bytes report = {NULL, 0, NULL};
@@ -202,7 +317,12 @@ int main(int words, char **word)
     fclose(file);
     try_arguments();
     try_threads();
-    try_often(words > 2 ? strtoul(word[2], NULL, 10) : FIRST_COUNT);
+    const unsigned long often = words > 2 ? strtoul(word[2], NULL, 10) : FIRST_COUNT;
+    try_sharing(0);
+    /* A tool that looks for races knows locks, and not that a call is alone which has changed the number of users. */
+    if (often >= TELLING)
+        try_sharing(WRITERS);
+    try_often(often);
     printf("calls: %s\n", failures ? "FAILED" : "as wanted");
     return failures != 0;
 }

@@ -86,7 +86,7 @@ static bool is_beginning(const moveledger_bytes *part, const moveledger_bytes *o
 /* The ledger that all begins with. */
 static moveledger begun(void)
 {
-    moveledger ledger = {NULL};
+    moveledger ledger = {NULL, 0};
     uint8_t why;
     int32_t status = ledger_length ? moveledger_load(first_ledger, ledger_length, &ledger, &why) : moveledger_new(&ledger);
     want(status == MOVELEDGER_DONE, "the first ledger");
@@ -181,7 +181,7 @@ static int32_t ask_audit(moveledger *ledger, moveledger_bytes *bytes)
 
 static int32_t ask_loaded(moveledger *ledger, moveledger_bytes *bytes)
 {
-    moveledger other = {NULL};
+    moveledger other = {NULL, 0};
     uint8_t why = 0;
     (void)ledger;
     int32_t status = moveledger_load(states[count].bytes, states[count].length, &other, &why);
@@ -200,7 +200,12 @@ static int32_t ask_migrated(moveledger *ledger, moveledger_bytes *bytes)
                          : moveledger_migrate(last->bytes, last->length, bytes, &why);
 }
 
-static question *const QUESTIONS[] = {moveledger_save, ask_text, ask_json, ask_audit, ask_loaded, ask_migrated};
+static int32_t ask_saved(moveledger *ledger, moveledger_bytes *saved)
+{
+    return moveledger_save(ledger, saved);
+}
+
+static question *const QUESTIONS[] = {ask_saved, ask_text, ask_json, ask_audit, ask_loaded, ask_migrated};
 static question *asked;
 static moveledger *asked_ledger;
 
@@ -292,7 +297,7 @@ int main(int words, char **word)
     note_states();
     refuse_each(try_apply);
     uint8_t why = 0;
-    moveledger last = {NULL};
+    moveledger last = {NULL, 0};
     want(moveledger_load(states[count].bytes, states[count].length, &last, &why) == MOVELEDGER_DONE, "the last ledger");
     asked_ledger = &last;
     for (size_t at = 0; at < sizeof QUESTIONS / sizeof *QUESTIONS; ++at) {

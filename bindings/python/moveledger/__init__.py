@@ -15,6 +15,7 @@ from .report import (Aborted, Count, End, Exhausted, Json, Line, Published, Refu
                      Unknown)
 from .text import assemble
 
+__version__ = "1.0.0"
 __all__ = [
     "Aborted", "Count", "End", "Exhausted", "Json", "Ledger", "LedgerError", "Line", "LoadRefused", "NoLibrary", "OutOfMemory",
     "Published", "Refusal", "Refused", "Rejected", "Report", "Returned", "Stored", "TooComplex", "Unfinished", "Unknown",

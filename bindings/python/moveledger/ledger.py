@@ -3,7 +3,7 @@
 from ctypes import byref, c_uint8, c_uint64
 from threading import Lock
 from types import TracebackType
-from typing import List, Optional, Type
+from typing import List, NoReturn, Optional, Type
 
 from . import library as lib
 from .errors import Unfinished
@@ -15,10 +15,11 @@ class Ledger:
     """A ledger in memory: an empty one, or the one that was saved. Threads may share it: a call waits for the one before it.
     `answered` is how many records it has answered, by which lines are numbered; it is no part of what is saved.
 
-    `LoadRefused` where the bytes aren't a saved ledger's."""
+    A ledger isn't copied: what it saves is another one's beginning. `LoadRefused` where the bytes aren't a saved ledger's; `ValueError` where
+    `answered` is no number of records."""
 
     def __init__(self, saved: Optional[bytes] = None, answered: int = 0) -> None:
-        self.answered = answered
+        self.answered = counted(answered)
         self._lock = Lock()
         self._holder = Holder()
         why = c_uint8()
@@ -33,7 +34,7 @@ class Ledger:
         """Answers records, in order. A record that is cut off at the end is answered `refused 1`. `Unfinished` where memory runs
         out, with the report's beginning."""
         with self._lock:
-            answered, given = c_uint64(self.answered), Bytes()
+            answered, given = c_uint64(counted(self.answered)), Bytes()
             status = library().apply(byref(self._open()), *lib.text(records), byref(answered), byref(given))
             self.answered = answered.value
             report = Report(library().taken(given).decode("ascii"))
@@ -78,6 +79,9 @@ class Ledger:
             raise ValueError("the ledger is closed")
         return self._holder
 
+    def __reduce__(self) -> NoReturn:
+        raise TypeError("a ledger isn't copied or pickled: Ledger(ledger.save(), ledger.answered) is one like it")
+
     def __enter__(self) -> "Ledger":
         return self
 
@@ -88,6 +92,13 @@ class Ledger:
     def __del__(self) -> None:
         if hasattr(self, "_holder") and self._holder.own:
             self.close()
+
+
+def counted(answered: int) -> int:
+    """A number of records, as it may be."""
+    if not 0 <= answered < 1 << 64:
+        raise ValueError(f"{answered} is no number of answered records: it is at least 0, and below 2^64")
+    return answered
 
 
 def prove(module: bytes) -> bytes:

@@ -1,7 +1,9 @@
 """The library through Python: the examples, what is refused, threads, and lines.
 usage: python3 -m unittest discover -s bindings/python/tests    from the repository's top, with bindings/python on PYTHONPATH"""
 
+import copy
 import importlib.util
+import pickle
 import threading
 import unittest
 from pathlib import Path
@@ -48,6 +50,31 @@ class Answers(unittest.TestCase):
 
     def test_an_old_ledger_is_migrated(self) -> None:
         self.assertEqual(moveledger.migrate((EXAMPLES / "old.ledger").read_bytes()), (EXAMPLES / "kept.ledger").read_bytes())
+
+
+class Misuse(unittest.TestCase):
+    def test_a_ledger_is_not_copied(self) -> None:
+        with moveledger.Ledger() as ledger:
+            with self.assertRaises(TypeError):
+                copy.copy(ledger)
+            with self.assertRaises(TypeError):
+                copy.deepcopy(ledger)
+            with self.assertRaises(TypeError):
+                pickle.dumps(ledger)
+            self.assertEqual(len(list(ledger.apply(FIRST))), 2)
+
+    def test_numbers_of_records_are_in_range(self) -> None:
+        for answered in -1, 1 << 64:
+            with self.subTest(answered), self.assertRaises(ValueError):
+                moveledger.Ledger(answered=answered)
+            with moveledger.Ledger() as ledger:
+                ledger.answered = answered
+                with self.assertRaises(ValueError):
+                    ledger.apply(FIRST)
+                self.assertEqual(ledger.show(), [])
+
+    def test_it_has_a_version(self) -> None:
+        self.assertRegex(moveledger.__version__, r"^\d+\.\d+\.\d+$")
 
 
 class Refusals(unittest.TestCase):

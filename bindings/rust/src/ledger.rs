@@ -4,19 +4,19 @@ use crate::error::Error;
 use crate::report::{Entries, Report};
 use crate::sys;
 use crate::text::{Owned, Saved};
-use std::cell::UnsafeCell;
 use std::ptr::null_mut;
 
-/// A ledger in memory. It may be moved to another thread; ledgers in different threads know nothing of each other. It isn't
-/// `Sync`: a ledger is used by one call at a time, so share one by a lock.
+/// A ledger in memory. It may be moved to another thread, and threads may read one at once: `save`, `show` and `audit` take `&self`.
+/// Ledgers in different threads know nothing of each other.
 pub struct Ledger {
-    /// Every call takes it as its own, those that only read it too.
-    raw: UnsafeCell<sys::RawLedger>,
+    raw: sys::RawLedger,
     answered: u64,
 }
 
 // SAFETY: a ledger owns all that it holds, and no call leaves anything with the thread that made it.
 unsafe impl Send for Ledger {}
+// SAFETY: a call that takes `&self` gets a holder of its own, and reads the ledger that this leads to; it writes nothing of it.
+unsafe impl Sync for Ledger {}
 
 /// How a show or an audit is written.
 #[derive(Clone, Copy, Debug, PartialEq, Eq)]
@@ -55,7 +55,7 @@ impl Ledger {
 
     fn made(status: i32, raw: sys::RawLedger, why: u8) -> Result<Ledger, Error> {
         match status {
-            sys::DONE => Ok(Ledger { raw: UnsafeCell::new(raw), answered: 0 }),
+            sys::DONE => Ok(Ledger { raw, answered: 0 }),
             _ => Err(Error::of(status, why)),
         }
     }
@@ -84,7 +84,7 @@ impl Ledger {
         let status = unsafe {
             let answered = &mut self.answered;
             let (bytes, length) = (records.as_ptr(), records.len());
-            sys::moveledger_apply(self.raw.get(), bytes, length, answered, report.0.raw())
+            sys::moveledger_apply(&mut self.raw, bytes, length, answered, report.0.raw())
         };
         done(status)
     }
@@ -106,8 +106,8 @@ impl Ledger {
     /// [`Error::Memory`].
     pub fn save(&self) -> Result<Saved, Error> {
         let mut saved = Owned::new();
-        // SAFETY: the ledger is there, and no other call uses it, since it isn't `Sync`.
-        done(unsafe { sys::moveledger_save(self.raw.get(), saved.raw()) })?;
+        // SAFETY: the ledger is there, and no call changes it meanwhile. The holder is this call's own.
+        done(unsafe { sys::moveledger_save(&mut self.holder(), saved.raw()) })?;
         Ok(Saved(saved))
     }
 
@@ -129,16 +129,21 @@ impl Ledger {
 
     fn ask(&self, question: Question, form: Form) -> Result<Entries, Error> {
         let mut lines = Owned::new();
-        // SAFETY: the ledger is there, and no other call uses it, since it isn't `Sync`.
-        done(unsafe { question(self.raw.get(), form as u32, lines.raw()) })?;
+        // SAFETY: the ledger is there, and no call changes it meanwhile. The holder is this call's own.
+        done(unsafe { question(&mut self.holder(), form as u32, lines.raw()) })?;
         Ok(Entries(lines))
+    }
+
+    /// A holder for a call that reads the ledger, and gives it back as it was.
+    fn holder(&self) -> sys::RawLedger {
+        sys::RawLedger { own: self.raw.own }
     }
 }
 
 impl Drop for Ledger {
     fn drop(&mut self) {
         // SAFETY: the library gave it, and nothing has it from now on.
-        unsafe { sys::moveledger_free(self.raw.get()) }
+        unsafe { sys::moveledger_free(&mut self.raw) }
     }
 }
 

@@ -55,6 +55,24 @@ fn two_threads_have_a_ledger_each() {
 }
 
 #[test]
+fn threads_read_one_ledger_at_once() {
+    let mut ledger = Ledger::new().expect("there is memory");
+    ledger.apply(&published()).expect("there is memory");
+    ledger.apply(&mint(1)).expect("there is memory");
+    let told = || {
+        let saved = ledger.save().expect("there is memory").to_vec();
+        let shown = ledger.show(Form::Text).expect("there is memory").as_str().to_string();
+        (saved, shown, ledger.audit(Form::Json).expect("there is memory").as_str().to_string())
+    };
+    let alone = told();
+    thread::scope(|all| {
+        for _ in 0..4 {
+            all.spawn(|| (0..200).for_each(|_| assert_eq!(told(), alone)));
+        }
+    });
+}
+
+#[test]
 fn a_ledger_goes_to_another_thread_and_back() {
     let mut ledger = Ledger::new().expect("there is memory");
     ledger.apply(&published()).expect("there is memory");
