@@ -4,16 +4,20 @@ from typing import Callable, Dict, Iterable, List, NamedTuple, Optional, Set, Tu
 
 from . import habits, model, syntax
 from .coding import Coder
-from .errors import TextError, unknown
-from .handles import OWN, Names, checked_identifier, entry_text, path_text
+from .errors import Help, Note, TextError, Unknown, unknown
+from .explain.failures import listed
+from .handles import OWN, Names, checked_identifier, entry_text, module_text, path_text
 from .model import MUTABLE, REFERENCE, STRUCT, Token
-from .numbers import SIGNATURE_TYPES, TABLE_BYTES
+from .limits import SIGNATURE_TYPES, TABLE_BYTES
 from .pools import Pool
 from .writer import write_module
 
 T = TypeVar("T")
 # A struct or a function as its handle names it: the index of a module handle and that of an identifier.
 HandleName = Tuple[int, int]
+
+# No more names than these are told in the place of one that isn't there.
+MOST_NAMED = 6
 
 LEAVES = {kind: Token(kind) for kind in model.LEAF_NAMES}
 
@@ -25,6 +29,7 @@ class Assembler:
         self.tree = tree
         self.listed = tree.tables or syntax.Tables()
         self.errors: List[TextError] = []
+        self.told: Set[Tuple[int, str]] = set()
         self.names = Names()
         self.structs: Pool[model.StructHandle] = Pool("struct handles")
         self.functions: Pool[model.FunctionHandle] = Pool("function handles")
@@ -39,12 +44,12 @@ class Assembler:
         self.bodies: List[model.FunctionDefinition] = []
 
     def module(self) -> Optional[model.Module]:
-        """The module; None where there are errors. What fails in one step isn't tried in the next ones."""
+        """The module; None where there are errors."""
         steps = self.add_modules, self.add_structs, self.add_lists, self.add_definitions, self.add_functions, self.add_bodies
         for step in steps:
             step()
-            if self.errors:
-                return None
+        if self.errors or self.tree.is_broken:
+            return None
         names = self.names
         return model.Module(
             self.tree.version, names.modules.entries, self.structs.entries, self.functions.entries, self.signatures.entries,
@@ -62,13 +67,23 @@ class Assembler:
             model.FUNCTIONS: [one.at for one in self.tree.functions], model.FIELD_HANDLES: self.fields.starts,
         }
 
-    def each(self, items: Iterable[T], act: Callable[[T], object]) -> None:
-        """Does something with each item, and collects the errors."""
+    def collect(self, error: TextError) -> None:
+        """Keeps an error, once for each place; none of a name that something wrong may have."""
+        is_lost = isinstance(error, Unknown) and (error.is_lost or bool(error.names & self.tree.lost))
+        if not is_lost and (error.at, error.message) not in self.told:
+            self.told.add((error.at, error.message))
+            self.errors.append(error)
+
+    def each(self, items: Iterable[T], act: Callable[[T], object], name: Callable[[T], Optional[str]] = lambda _: None) -> None:
+        """Does something with each item, and collects the errors. The name of what has one is lost."""
         for item in items:
             try:
                 act(item)
             except TextError as error:
-                self.errors.append(error)
+                self.collect(error)
+                lost = name(item)
+                if lost is not None:
+                    self.tree.lost.add(lost)
 
     # Modules.
 
@@ -79,7 +94,7 @@ class Assembler:
         self.each(self.listed.addresses, lambda address: names.addresses.add(address, at))
         self.each(self.listed.modules, lambda module: names.modules.add(names.handle(module), module.at))
         self.each([self.tree.name], self.add_own)
-        self.each(self.tree.imports, self.add_import)
+        self.each(self.tree.imports, self.add_import, lambda one: entry_text(one.alias))
 
     def add_own(self, own: syntax.ModuleName) -> None:
         names = self.names
@@ -88,6 +103,7 @@ class Assembler:
         else:
             names.own = names.modules.place(names.handle(own), own.at)
         names.aliases[OWN] = names.own
+        names.own_name = entry_text(own.name)
 
     def add_import(self, imported: syntax.Import) -> None:
         names = self.names
@@ -96,7 +112,9 @@ class Assembler:
             return
         alias = imported.alias.text
         if names.aliases.setdefault(alias, place) != place:
-            raise TextError(imported.alias.at, f"a second module goes by `{alias}`; give it another name: `as {alias}2`")
+            first = next(one.alias.at for one in self.tree.imports if entry_text(one.alias) == alias)
+            raise TextError(imported.alias.at, f"a second module goes by `{alias}`", f"give it another name: `as {alias}2`",
+                            notes=[Note(first, "the first is here")])
 
     # Structs.
 
@@ -104,8 +122,8 @@ class Assembler:
         """Adds the struct handles that are listed, and those of the imports and the own structs."""
         self.each(self.listed.structs, lambda handle: self.add_struct(handle, is_listed=True))
         for imported in self.tree.imports:
-            self.each(imported.structs, self.add_struct)
-        self.each(self.tree.structs, self.add_own_struct)
+            self.each(imported.structs, self.add_struct, lambda one: entry_text(one.path.name))
+        self.each(self.tree.structs, self.add_own_struct, lambda one: entry_text(one.name))
 
     def add_struct(self, text: syntax.StructHandleText, is_listed: bool = False) -> int:
         """The index of a struct handle."""
@@ -117,23 +135,32 @@ class Assembler:
             return place
         known = self.struct_places.get((handle.module, handle.name))
         if known is not None and self.structs.entries[known] != handle:
-            raise TextError(path.name.at, f"a second struct `{entry_text(path.name)}`, with other abilities")
+            raise TextError(path.name.at, f"a second struct `{entry_text(path.name)}`, with other abilities",
+                            notes=[Note(self.structs.starts[known], "the first is here")])
         place = self.structs.place(handle, path.at)
         self.struct_places[handle.module, handle.name] = place
         return place
 
     def add_own_struct(self, struct: syntax.Struct) -> None:
+        definition = model.StructDefinition(-1)
+        self.definitions.append(definition)
+        self.field_places.append({entry_text(one.name): place for place, one in reversed(list(enumerate(struct.fields)))})
         if isinstance(struct.name, syntax.Index):
-            handle = struct.name.number
+            definition.handle = struct.name.number
         else:
-            handle = self.add_struct(syntax.StructHandleText(syntax.Path(None, struct.name, struct.at), struct.abilities))
-            if handle in self.definition_places:
-                raise TextError(struct.name.at, f"a second struct `{struct.name.text}`")
-        self.definition_places.setdefault(handle, len(self.definitions))
-        self.definitions.append(model.StructDefinition(handle))
-        self.field_places.append({})
-        for place, one in reversed(list(enumerate(struct.fields))):
-            self.field_places[-1][entry_text(one.name)] = place
+            known = self.own_struct(struct.name)
+            if known is not None:
+                raise TextError(struct.name.at, f"a second struct `{struct.name.text}`", "give one of them another name",
+                                notes=[Note(self.tree.structs[known].name.at, "the first is here")])
+            definition.handle = self.add_struct(
+                syntax.StructHandleText(syntax.Path(None, struct.name, struct.at), struct.abilities))
+        self.definition_places.setdefault(definition.handle, len(self.definitions) - 1)
+
+    def own_struct(self, name: syntax.Name) -> Optional[int]:
+        """The definition of a name before this one, or None."""
+        place = self.struct_places.get((self.names.own, self.names.known_identifier(name) or 0))
+        named = self.names.known_identifier(name) is not None and place is not None
+        return self.definition_places.get(model.known(place)) if named else None
 
     def add_definitions(self) -> None:
         """Adds the fields of the own structs."""
@@ -142,7 +169,7 @@ class Assembler:
 
     def add_fields(self, struct: syntax.Struct, definition: model.StructDefinition) -> None:
         """Adds the fields of an own struct."""
-        seen: Set[str] = set()
+        seen: Dict[str, int] = {}
         self.each(struct.fields, lambda one: definition.fields.append(self.field(one)))
         self.each(struct.fields, lambda one: check_field(one, seen))
 
@@ -166,10 +193,13 @@ class Assembler:
         name = self.names.known_identifier(struct.name)
         place = None if name is None else self.struct_places.get((module, name))
         if place is None:
-            raise TextError(struct.at, self.no_struct(module, struct))
+            otherwise, notes = self.import_lacks(module, struct, f"struct {entry_text(struct.name)} has ..")
+            if not otherwise and struct.module is None:
+                otherwise = f"write `struct {entry_text(struct.name)} {{ .. }}`, or import it"
+            raise Unknown(struct.at, self.no_struct(module, struct), [entry_text(struct.name)], otherwise, notes)
         return place
 
-    def no_struct(self, module: int, struct: syntax.Path) -> str:
+    def no_struct(self, module: int, struct: syntax.Path) -> Help:
         """That there is no struct of a name, and which one was probably meant."""
         names = self.meant_names(module, struct, self.struct_places)
         if struct.module is None and entry_text(struct.name) in habits.TYPES:
@@ -177,6 +207,15 @@ class Assembler:
         if struct.module is None:
             return unknown("type", path_text(struct), [*names, *model.LEAF_KINDS])
         return unknown("struct", path_text(struct), names)
+
+    def import_lacks(self, module: int, path: syntax.Path, written: str) -> Tuple[str, List[Note]]:
+        """What to write where an import lacks something, with the import's place; nothing of the own module."""
+        found = [one for one in self.tree.imports if self.names.known_handle(one.module) is not None
+                 and self.names.modules.places.get(model.known(self.names.known_handle(one.module))) == module]
+        if module == self.names.own or not found:
+            return "", []
+        named = module_text(found[-1].module)
+        return f"add `{written}` to the braces of `import {named}`", [Note(found[-1].module.at, "the import that lacks it is here")]
 
     def meant_names(self, module: int, path: syntax.Path, places: Dict[HandleName, int]) -> List[str]:
         """The names that might be meant by one that nothing has: the same one in another module, or any in this module."""
@@ -205,8 +244,9 @@ class Assembler:
         path = struct if isinstance(struct, syntax.Path) else syntax.Path(None, struct, struct.at)
         place = self.definition_places.get(self.struct_handle(path))
         if place is None:
-            raise TextError(path.at, f"`{path_text(path)}` is no struct of this module, and only the own module packs, unpacks, "
-                                     "stores and takes a struct, and borrows its fields")
+            raise TextError(path.at, f"`{path_text(path)}` is a struct of another module",
+                            "only a struct's own module packs, unpacks, stores and takes it, and borrows its fields: call a function "
+                            "of that module")
         return place
 
     # Lists that name structs.
@@ -220,7 +260,7 @@ class Assembler:
 
     def types(self, types: List[syntax.Type], at: int) -> model.Signature:
         if len(types) > SIGNATURE_TYPES:
-            raise TextError(types[SIGNATURE_TYPES].at, f"a signature has at most {SIGNATURE_TYPES} types")
+            raise TextError(types[SIGNATURE_TYPES].at, f"these are more than {SIGNATURE_TYPES} types")
         return tuple(map(self.token, types))
 
     def signature(self, types: Union[List[syntax.Type], syntax.Index], at: int) -> int:
@@ -238,7 +278,8 @@ class Assembler:
         places = self.field_places[struct] if struct < len(self.field_places) else {}
         place = places.get(path.field.text)
         if place is None:
-            raise TextError(path.field.at, unknown("field", path.field.text, places, f" in `{entry_text(path.struct)}`"))
+            raise Unknown(path.field.at, unknown("field", path.field.text, places, f" in `{entry_text(path.struct)}`"), [],
+                          f"its fields are {', '.join(f'`{one}`' for one in places)}" if places else "")
         return model.FieldHandle(struct, place)
 
     # Functions.
@@ -247,8 +288,8 @@ class Assembler:
         """Adds the function handles that are listed, and those of the imports and the own functions."""
         self.each(self.listed.functions, lambda handle: self.add_function(handle, is_listed=True))
         for imported in self.tree.imports:
-            self.each(imported.functions, self.add_function)
-        self.each(self.tree.functions, self.add_own_function)
+            self.each(imported.functions, self.add_function, lambda one: entry_text(one.path.name))
+        self.each(self.tree.functions, self.add_own_function, lambda one: entry_text(one.name))
 
     def add_function(self, text: syntax.FunctionHandleText, is_listed: bool = False) -> int:
         """The index of a function handle."""
@@ -268,10 +309,12 @@ class Assembler:
         for types, place in (text.parameters, handle.parameters), (text.results, handle.results):
             known = model.entry(self.signatures.entries, place)
             if known is not None and not isinstance(types, syntax.Index) and self.types(types, text.path.at) != known:
-                raise TextError(text.path.name.at, f"a second function `{entry_text(text.path.name)}`, with other types")
+                place = model.known(self.function_places.get((handle.module, handle.name)))
+                raise TextError(text.path.name.at, f"a second function `{entry_text(text.path.name)}`, with other types",
+                                "give one of them another name", notes=[Note(self.functions.starts[place], "the first is here")])
 
     def add_own_function(self, function: syntax.Function) -> None:
-        body = model.FunctionDefinition(0, function.is_public, function.is_entry)
+        body = model.FunctionDefinition(-1, function.is_public, function.is_entry)
         self.bodies.append(body)
         if isinstance(function.name, syntax.Index):
             body.handle = function.name.number
@@ -279,8 +322,10 @@ class Assembler:
         types = [one.type for one in function.parameters]
         path = syntax.Path(None, function.name, function.at)
         body.handle = self.add_function(syntax.FunctionHandleText(path, types, function.results))
-        if any(other.handle == body.handle for other in self.bodies[:-1]):
-            raise TextError(function.name.at, f"a second function `{function.name.text}`")
+        first = next(at for at, other in enumerate(self.bodies) if other.handle == body.handle)
+        if first != len(self.bodies) - 1:
+            raise TextError(function.name.at, f"a second function `{function.name.text}`", "give one of them another name",
+                            notes=[Note(self.tree.functions[first].name.at, "the first is here")])
 
     def function(self, path: syntax.Path) -> int:
         """The index of the handle of a function that is named."""
@@ -289,12 +334,17 @@ class Assembler:
         module, name = self.names.module(path.module), self.names.known_identifier(path.name)
         place = None if name is None else self.function_places.get((module, name))
         if place is None:
-            names = self.meant_names(module, path, self.function_places)
-            told = unknown("function", path_text(path), names)
-            if path.module is not None and module != self.names.own and "mean" not in told:
-                told += "; name it in the braces of the import, with its types, as `mint(signer, u64)`"
-            raise TextError(path.at, told)
+            told = self.no_function(module, path)
+            otherwise, notes = self.import_lacks(module, path, f"{entry_text(path.name)}(TYPE, ..)")
+            if module == self.names.own:
+                named = [entry_text(one.name) for one in self.tree.functions]
+                otherwise = f"the module's functions are {listed(named)}" if 0 < len(named) <= MOST_NAMED else ""
+            raise Unknown(path.at, told, [entry_text(path.name)], otherwise, notes)
         return place
+
+    def no_function(self, module: int, path: syntax.Path) -> Help:
+        """That there is no function of a name, and which one was probably meant."""
+        return unknown("function", path_text(path), self.meant_names(module, path, self.function_places))
 
     def called(self, called: Union[syntax.Path, syntax.Called]) -> int:
         """The index of the handle of a function that is called. TextError where other types stand behind it than it has."""
@@ -314,11 +364,10 @@ class Assembler:
         try:
             found = self.types(types, called.path.at)
         except TextError as error:
-            raise TextError(error.at, f"{error.message}; in a Call's parentheses stand types, and its arguments are on the "
-                                      "stack") from None
+            raise TextError(error.at, error.message, "in a Call's parentheses stand types: its arguments are on the stack") from None
         if known is not None and found != known:
             raise TextError(called.path.at, f"`{path_text(called.path)}` {verb} {self.types_text(known)}, and here stands "
-                                            f"{self.types_text(found)}")
+                            f"{self.types_text(found)}", "leave the types out, or write those of the function")
 
     def types_text(self, types: model.Signature) -> str:
         return "(" + ", ".join(map(self.type_text, types)) + ")"
@@ -344,12 +393,13 @@ class Assembler:
         self.each(function.acquires, lambda struct: body.acquires.append(self.definition(struct)))
 
 
-def check_field(one: syntax.Variable, seen: Set[str]) -> None:
+def check_field(one: syntax.Variable, seen: Dict[str, int]) -> None:
     """Fails where a struct has two fields of a name."""
     name = entry_text(one.name)
     if name in seen and isinstance(one.name, syntax.Name):
-        raise TextError(one.name.at, f"a second field `{name}`")
-    seen.add(name)
+        raise TextError(one.name.at, f"a second field `{name}`", "give one of them another name",
+                        notes=[Note(seen[name], "the first is here")])
+    seen[name] = one.name.at
 
 
 class Assembled(NamedTuple):
@@ -368,5 +418,6 @@ def assembled(tree: syntax.Module, errors: List[TextError]) -> Assembled:
         return Assembled(b"", {})
     data = write_module(module)
     if len(data) > TABLE_BYTES:
-        errors.append(TextError(tree.at, f"the module has {len(data)} bytes, more than {TABLE_BYTES}"))
+        errors.append(TextError(tree.at, f"the module has {len(data):,} bytes, more than {TABLE_BYTES:,}",
+                                "put some of its functions into another module"))
     return Assembled(data, assembler.starts())

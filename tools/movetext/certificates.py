@@ -3,7 +3,7 @@
 from dataclasses import dataclass, field
 from typing import List, Optional
 
-from . import numbers
+from . import limits
 from .cursor import Cursor, Fault, Stop
 from .model import (AVAILABILITY_NAMES, GLOB, NODE_NAMES, OWN, SLOT, BlockState, Certificate, Edge, FunctionDefinition, Module,
                     Node, Signature)
@@ -65,7 +65,7 @@ def read_state(cursor: Cursor, module: Module, types: Signature) -> Optional[Blo
         if availability >= len(AVAILABILITY_NAMES):
             cursor.stop(at, f"the availability {availability:02X}; it is 00 Unavailable, 01 Available or 02 Maybe")
         state.availabilities.append(availability)
-    for _ in range(cursor.number(numbers.EDGE_COUNT, "the number of edges")):
+    for _ in range(cursor.number(limits.EDGE_COUNT, "the number of edges")):
         at = cursor.at
         edge = read_edge(cursor, module, types)
         if state.edges and not state.edges[-1] < edge:
@@ -84,8 +84,8 @@ def read_edge(cursor: Cursor, module: Module, types: Signature) -> Edge:
     if source.kind == SLOT and source.index < len(types) and not types[source.index].is_mutable:
         cursor.fault(at, f"an edge leads from Slot {source.index}, an immutable reference; it leads from a mutable one, an Own or a "
                          "Glob")
-    count = cursor.number(numbers.POSITION_COUNT, "the number of an edge's positions")
-    positions = tuple(cursor.number(numbers.POSITION, "an edge's position") for _ in range(count))
+    count = cursor.number(limits.POSITION_COUNT, "the number of an edge's positions")
+    positions = tuple(cursor.number(limits.POSITION, "an edge's position") for _ in range(count))
     at = cursor.at
     mark = cursor.byte("whether an edge is open")
     if mark > 1:

@@ -3,11 +3,11 @@
 from typing import Any, Callable, Dict, List, NoReturn, Union
 
 from . import habits, opcodes, scanner, syntax
-from .errors import nearest, unknown
+from .errors import Note, TextError, nearest, unknown
 from .model import write_leaf
-from .numbers import INDEX, INSTRUCTION_COUNT
+from .limits import INDEX, INSTRUCTION_COUNT
 from .opcodes import BY_NAME
-from .parsing import TermParser
+from .parsing import TermParser, TextEnds
 from .scanner import Words
 
 
@@ -22,40 +22,61 @@ class CodeParser(TermParser):
         }
 
     def code(self, function: syntax.Function) -> None:
-        """Reads lines up to the closing brace, which is read too."""
-        kinds, texts, starts = self.kinds, self.texts, self.starts
+        """Reads lines up to the closing brace, which is read too. A line with an error is left out, and the function is broken."""
+        kinds, texts, depth = self.kinds, self.texts, len(self.opened)
         labels: List[syntax.Name] = []
         while True:
             at = self.at
             kind, text = kinds[at], texts[at]
             if kind == scanner.LINE_END or (kind == scanner.MARK and text == ";"):
                 self.at = at + 1
-            elif texts[at + 1] == ":" and kind in (scanner.NAME, scanner.QUOTED, scanner.NUMBER):
-                self.label(function, labels)
-            elif text == "label" and texts[at + 2] == ":":
-                self.at = at + 1
-            elif kind == scanner.NAME:
-                self.instruction(function, text, starts[at])
-                labels.clear()
-            elif kind == scanner.MARK and text == "}":
-                break
-            else:
-                self.wanted("an instruction, a label or `}`")
-        self.at += 1
-        if labels:
-            self.fail(f"the label `{labels[0].text}` stands before no instruction", labels[0].at)
+                continue
+            if text not in BY_NAME:
+                if self.accept_close():
+                    break
+                what = self.head()
+                if what:
+                    self.ends_before(what)
+                    function.is_broken = True
+                    return
+            try:
+                self.line(function, labels)
+            except TextEnds:
+                raise
+            except TextError as error:
+                self.note(error)
+                function.is_broken = True
+                self.skip_line(depth)
+        if labels and not function.is_broken:
+            self.fail(f"the label `{labels[0].text}` stands before no instruction", labels[0].at,
+                      "write an instruction after it, as `Ret`")
+
+    def line(self, function: syntax.Function, labels: List[syntax.Name]) -> None:
+        """Reads a label, an instruction, or a word before a label."""
+        kind, following = self.kinds[self.at], self.texts[self.at + 1]
+        if following == ":" and kind in (scanner.NAME, scanner.QUOTED, scanner.NUMBER):
+            self.label(function, labels)
+        elif self.texts[self.at] == "label" and self.texts[self.at + 2] == ":":
+            self.at += 1
+        elif kind == scanner.NAME:
+            self.instruction(function, self.texts[self.at], self.starts[self.at])
+            labels.clear()
+        else:
+            self.wanted("an instruction, a label or `}`")
 
     def label(self, function: syntax.Function, labels: List[syntax.Name]) -> None:
         """Reads a label or an instruction's number, and the colon."""
         start, place = self.start, len(function.code)
         if self.kind == scanner.NUMBER:
-            if self.number("a number", INDEX) != place:
-                self.fail(f"this is instruction {place}", start)
+            if self.number("a number", INDEX) != place and not function.is_broken:
+                self.fail(f"this is instruction {place}", start, f"write `{place}:`, or leave the number out")
         else:
             label = self.name("a label")
             if label.text in function.labels:
-                self.fail(f"a second label `{label.text}`", start)
+                self.fail(f"a second label `{label.text}`", start, "give one of them another name",
+                          [Note(function.label_places[label.text], "the first is here")])
             function.labels[label.text] = place
+            function.label_places[label.text] = start
             labels.append(label)
         self.at += 1
 
@@ -65,9 +86,10 @@ class CodeParser(TermParser):
         if opcode is None:
             self.no_instruction(word)
         if opcode.version > self.version:
-            self.fail(f"`{word}` is of version 6: write `version 6` behind the module's name")
+            self.fail(f"`{word}` is of version 6, and this module of version {self.version}",
+                      help="write `version 6` after the module's name")
         if len(function.code) == INSTRUCTION_COUNT and self.keeps_limits:
-            self.fail(f"a function has at most {INSTRUCTION_COUNT} instructions")
+            self.fail(f"a function has at most {INSTRUCTION_COUNT:,} instructions", help="move a part into another function")
         self.at += 1
         kinds, texts = self.kinds, self.texts
         operand: Any = None
@@ -80,27 +102,46 @@ class CodeParser(TermParser):
         function.code.append(syntax.Line(opcode, operand, start))
         kind, text = kinds[self.at], texts[self.at]
         if kind != scanner.LINE_END and not (kind == scanner.MARK and text in (";", "}")):
-            self.wanted("the end of the line")
+            self.not_ended(opcode)
+
+    def not_ended(self, opcode: opcodes.Opcode) -> NoReturn:
+        """Fails, since something follows an instruction on its line."""
+        if self.text in BY_NAME and self.kind == scanner.NAME:
+            self.fail(f"`{self.text}` stands on the line of another instruction",
+                      help=f"write it on a line of its own, or after a semicolon: `; {self.text}`")
+        if self.is_mark(".") and opcode.operand == opcodes.NUMBER:
+            self.fail("there are no fractions", help="numbers are whole")
+        takes = opcodes.OPERAND_WORDS[opcode.operand]
+        self.fail(f"wanted the end of the line, found {self.found()}",
+                  help=f"`{opcode.name}` names {takes}" + (": its operands are on the stack" if not opcode.operand else " alone"))
 
     def no_instruction(self, word: str) -> NoReturn:
         """Fails, since there is no instruction of this name."""
         if word == "let":
-            self.fail("locals are declared before the first instruction")
+            self.fail("a local is declared after an instruction", help="write each `let` before the first instruction")
+        if self.kinds[self.at + 1] == scanner.WRONG and word not in habits.INSTRUCTIONS:
+            self.at += 1
+            self.wanted("an instruction")
+        told = f"no instruction `{word}`"
+        if word in habits.MEANT:
+            self.fail(told, help=f"did you mean `{habits.MEANT[word]}`?")
         if word in habits.INSTRUCTIONS:
-            self.fail(habits.INSTRUCTIONS[word])
+            self.fail(told, help=habits.INSTRUCTIONS[word])
         if self.texts[self.at + 1] == "(" and not nearest(word, BY_NAME):
-            self.fail(f"no instruction `{word}`; a function is called by `Call {word}`, with its arguments on the stack")
-        self.fail(unknown("instruction", word, BY_NAME))
+            self.fail(told, help=f"a function is called by `Call {word}`, with its arguments on the stack")
+        if self.kinds[self.at + 1] == scanner.LINE_END and not nearest(word, BY_NAME):
+            self.fail(told, help=f"a label has a colon: `{word}:`")
+        self.fail_as(unknown("instruction", word, BY_NAME))
 
     def immediate(self, opcode: opcodes.Opcode) -> int:
         """The number that an instruction loads."""
         return self.number(f"a number of {8 * opcode.width} bits", (1 << 8 * opcode.width) - 1)
 
     def enclosed(self, opcode: opcodes.Opcode) -> Union[int, syntax.Index]:
-        """An operand in brackets or parentheses. What stands in parentheses behind brackets is a comment."""
+        """An operand in brackets or parentheses. What stands in parentheses after brackets is a comment."""
         start = self.start
         if not opcode.operand:
-            self.wanted("the end of the line")
+            self.not_ended(opcode)
         in_brackets = self.accept("[")
         if not in_brackets:
             self.expect("(")
@@ -135,7 +176,7 @@ class CodeParser(TermParser):
         return self.entry("a label")
 
     def called(self) -> Union[syntax.Path, syntax.Called]:
-        """A function. Its types may stand behind it, and are then compared."""
+        """A function. Its types may stand after it, and are then compared."""
         path = self.path("a function")
         if not self.is_mark("("):
             return path
@@ -153,7 +194,10 @@ class CodeParser(TermParser):
             return syntax.FieldPath(struct, self.entry("a field"), start)
         if isinstance(struct, syntax.Index):
             return struct
-        return self.wanted("`.` and a field")
+        if self.is_mark("::") and self.kinds[self.at + 1] == scanner.NAME:
+            self.fail(f"`{struct.text}::{self.texts[self.at + 1]}` is no field", struct.at,
+                      f"write a dot: `{struct.text}.{self.texts[self.at + 1]}`")
+        return self.fail(f"`{struct.text}` is no field", struct.at, "write the struct and the field, as `Coin.value`")
 
     def constant(self) -> Union[syntax.Literal, syntax.Index]:
         """A value, a type with bytes, or an index."""
@@ -163,6 +207,8 @@ class CodeParser(TermParser):
         if self.is_value():
             value = self.value()
             return syntax.Literal(syntax.Type(value.kind, None, None, start), write_leaf(value.kind, value.value), start)
+        if self.kind == scanner.FILE:
+            self.fail("there are no strings", help='a value is a bool, a number with its type, or an address, as `@0x1`')
         kind = self.type()
         if self.kind != scanner.HEX:
             self.wanted('bytes as `x"01"`')

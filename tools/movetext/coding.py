@@ -3,7 +3,8 @@
 from typing import TYPE_CHECKING, Any, Callable, Dict
 
 from . import model, opcodes, syntax
-from .errors import TextError, unknown
+from .errors import Note, TextError, Unknown, unknown
+from .limits import SIGNATURE_TYPES
 
 if TYPE_CHECKING:
     from .assembler import Assembler
@@ -24,9 +25,16 @@ class Coder:
 
     def add_locals(self, function: syntax.Function) -> None:
         """Numbers the parameters and the other locals, and finds the signature of the latter."""
+        if len(function.locals) > SIGNATURE_TYPES:
+            raise TextError(function.locals[SIGNATURE_TYPES].name.at,
+                            f"the function declares {len(function.locals)} locals, more than {SIGNATURE_TYPES}",
+                            "use one local for several values, or move a part into another function")
+        firsts: Dict[str, int] = {}
         for one in function.parameters + function.locals:
-            if one.name.text in self.locals:
-                self.module.errors.append(TextError(one.name.at, f"a second local `{one.name.text}`"))
+            first = firsts.setdefault(one.name.text, one.name.at)
+            if first != one.name.at:
+                self.module.collect(TextError(one.name.at, f"a second local `{one.name.text}`", "give one of them another name",
+                                              notes=[Note(first, "the first is here")]))
             self.locals.setdefault(one.name.text, len(self.locals))
         types = function.locals_index or [one.type for one in function.locals]
         self.body.locals = self.module.signature(types, function.at)
@@ -39,19 +47,21 @@ class Coder:
                 try:
                     operand = operand.number if operand.__class__ is syntax.Index else index_of[opcode.operand](operand)
                 except TextError as error:
-                    self.module.errors.append(error)
+                    self.module.collect(error)
             add(model.Instruction(opcode, operand))
 
     def local(self, name: syntax.Name) -> int:
         place = self.locals.get(name.text)
         if place is None:
-            raise TextError(name.at, unknown("local", name.text, self.locals))
+            raise Unknown(name.at, unknown("local", name.text, self.locals), [],
+                          f"write `let {name.text}: TYPE` before the first instruction", is_lost=self.function.lacks_locals)
         return place
 
     def target(self, name: syntax.Name) -> int:
         place = self.function.labels.get(name.text)
         if place is None:
-            raise TextError(name.at, unknown("label", name.text, self.function.labels))
+            raise Unknown(name.at, unknown("label", name.text, self.function.labels), [],
+                          f"write `{name.text}:` before the instruction to go on with", is_lost=self.function.is_broken)
         return place
 
     def field(self, path: syntax.FieldPath) -> int:

@@ -5,7 +5,8 @@ from typing import List, NamedTuple, NoReturn, Optional, Tuple
 
 from .model import (ADDRESS_BYTES, LATE_KINDS, LEAF_NAMES, LEAF_WIDTHS, MUTABLE, REFERENCE, STRUCT, Token, Value,
                     read_leaf)
-from .numbers import IDENTIFIER_BYTES, INDEX, NumberError, read_number
+from .limits import IDENTIFIER_BYTES, INDEX
+from .numbers import NumberError, read_number
 from .scanner import is_identifier
 
 

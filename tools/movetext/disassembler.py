@@ -5,23 +5,24 @@ import re
 import sys
 from typing import Dict, List, NamedTuple, Optional, Tuple
 
+from . import showing
 from .certificates import read_certificate
-from .commandline import (DONE, REFUSED, SECONDS, WORDS, Argument, CommandLine, Option, TimeIsUp, WordsError, fault, limited,
-                          read_input, understood_or_exit, write_output)
+from .commandline import (DONE, MEGABYTES, OF_STRANGERS, REFUSED, SECONDS, WORDS, Argument, CommandLine, Option, Spent,
+                          WordsError, fault, input_name, limited, read_input, understood_or_exit)
 from .cursor import Fault
 from .explain.pictures import NoPicture, borrow_graph, flow_graph, function_named
 from .explain.subject import Subject
 from .explain.telling import Explained, NoRecord, ledger_explained, module_explained, stream_explained
+from .kinds import KINDS, LEDGER, MODULE, STREAM, is_text, kind_of
 from .ledgers import read_ledger
-from .model import LEDGER_MAGIC, MAGIC, Publish
+from .model import Publish
+from .outputs import EXPLAINED, LISTING, OBJECTS, PAGE, PICTURE, PRINTED, Kind, known_inputs, write_output
 from .printer import module_lines
 from .reader import read_module
 from .records import read_stream
 from .source_names import SUFFIX, NameTable, NamesError, read_names
 from .stream_printer import broken_module_lines, fault_lines, hex_lines, ledger_lines, stream_lines
-
-MODULE, STREAM, LEDGER = "module", "stream", "ledger"
-KINDS = (MODULE, STREAM, LEDGER)
+from .writing import Unwritten
 
 COMMAND = CommandLine(
     "movedis",
@@ -29,24 +30,24 @@ COMMAND = CommandLine(
     [Argument("FILE", "The bytes; `-` is standard input"),
      Argument("CERTIFICATE", "A certificate of the module, as its bytes or as `moveledger prove` prints it: "
                              "what it states of blocks stands beside the code", is_required=False)],
-    [Option("--explain", "", "Say why it is refused, and where, by the rules of docs/VERIFIER.md: of a module, without a "
-                             "certificate by the least states; of a stream's records, with the lines of its report; of a saved "
-                             "ledger. The verdict is moveledger's: nothing rests on what is said here"),
-     Option("--record", "N", "With --explain, of the stream's record N alone"),
-     Option("--load", "LEDGER", "With --explain, the saved ledger over which the stream's records are answered"),
-     Option("--json", "", "With --explain, an object of JSON a line, with the verdict by field"),
+    [Option("--explain", "", "Explain the verdict: for a module its phase, place and rule; for a stream each line of its report; for "
+                             "a saved ledger why it isn't loaded. moveledger's verdict counts"),
+     *showing.OPTIONS,
+     Option("--record", "N", "With --explain and --trace: only record N"),
+     Option("--load", "LEDGER", "With --explain and --trace: begin with this saved ledger"),
+     Option("--json", "", "With --explain and --trace: one JSON object per line"),
      Option("--dot", "FUNCTION", "Draw the flow graph of a function, with what is stated of each block, for Graphviz"),
      Option("--before", "INSTRUCTION", "With --dot, draw the borrow graph before the instruction of this number"),
-     Option("--names", "NAMES", "The names that `moveasm -g` kept; FILE.names where that is there and no other is given"),
+     Option("--names", "NAMES", "The names that `moveasm -g` kept; default: FILE.names, if it exists"),
      Option("--as", "KIND", "Take the bytes for a module, a stream or a ledger, whatever they begin with"),
-     SECONDS,
-     Option("-o", "OUT", "Write the text to OUT, and not to standard output")])
+     SECONDS._replace(help=f"{SECONDS.help}; --explain and --dot stop after {OF_STRANGERS.seconds} by default, --trace and --html after "
+                          f"{showing.BOUNDS.seconds}"),
+     MEGABYTES._replace(help=f"{MEGABYTES.help}; --explain and --dot stop at {OF_STRANGERS.megabytes} by default, --trace and --html at "
+                            f"{showing.BOUNDS.megabytes}"),
+     Option("-o", "OUT", "Write the text to OUT, and not to standard output")],
+    has_version=True)
 
 Given = Dict[str, Optional[str]]
-
-
-# How a module's or a stream's text begins, which nobody wants as bytes.
-TEXT = re.compile(rb"(?:\s|//[^\n]*\n|/\*[^*]*\*+(?:[^/*][^*]*\*+)*/)*(?:module|publish|run|show|audit|record|bytes)\b")
 
 
 class NoBytes(Exception):
@@ -58,14 +59,6 @@ class Disassembly(NamedTuple):
 
     text: str
     faults: List[Fault] = []
-
-
-def kind_of(data: bytes) -> str:
-    """What bytes are taken for: what their first four say, or a stream. Two of a module's four are enough."""
-    if data[:4] in LEDGER_MAGIC.values():
-        return LEDGER
-    alike = sum(one == wanted for one, wanted in zip(data, MAGIC))
-    return MODULE if alike >= 2 or alike == len(data) > 0 else STREAM
 
 
 def text_of(lines: List[str]) -> str:
@@ -116,14 +109,17 @@ def certificate_of(data: bytes) -> bytes:
 
 
 def wrong_words(message: str) -> WordsError:
-    return WordsError(f"error: {message}\n\n{COMMAND.usage()}\n\nFor more information, try '--help'.\n")
+    return WordsError(COMMAND.refusal(message))
 
 
 def check_together(given: Given) -> None:
     """Wants options that go together."""
     for flag, value in (("--record <N>", given["N"]), ("--load <LEDGER>", given["LEDGER"]), ("--json", given["--json"])):
-        if value is not None and given["--explain"] is None:
-            raise wrong_words(f"'{flag}' is given with '--explain'")
+        if value is not None and given["--explain"] is None and given["--trace"] is None:
+            raise wrong_words(f"'{flag}' is given with '--explain' or '--trace'")
+    wrong = showing.wrong_together(given)
+    if wrong:
+        raise wrong_words(wrong)
     if given["N"] is not None and not re.fullmatch(r"[1-9][0-9]{0,17}", given["N"]):
         raise wrong_words(f"invalid value '{given['N']}' for '--record <N>': records are counted from 1")
     if given["INSTRUCTION"] is not None:
@@ -132,8 +128,6 @@ def check_together(given: Given) -> None:
         if not re.fullmatch(r"[0-9]{1,5}", given["INSTRUCTION"]):
             raise wrong_words(f"invalid value '{given['INSTRUCTION']}' for '--before <INSTRUCTION>': instructions are counted "
                               "from 0")
-    if given["FUNCTION"] is not None and given["--explain"] is not None:
-        raise wrong_words("'--dot <FUNCTION>' draws, and '--explain' says: give one of them")
 
 
 def checked_kind(given: Given) -> Optional[str]:
@@ -144,7 +138,7 @@ def checked_kind(given: Given) -> Optional[str]:
     if kind is not None and kind not in KINDS:
         raise wrong_words(f"invalid value '{kind}' for '--as <KIND>'\n  [possible values: {', '.join(KINDS)}]")
     wanted = MODULE if given["CERTIFICATE"] is not None else kind
-    if given["N"] is not None or given["LEDGER"] is not None:
+    if given["N"] is not None or given["LEDGER"] is not None or given["--trace"] is not None:
         if given["CERTIFICATE"] is not None or kind not in (None, STREAM):
             raise wrong_words("'--record <N>' and '--load <LEDGER>' are about a stream")
         wanted = STREAM
@@ -167,11 +161,21 @@ def read_inputs(given: Given) -> Inputs:
     """Reads the files that are given. OSError where one can't be read, WordsError where the words don't go together."""
     kind = checked_kind(given)
     data = read_input(str(given["FILE"]))
-    if kind is None and TEXT.match(data) and data.isascii():
-        raise NoBytes("this is a text: `tools/moveasm` makes its bytes")
-    certificate = None if given["CERTIFICATE"] is None else certificate_of(read_input(given["CERTIFICATE"]))
+    if kind in (None, STREAM) and given["KIND"] is None and is_text(data):
+        raise NoBytes(f"this is a text, not bytes: `tools/moveasm {given['FILE']}` makes its bytes")
+    certificate = None if given["CERTIFICATE"] is None else certificate_of(read_certificate_file(given["CERTIFICATE"]))
     loaded = None if given["LEDGER"] is None else read_input(given["LEDGER"])
     return Inputs(data, kind or kind_of(data), certificate, loaded, given_names(given))
+
+
+def read_certificate_file(name: str) -> bytes:
+    """The bytes of a certificate's file. OSError where it can't be read, which says so where a certificate stands in its place."""
+    try:
+        return read_input(name)
+    except FileNotFoundError as error:
+        if re.fullmatch(r"(?:[0-9a-fA-F]{2})+", name):
+            error.strerror = "CERTIFICATE is a file, and this isn't there"
+        raise
 
 
 def given_names(given: Given) -> NameTable:
@@ -222,6 +226,13 @@ def drawn_module(inputs: Inputs, wanted: str) -> Tuple[Subject, Optional[bytes]]
     raise NoPicture(f"no module of the stream has the function `{wanted}`")
 
 
+def traced(given: Given, inputs: Inputs) -> int:
+    """Writes the steps that are asked for, and answers the status."""
+    if given["KIND"] is None and kind_of(inputs.data) != STREAM:
+        raise NoBytes(f"this is a {kind_of(inputs.data)}: `--trace` shows the runs of a stream")
+    return DONE if showing.show_steps(given, inputs.data, inputs.loaded, inputs.names, inputs_of(given)) else REFUSED
+
+
 def printed(given: Given, inputs: Inputs) -> Tuple[str, int, str]:
     """The text that is printed, the status, and what standard error says."""
     if given["--explain"] is not None:
@@ -230,21 +241,51 @@ def printed(given: Given, inputs: Inputs) -> Tuple[str, int, str]:
         return text_of(lines), DONE if said.is_accepted else REFUSED, ""
     if given["FUNCTION"] is not None:
         return text_of(picture(given, inputs)), DONE, ""
+    if given["--html"] is not None:
+        if inputs.kind == LEDGER:
+            raise wrong_words("'--html' is about a module, or a stream's modules")
+        return showing.page_of(given, inputs.data, inputs.certificate, inputs.names, inputs.kind == MODULE), DONE, ""
     found = disassemble(inputs.data, inputs.kind, inputs.names) if inputs.certificate is None \
         else disassemble_module(inputs.data, inputs.certificate, inputs.names)
     if not found.faults:
         return found.text, DONE, ""
     first = found.faults[0]
-    return found.text, REFUSED, f"{given['FILE']}: offset {first.offset}: {first.reason}\n"
+    return found.text, REFUSED, f"{input_name(str(given['FILE']))}: offset {first.offset}: {first.reason}\n"
+
+
+def output_kind(given: Given) -> Kind:
+    """What is written."""
+    if given["--explain"] is not None:
+        return OBJECTS if given["--json"] is not None else EXPLAINED
+    if given["--html"] is not None:
+        return PAGE
+    return PICTURE if given["FUNCTION"] is not None else LISTING
+
+
+def inputs_of(given: Given) -> List[str]:
+    """The files that are read."""
+    beside = f"{given['FILE']}{SUFFIX}"
+    return known_inputs(given["FILE"], given["CERTIFICATE"], given["LEDGER"], given["NAMES"]) + [beside] * os.path.exists(beside)
+
+
+def written(given: Given, text: str) -> None:
+    """Writes the text. OSError where it can't be written, or would take the place of something else."""
+    kind, out = output_kind(given), given["OUT"]
+    front = f"{PRINTED}\n" if kind is LISTING and out not in (None, "-") else ""
+    write_output(out, (front + text).encode("utf-8", "backslashreplace"), kind, inputs_of(given))
 
 
 def main() -> int:
     """The program movedis. Answers its status: 0, 1 for a fault, 2 for words that aren't understood, and 3 where the bytes
     aren't to their end what the text says, what is explained is refused, or what is asked for isn't there."""
     given = understood_or_exit(COMMAND)
+    explains = given["--explain"] is not None or given["FUNCTION"] is not None
     try:
-        with limited(COMMAND, given):
-            text, status, told = printed(given, read_inputs(given))
+        with limited(COMMAND, given, OF_STRANGERS if explains else showing.bounds_of(given)):
+            inputs = read_inputs(given)
+            if given["--trace"] is not None:
+                return traced(given, inputs)
+            text, status, told = printed(given, inputs)
     except WordsError as words:
         sys.stderr.write(str(words))
         return WORDS
@@ -252,14 +293,16 @@ def main() -> int:
         sys.stderr.write(f"{error}\n")
         return REFUSED
     except (NoRecord, NoPicture, NoBytes) as error:
-        sys.stderr.write(f"{given['FILE']}: {error}\n")
+        sys.stderr.write(f"{input_name(str(given['FILE']))}: {error}\n")
         return REFUSED
-    except TimeIsUp as error:
-        return fault("time", error)
+    except Spent as error:
+        return fault(error.kind, error)
+    except Unwritten as error:
+        return fault("write", error.why)
     except OSError as error:
         return fault("read", error)
     try:
-        write_output(given["OUT"], text.encode())
+        written(given, text)
     except OSError as error:
         return fault("write", error)
     sys.stderr.write(told)

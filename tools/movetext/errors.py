@@ -1,14 +1,20 @@
 """What is wrong with a text, and where; and the name that was meant."""
 
 import re
+import textwrap
 from bisect import bisect_right
-from typing import Iterable, List, Optional, Tuple
+from typing import Iterable, List, NamedTuple, Optional, Sequence, Tuple
 
 # No more errors than these are told of one text.
 MOST_ERRORS = 20
 
-# No more letters than these are shown before and behind the place of an error.
-MOST_BEFORE = 100
+# No line of a message has more signs where it can be broken, and no more of a text's line is shown.
+WIDTH = 100
+INDENT = "    "
+SHOWN = WIDTH - len(INDENT)
+
+# What is marked of a line: the word at a place.
+MARKED = re.compile(r'\w+|"[^"\n]*"|`[^`\n]*`|::|.')
 
 
 class Source:
@@ -30,49 +36,120 @@ class Source:
         line = bisect_right(self.line_starts(), at)
         return line, at - self.starts[line - 1] + 1
 
+    def told(self, at: int) -> str:
+        """An offset as the beginning of a message has it."""
+        line, column = self.place(at)
+        return f"{self.name}:{line}:{column}"
+
+    def offset(self, line: int, column: int) -> int:
+        """The offset of a line and a column."""
+        return self.line_starts()[line - 1] + column - 1
+
     def marked(self, at: int) -> List[str]:
-        """The line of an offset, and a line with a caret below it. No more of the line is shown than fits."""
+        """The line of an offset, and a line that marks the word there; nothing of a line without words. No more of the line is
+        shown than fits."""
         start = self.text.rfind("\n", 0, at) + 1
         end = self.text.find("\n", at)
-        line = self.text[start:] if end < 0 else self.text[start:end]
+        line = (self.text[start:] if end < 0 else self.text[start:end]).rstrip("\r")
+        if not line.strip():
+            return []
         column = at - start
-        if column > MOST_BEFORE:
-            line, column = ".." + line[column - MOST_BEFORE:], MOST_BEFORE + 2
-        if len(line) > column + MOST_BEFORE:
-            line = line[:column + MOST_BEFORE] + ".."
-        return [line, "".join("\t" if letter == "\t" else " " for letter in line[:column]) + "^"]
+        found = MARKED.match(line, column)
+        length = len(found.group()) if found else 1
+        if column > SHOWN // 2 and column + length > SHOWN:
+            front = column - SHOWN // 2
+            line, column = ".." + line[front:], SHOWN // 2 + 2
+        if len(line) > SHOWN:
+            line = line[:SHOWN - 2] + ".."
+        blanks = "".join("\t" if letter == "\t" else " " for letter in line[:column])
+        return [line, blanks + "^" * min(length, SHOWN - column)]
+
+
+class Note(NamedTuple):
+    """A second place of what is wrong: an offset, what is said of it, and the text where it isn't the same one."""
+
+    at: int
+    message: str
+    source: Optional[Source] = None
+
+
+class Help(NamedTuple):
+    """What is said of a mistake: the fact, and what to write."""
+
+    fact: str
+    help: str = ""
 
 
 class TextError(Exception):
-    """Something wrong at an offset of a text. Where lines are given that say more, maybe none, the text's own line is shown before
-    them."""
+    """Something wrong at an offset of a text: the fact, what to write, the rule, second places, and lines with what holds there."""
 
-    def __init__(self, at: int, message: str, more: Optional[Iterable[str]] = None):
+    word = "error"
+
+    def __init__(self, at: int, message: str, help: str = "", rule: str = "", notes: Sequence[Note] = (),
+                 state: Sequence[str] = ()):
         super().__init__(message)
         self.at = at
         self.message = message
-        self.more = None if more is None else list(more)
+        self.help = help
+        self.rule = rule
+        self.notes = list(notes)
+        self.state = list(state)
+
+    def lines(self, source: Source) -> List[str]:
+        """The error as it is told."""
+        lines = [f"{source.told(self.at)}: {self.word}: {self.message}", *indented(source.marked(self.at))]
+        for note in self.notes:
+            there = note.source or source
+            lines += [f"{there.told(note.at)}: note: {note.message}", *indented(there.marked(note.at))]
+        return lines + indented(self.state) + folded("help: ", self.help) + folded("rule: ", self.rule)
+
+
+class Unknown(TextError):
+    """A name that nothing has. Where what has one of these names is itself wrong, it isn't told."""
+
+    def __init__(self, at: int, told: Help, names: Iterable[str], otherwise: str = "", notes: Sequence[Note] = (),
+                 is_lost: bool = False):
+        super().__init__(at, told.fact, told.help or otherwise, notes=notes)
+        self.names, self.is_lost = set(names), is_lost
+
+
+class Warned(TextError):
+    """Something that is allowed, and rarely meant."""
+
+    word = "warning"
+
+
+def indented(lines: Iterable[str]) -> List[str]:
+    return [INDENT + line for line in lines]
+
+
+def wrapped(text: str) -> List[str]:
+    """A text in lines that aren't too long."""
+    return textwrap.wrap(text, WIDTH - len(INDENT), break_long_words=False, break_on_hyphens=False)
+
+
+def folded(front: str, text: str) -> List[str]:
+    """A text after some words, in lines that aren't too long; no line where there is no text."""
+    width = WIDTH - len(INDENT)
+    return indented(textwrap.wrap(text, width, initial_indent=front, subsequent_indent=" " * len(front),
+                                  break_long_words=False, break_on_hyphens=False))
 
 
 class TextErrors(Exception):
-    """All that is wrong with a text, each in a line."""
+    """All that is wrong with a text, and with others that it names."""
 
-    def __init__(self, source: Source, errors: Iterable[TextError]):
+    def __init__(self, source: Source, errors: Iterable[TextError], others: Iterable["TextErrors"] = ()):
         self.source = source
-        self.errors = sorted(errors, key=lambda error: error.at)
+        told = {(error.at, error.message): error for error in errors}
+        self.errors = sorted(told.values(), key=lambda error: error.at)
+        self.others = list(others)
         super().__init__("\n".join(self.lines()))
 
     def lines(self) -> List[str]:
-        told = [self.line(error) for error in self.errors[:MOST_ERRORS]]
-        more = len(self.errors) - len(told)
-        return told + ([f"{self.source.name}: and {more} more"] if more > 0 else [])
-
-    def line(self, error: TextError) -> str:
-        line, column = self.source.place(error.at)
-        first = f"{self.source.name}:{line}:{column}: {error.message}"
-        if error.more is None:
-            return first
-        return "\n    ".join([first, *self.source.marked(error.at), *error.more])
+        told = [line for error in self.errors[:MOST_ERRORS] for line in error.lines(self.source)]
+        more = len(self.errors) - MOST_ERRORS
+        told += [f"{self.source.name}: and {more} more"] if more > 0 else []
+        return told + [line for other in self.others for line in other.lines()]
 
 
 def distance(one: str, other: str, most: int) -> int:
@@ -94,27 +171,40 @@ def distance(one: str, other: str, most: int) -> int:
 
 def nearest(name: str, names: Iterable[str]) -> Optional[str]:
     """The name among these that was probably meant, or None."""
-    most = max(1, len(name) // 3)
+    most = max(1, len(name.rpartition("::")[2]) // 3)
     best, fewest = None, most + 1
-    plain = name.rpartition("::")[2].lower()
+    plain, parts = name.rpartition("::")[2].lower(), parts_of(name)
+    names = list(names)
     for other in names:
-        if other.rpartition("::")[2].lower() == plain:
+        if other.rpartition("::")[2].lower() == plain or len(parts) > 1 and parts_of(other) == parts:
             return other
+    for other in names:
         far = distance(name, other, fewest - 1)
         if far < fewest and far < max(len(name), len(other)):
             best, fewest = other, far
     return best
 
 
+def parts_of(name: str) -> List[str]:
+    """The words that a name is made of, in any order."""
+    return sorted(word.lower() for word in re.findall(r"[A-Z]+[a-z0-9]*|[a-z0-9]+", name.rpartition("::")[2]))
+
+
 def meant(name: str, names: Iterable[str]) -> str:
-    """Which name was probably meant, as the end of a message; nothing where none was."""
+    """Which name was probably meant; nothing where none was."""
     other = nearest(name, names)
-    return f"; did you mean `{other}`?" if other else ""
+    return f"did you mean `{other}`?" if other else ""
 
 
-def unknown(what: str, name: str, names: Iterable[str], where: str = "") -> str:
+def and_meant(name: str, names: Iterable[str]) -> str:
+    """Which name was probably meant, as the end of a sentence; nothing where none was."""
+    other = meant(name, names)
+    return f"; {other}" if other else ""
+
+
+def unknown(what: str, name: str, names: Iterable[str], where: str = "") -> Help:
     """That there is nothing of a name, and which name was probably meant."""
-    return f"no {what} `{name}`{where}{meant(name, names)}"
+    return Help(f"no {what} `{name}`{where}", meant(name, names))
 
 
 def one_of(words: Iterable[str]) -> str:

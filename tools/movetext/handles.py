@@ -3,8 +3,8 @@
 from typing import Dict, Optional, Union
 
 from . import model, syntax
-from .errors import TextError, unknown
-from .numbers import IDENTIFIER_BYTES
+from .errors import TextError, Unknown, unknown
+from .limits import IDENTIFIER_BYTES
 from .pools import Pool
 from .scanner import is_identifier
 
@@ -21,6 +21,7 @@ class Names:
         self.modules: Pool[model.ModuleHandle] = Pool("module handles")
         self.aliases: Dict[str, int] = {}
         self.own = 0
+        self.own_name = ""
 
     def identifier(self, name: syntax.Entry) -> int:
         """The index of an identifier."""
@@ -46,7 +47,8 @@ class Names:
         handle = self.known_handle(module)
         place = None if handle is None else self.modules.places.get(handle)
         if place is None:
-            raise TextError(module.at, f"no import of the module `{module_text(module)}`")
+            raise Unknown(module.at, unknown("import of the module", module_text(module), ()), [entry_text(module.name)],
+                          f"write `import {module_text(module)} {{ .. }}`, with what is used of it in the braces")
         return place
 
     def by_alias(self, name: syntax.Entry) -> int:
@@ -54,7 +56,10 @@ class Names:
             return name.number
         place = self.aliases.get(name.text)
         if place is None:
-            raise TextError(name.at, unknown("import of a module", name.text, self.aliases))
+            if name.text == self.own_name:
+                raise TextError(name.at, f"`{name.text}` is this module itself", "write what follows alone, or `Self::` before it")
+            raise Unknown(name.at, unknown("import of a module", name.text, [one for one in self.aliases if one != OWN]), [name.text],
+                          f"write `import ADDRESS::{name.text} {{ .. }}`, with what is used of it in the braces")
         return place
 
     def known_handle(self, module: syntax.ModuleName) -> Optional[model.ModuleHandle]:
@@ -71,8 +76,9 @@ class Names:
 def checked_identifier(name: syntax.Name) -> str:
     """A name that is an identifier; TextError for any other."""
     if not is_identifier(name.text):
-        why = f"has more than {IDENTIFIER_BYTES} letters" if len(name.text) > IDENTIFIER_BYTES else "is no identifier"
-        raise TextError(name.at, f"`{name.text[:40]}` {why}")
+        if len(name.text) > IDENTIFIER_BYTES:
+            raise TextError(name.at, f"`{name.text[:40]}..` has {len(name.text)} letters, more than {IDENTIFIER_BYTES}")
+        raise TextError(name.at, f"`{name.text[:40]}` is no identifier", "a name is a letter, and letters, digits or `_`")
     return name.text
 
 

@@ -3,7 +3,7 @@
 from dataclasses import dataclass, field
 from typing import Callable, Dict, List, Optional, Tuple
 
-from . import model, numbers
+from . import limits, model
 from .cursor import Cursor, Fault, Stop
 from .model import COPY, DROP, KEY, LEDGER_MAGIC, Ledger, Module, Offer, Stored, Tally
 from .reader import read_module
@@ -52,8 +52,8 @@ def read_ledger(data: bytes) -> Optional[LedgerReading]:
 def read_parts(cursor: Cursor, reading: LedgerReading) -> None:
     """Runs, modules, tallies and stored values."""
     ledger = reading.ledger
-    ledger.runs = cursor.number(numbers.RUN_COUNT, "the number of runs")
-    for _ in range(cursor.number(numbers.STORE_MODULES, "the number of modules")):
+    ledger.runs = cursor.number(limits.RUN_COUNT, "the number of runs")
+    for _ in range(cursor.number(limits.STORE_MODULES, "the number of modules")):
         read_offer(cursor, reading)
     reading.is_listed = True
     reading.reason = 1 if reading.faults else 0
@@ -71,10 +71,10 @@ def read_parts(cursor: Cursor, reading: LedgerReading) -> None:
 
 def read_offer(cursor: Cursor, reading: LedgerReading) -> None:
     """The bytes of a module and of its certificate."""
-    size = cursor.number(numbers.TABLE_BYTES, "a module's length")
+    size = cursor.number(limits.TABLE_BYTES, "a module's length")
     at = cursor.at
     data = cursor.bytes(size, "a module")
-    size = cursor.number(numbers.CERTIFICATE_BYTES, "a certificate's length")
+    size = cursor.number(limits.CERTIFICATE_BYTES, "a certificate's length")
     reading.module_offsets.append(at)
     reading.certificate_offsets.append(cursor.at)
     reading.ledger.offers.append(Offer(data, cursor.bytes(size, "a certificate")))
@@ -92,8 +92,8 @@ def read_offered(cursor: Cursor, reading: LedgerReading, index: int, offer: Offe
 
 def read_tally(cursor: Cursor, form: int) -> Tally:
     if form == 2:
-        packed = cursor.number(numbers.TALLY, "how many values were packed")
-        return Tally(packed, cursor.number(numbers.TALLY, "how many values were unpacked"))
+        packed = cursor.number(limits.TALLY, "how many values were packed")
+        return Tally(packed, cursor.number(limits.TALLY, "how many values were unpacked"))
     bytes_packed = cursor.bytes(16, "how many values were packed")
     bytes_unpacked = cursor.bytes(16, "how many values were unpacked")
     return Tally(int.from_bytes(bytes_packed, "little"), int.from_bytes(bytes_unpacked, "little"))
@@ -102,7 +102,7 @@ def read_tally(cursor: Cursor, form: int) -> Tally:
 def read_first_form(cursor: Cursor, ledger: Ledger, structs: "Structs") -> None:
     """The stored values, which ascend by address, place and struct definition."""
     before = None
-    for _ in range(cursor.number(numbers.STORED_COUNT, "the number of stored values")):
+    for _ in range(cursor.number(limits.STORED_COUNT, "the number of stored values")):
         at = cursor.at
         address = cursor.address("a stored value's address")
         place = cursor.index("the place of a stored value's module")
@@ -119,7 +119,7 @@ def read_second_form(cursor: Cursor, ledger: Ledger, structs: "Structs") -> None
     """For each struct with key its stored values, which ascend by address."""
     for place, struct in ledger.keys:
         before = None
-        for _ in range(cursor.number(numbers.STORED_COUNT, "the number of a struct's stored values")):
+        for _ in range(cursor.number(limits.STORED_COUNT, "the number of a struct's stored values")):
             at = cursor.at
             address = cursor.address("a stored value's address")
             if before is not None and address <= before:

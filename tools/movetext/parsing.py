@@ -1,12 +1,14 @@
-"""What all parts of the parser stand on: the next word of a text, and the names, numbers, types and values that it begins."""
+"""What all parts of the parser stand on: the next word of a text, the names, numbers, types and values that it begins, and where
+reading goes on after an error."""
 
 import re
-from typing import Callable, Iterable, List, NoReturn, Optional, Tuple, TypeVar, Union
+from typing import Callable, Iterable, List, NoReturn, Optional, Sequence, Tuple, TypeVar, Union
 
-from . import model, scanner, syntax
-from .errors import TextError, meant, one_of
+from . import habits, model, scanner, syntax
+from .errors import Help, Note, TextError, meant, one_of
+from .limits import INDEX
 from .model import ADDRESS_BYTES, LATE_KINDS, LEAF_KINDS, LEAF_NAMES, LEAF_WIDTHS, MUTABLE, REFERENCE, STRUCT
-from .numbers import INDEX
+from .opcodes import BY_NAME
 from .scanner import Words
 
 T = TypeVar("T")
@@ -15,13 +17,35 @@ NUMBER_PATTERN = re.compile(r"(0x[0-9a-fA-F_]*[0-9a-fA-F]|[0-9][0-9_]*)(u8|u16|u
 # No number has more letters than these, which are enough for any with `_` between digits.
 MOST_LETTERS = 200
 
+# Words at the beginning of a line that no block of code, fields or an import's names has: what they begin, and the kind of the next
+# word.
+HEADS = {
+    "import": ("import", (scanner.NUMBER, scanner.INDEX)), "module": ("module", (scanner.NUMBER, scanner.INDEX)),
+    "publish": ("record", (scanner.NAME,)), "run": ("record", (scanner.NUMBER,)), "struct": ("struct", (scanner.NAME,)),
+    "show": ("record", (scanner.LINE_END, scanner.NAME)), "audit": ("record", (scanner.LINE_END, scanner.NAME)),
+}
+MODIFIERS = ("public", "entry", "fun")
+
+
+class TextEnds(TextError):
+    """The text ends within a block, after which there is nothing to go on with."""
+
 
 class WordParser:
-    """A place in a text's words."""
+    """A place in a text's words. Errors are collected, and reading goes on after each as far as it can."""
 
     def __init__(self, words: Words):
+        self.words = words
         self.kinds, self.texts, self.starts = words.kinds, words.texts, words.starts
         self.at = 0
+        self.errors: List[TextError] = []
+        # The open braces, and the closed ones with what closed them, by their words.
+        self.opened: List[int] = []
+        self.closed: List[Tuple[int, int]] = []
+        # How what is being read is written.
+        self.form = ""
+        # Whether a brace is known to be missing or too much, so that what follows may only seem wrong.
+        self.is_unbalanced = False
 
     @property
     def kind(self) -> int:
@@ -35,13 +59,18 @@ class WordParser:
     def start(self) -> int:
         return self.starts[self.at]
 
-    def fail(self, message: str, at: Optional[int] = None) -> NoReturn:
-        raise TextError(self.start if at is None else at, message)
+    def fail(self, message: str, at: Optional[int] = None, help: str = "", notes: Sequence[Note] = ()) -> NoReturn:
+        """Fails at the next word, or at another place."""
+        if at is None and self.kind == scanner.WRONG:
+            message, help = scanner.wrong_word(self.words.text, self.start)
+        raise TextError(self.start if at is None else at, message, help, notes=notes)
+
+    def fail_as(self, told: Help, at: Optional[int] = None, notes: Sequence[Note] = ()) -> NoReturn:
+        self.fail(told.fact, at, told.help, notes)
 
     def wanted(self, what: str, words: Iterable[str] = ()) -> NoReturn:
         """Fails, since the next word isn't what is wanted, and says which of these words was probably meant."""
-        hint = meant(self.text, words) if self.kind == scanner.NAME else ""
-        self.fail(f"wanted {what}, found {self.found()}{hint}")
+        self.fail(f"wanted {what}, found {self.found()}", help=meant(self.text, words) if self.kind == scanner.NAME else "")
 
     def wanted_one_of(self, words: Iterable[str]) -> NoReturn:
         """Fails, since the next word is none of these."""
@@ -53,6 +82,52 @@ class WordParser:
             return scanner.KIND_WORDS[self.kind]
         text = shortened(self.text)
         return text if self.kind in (scanner.QUOTED, scanner.FILE, scanner.HEX) else f"`{text}`"
+
+    def note(self, error: TextError) -> None:
+        """Keeps an error, with how it is written where it stands, before reading goes on."""
+        error.rule = error.rule or self.form
+        self.errors.append(error)
+
+    def attempt(self, read: Callable[[], object], is_start: Callable[[], bool]) -> bool:
+        """Reads something. After an error it skips what is left of it, up to what begins the next one or closes the block. Answers
+        whether there was no error."""
+        depth, began = len(self.opened), self.at
+        self.form = ""
+        try:
+            read()
+            return True
+        except TextEnds:
+            raise
+        except TextError as error:
+            self.note(error)
+        first = self.at
+        while self.kind != scanner.END and not (self.is_mark("}") and len(self.opened) <= depth):
+            if len(self.opened) == depth and self.at > began and (self.at == first or self.begins_line()) and is_start():
+                break
+            self.skip()
+        return False
+
+    def skip(self) -> None:
+        """Skips a word, and counts braces."""
+        if self.is_mark("{"):
+            self.opened.append(self.at)
+        elif self.is_mark("}") and self.opened:
+            self.closed.append((self.opened.pop(), self.at))
+        self.at += 1
+
+    def skip_line(self, depth: int) -> None:
+        """Skips what is left of a line, with the blocks that begin on it."""
+        while self.kind != scanner.END:
+            if len(self.opened) == depth and (self.kind == scanner.LINE_END or self.is_mark(";") or self.is_mark("}")):
+                return
+            self.skip()
+
+    def begins_line(self) -> bool:
+        return self.at == 0 or self.kinds[self.at - 1] == scanner.LINE_END
+
+    def line_of(self, word: int) -> int:
+        """The line of a word."""
+        return self.words.text.count("\n", 0, self.starts[word]) + 1
 
     def is_mark(self, text: str) -> bool:
         return self.texts[self.at] == text and self.kinds[self.at] == scanner.MARK
@@ -101,15 +176,96 @@ class WordParser:
 
     def open_brace(self) -> None:
         self.skip_lines()
-        self.expect("{")
+        if not self.is_mark("{"):
+            self.wanted("`{`")
+        self.opened.append(self.at)
+        self.at += 1
         self.skip_ends()
 
-    def in_braces(self, item: Callable[[], object], wanted: str) -> None:
+    def accept_close(self) -> bool:
+        """Whether the next word closes the block, and is then read. Fails where the text ends before that."""
+        if self.is_mark("}"):
+            self.closed.append((self.opened.pop(), self.at))
+            self.at += 1
+            return True
+        if self.kind == scanner.END:
+            self.not_closed()
+        return False
+
+    def not_closed(self) -> NoReturn:
+        """Fails, since the text ends within a block."""
+        if self.words.cut is not None:
+            cut = scanner.wrong_word(self.words.text, self.words.cut)
+            raise TextEnds(self.words.cut, cut.fact, cut.help)
+        opening, closing = self.unclosed()
+        told = "this `{` isn't closed"
+        if closing is None:
+            raise TextEnds(self.starts[opening], told, "write `}` where its block ends")
+        raise TextEnds(self.starts[opening], told, "write `}` before that one", notes=[self.closing_note(opening, closing)])
+
+    def unclosed(self) -> Tuple[int, Optional[int]]:
+        """The brace that is probably not closed, where one is missing: the first whose line stands elsewhere than the line of the
+        brace that closed it, which is answered too; otherwise the last one that is open."""
+        for opening, closing in self.closed:
+            if opening > self.opened[-1] and self.indent(opening) != self.indent(closing) and self.is_first(closing):
+                return opening, closing
+        return self.opened[-1], None
+
+    def closing_note(self, opening: int, closing: int) -> Note:
+        """That a brace closes another line's block, by where it stands."""
+        outer = [one for one in self.opened if one < opening and self.indent(one) == self.indent(closing)]
+        where = f"closes the block of line {self.line_of(outer[-1])}" if outer else "closes another block"
+        return Note(self.starts[closing], f"by where it stands, this `}}` {where}")
+
+    def indent(self, word: int) -> int:
+        """How far the line of a word is indented."""
+        text, start = self.words.text, self.starts[word]
+        begin = text.rfind("\n", 0, start) + 1
+        return len(text[begin:start]) - len(text[begin:start].lstrip()) if text[begin:start].strip() else start - begin
+
+    def is_first(self, word: int) -> bool:
+        """Whether a word is the first of its line."""
+        return self.kinds[word - 1] == scanner.LINE_END
+
+    def head(self, is_import: bool = False) -> Optional[str]:
+        """What the next line begins, where that is no part of a block of code, fields or an import's names; otherwise None."""
+        word, following = self.text, self.kinds[self.at + 1]
+        if self.kind != scanner.NAME or not self.begins_line() or self.texts[self.at + 1] == ":":
+            return None
+        if word in HEADS and following in HEADS[word][1] and not (is_import and word == "struct" and not self.has_brace()):
+            return HEADS[word][0]
+        if word in MODIFIERS and (following == scanner.NAME or self.texts[self.at + 1] == "(") and (
+                not is_import or self.has_brace()):
+            return "function"
+        is_call = self.texts[self.at + 1] == "(" and word not in BY_NAME and word not in habits.INSTRUCTIONS
+        return "function" if is_call and self.has_brace() else None
+
+    def has_brace(self) -> bool:
+        """Whether a block begins on the next line, or behind its end."""
+        at = self.at
+        while self.kinds[at] not in (scanner.LINE_END, scanner.END):
+            if self.texts[at] == "{" and self.kinds[at] == scanner.MARK:
+                return True
+            at += 1
+        return self.texts[at + 1] == "{" and self.kinds[at] == scanner.LINE_END
+
+    def ends_before(self, what: str) -> None:
+        """Ends a block that isn't closed before what begins here, and keeps that as an error."""
+        opening, closing = self.unclosed()
+        line = self.line_of(self.at)
+        which = what if what == "certificate" else f"next {what}"
+        notes = [Note(self.start, f"the {which} begins here") if closing is None else self.closing_note(opening, closing)]
+        self.errors.append(TextError(
+            self.starts[opening], f"this `{{` isn't closed; the {which} begins at line {line}",
+            "write `}` where its block ends", notes=notes))
+        self.opened.pop()
+        if self.kinds[self.at - 1] == scanner.LINE_END:
+            self.at -= 1
+
+    def in_braces(self, item: Callable[[], object]) -> None:
         """Reads items in braces, each with its end."""
         self.open_brace()
-        while not self.accept("}"):
-            if self.kind == scanner.END:
-                self.wanted(f"{wanted} or `}}`")
+        while not self.accept_close():
             item()
             self.expect_end()
 
@@ -155,7 +311,7 @@ class TermParser(WordParser):
         return syntax.Name(text, start)
 
     def index(self) -> syntax.Index:
-        """An index behind `#`."""
+        """An index after `#`."""
         if self.kind != scanner.INDEX:
             self.wanted("an index as `#3`")
         start, text = self.start, self.text
@@ -172,15 +328,17 @@ class TermParser(WordParser):
     def number(self, what: str, most: int) -> int:
         """A number of at most so much."""
         if self.kind != scanner.NUMBER:
+            if self.kind == scanner.WRONG and self.text == "=":
+                self.fail(f"wanted {what}, found `=`", self.start, "leave the `=` out")
             self.wanted(what)
         value, suffix = self.split_number(most)
         if suffix:
-            self.fail(f"wanted {what} without a type, found `{self.text}`")
+            self.fail(f"wanted {what} without a type, found `{self.text}`", help=f"write `{self.text[:-len(suffix)]}`")
         self.at += 1
         return value
 
     def split_number(self, most: int) -> Tuple[int, str]:
-        """The number that the next word is, and the type behind it or an empty text. Doesn't read the word."""
+        """The number that the next word is, and the type after it or an empty text. Doesn't read the word."""
         text = self.text
         found = NUMBER_PATTERN.match(text)
         if not found:
@@ -188,20 +346,22 @@ class TermParser(WordParser):
         digits = found.group(1).replace("_", "")
         value = int(digits, 16 if digits.startswith("0x") else 10) if len(digits) < MOST_LETTERS else most + 1
         if value > most:
-            self.fail(f"`{shortened(text)}` is too great; wanted at most {most}")
+            self.fail(f"`{shortened(text)}` is too great: it is at most {most:,}")
         return value, found.group(2) or ""
 
     def address(self) -> bytes:
         """An address as `0x1`."""
         text = self.text
         if self.kind == scanner.NUMBER and text.isdigit():
-            self.fail(f"an address is hexadecimal: write `0x{int(text[:MOST_LETTERS]):x}` for `{shortened(text)}`")
+            self.fail(f"`{shortened(text)}` is no address, which is hexadecimal", help=f"write `0x{int(text[:MOST_LETTERS]):x}`")
         if self.kind != scanner.NUMBER or not text.startswith("0x"):
-            names = "; addresses have no names" if self.kind == scanner.NAME else ""
-            self.fail(f"wanted an address as `0x1`, found {self.found()}{names}")
+            is_module = self.texts[self.at + 1] == "::" and self.texts[self.at + 3] == "("
+            names = f"write the module's address first, as `0x1::{text}`" if is_module else "addresses have no names"
+            self.fail(f"wanted an address as `0x1`, found {self.found()}",
+                      help=names if self.kind == scanner.NAME else "leave the `@` out" if self.is_mark("@") else "")
         digits = text[2:]
         if not re.match(r"[0-9a-fA-F]+\Z", digits):
-            self.fail(f"`{shortened(text)}` is no address: its digits are 0 to 9 and a to f")
+            self.fail(f"`{shortened(text)}` is no address", help="its digits are 0 to 9 and a to f")
         if len(digits) > 2 * ADDRESS_BYTES:
             self.fail(f"an address has at most {2 * ADDRESS_BYTES} hexadecimal digits, this one {len(digits)}")
         self.at += 1
@@ -211,7 +371,7 @@ class TermParser(WordParser):
         """Bytes as `x"01 ff"`."""
         digits = "".join(self.text[2:-1].split())
         if len(digits) % 2 or not re.match(r"[0-9a-fA-F]*\Z", digits):
-            self.fail("bytes are pairs of hexadecimal digits")
+            self.fail("these are no bytes", help="bytes are pairs of hexadecimal digits, as `x\"01 ff\"`")
         self.at += 1
         return bytes.fromhex(digits)
 
@@ -254,7 +414,7 @@ class TermParser(WordParser):
             return self.value_type()
         kind = MUTABLE if self.accept_word("mut") else REFERENCE
         if self.is_mark("&"):
-            self.fail("there is no reference to a reference")
+            self.fail("there is no reference to a reference", help="write one `&` alone")
         return syntax.Type(kind, self.value_type(), None, start)
 
     def value_type(self) -> syntax.Type:
@@ -276,7 +436,8 @@ class TermParser(WordParser):
     def check_leaf(self, leaf: int, at: int) -> None:
         """Fails where the version of the module hasn't the type."""
         if self.version < 6 and leaf in LATE_KINDS:
-            self.fail(f"`{LEAF_NAMES[leaf]}` is of version 6: write `version 6` behind the module's name", at)
+            self.fail(f"`{LEAF_NAMES[leaf]}` is of version 6, and this module of version {self.version}", at,
+                      "write `version 6` after the module's name")
 
     def types(self) -> List[syntax.Type]:
         """Types in parentheses."""
@@ -289,13 +450,13 @@ class TermParser(WordParser):
         return self.type()
 
     def results(self) -> List[syntax.Type]:
-        """The results behind a colon, if there is one."""
+        """The results after a colon, if there is one."""
         if not self.accept(":"):
             return []
         return self.types() if self.is_mark("(") else [self.type()]
 
     def abilities(self) -> int:
-        """Abilities behind `has`, if there are any."""
+        """Abilities after `has`, if there are any."""
         if not self.accept_word("has"):
             return 0
         bits = 0
@@ -328,12 +489,12 @@ class TermParser(WordParser):
         start, text = self.start, self.text
         value, suffix = self.split_number((1 << 128) - 1)
         if not suffix:
-            hint = f"`{text}u64`, or an address `@{text}`" if text.startswith("0x") else f"`{text}u64`"
-            self.fail(f"wanted a number with its type, as {hint}")
+            self.fail(f"`{shortened(text)}` has no type",
+                      help=f"write `@{text}` for an address, or `{text}u64`" if text.startswith("0x") else f"write `{text}u64`")
         kind = LEAF_KINDS[suffix]
         most = (1 << 8 * LEAF_WIDTHS[kind]) - 1
         if value > most:
-            self.fail(f"{value} is too great for {suffix}; wanted at most {most}")
+            self.fail(f"`{shortened(text)}` is too great: a {suffix} is at most {most:,}")
         self.at += 1
         self.check_leaf(kind, start)
         return model.Value(kind, value)

@@ -3,7 +3,7 @@
 from typing import Dict, Generic, Hashable, List, TypeVar
 
 from .errors import TextError
-from .numbers import INDEX
+from .limits import INDEX
 
 T = TypeVar("T", bound=Hashable)
 

@@ -305,7 +305,7 @@ class BodyMaker:
         try:
             stack = Step(self.subject, self.index, at, self.stack).after()
             if stack and instruction.opcode.ends_block:
-                raise Need("the stack is empty where a block ends", "it isn't")
+                raise Need("the stack is empty where a block ends", "it isn't", None)
             locals_, edges = self.states[0][:], self.states[1].copy()
             domains: Sequence[Tuple[Domain, State, float]] = (self.locals, locals_, 0.1), (self.borrows, edges, 1)
             for domain, state, share in domains:

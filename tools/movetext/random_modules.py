@@ -9,7 +9,7 @@ from . import model
 from .ledgers import Structs
 from .model import (Audit, Constant, Field, FieldHandle, FunctionDefinition, FunctionHandle, Instruction, Module, ModuleHandle,
                     Offer, Publish, RawRecord, Run, Show, Stream, StructDefinition, StructHandle, Token, Value)
-from .numbers import INDEX
+from .limits import INDEX
 from .opcodes import CONSTANT, FIELD, FUNCTION, LOCAL, NUMBER, OPCODES, STRUCT, TARGET, Opcode
 from .writer import write_module
 

@@ -4,7 +4,7 @@ they aren't as docs/FORMATS.md has them, and why."""
 from dataclasses import dataclass, field
 from typing import Any, Dict, List, Optional, Tuple
 
-from . import model, numbers
+from . import limits, model
 from .cursor import Cursor, Fault, Stop
 from .model import TABLE_NAMES, Constant, Field, FieldHandle, FunctionDefinition, FunctionHandle, Instruction, Module
 from .model import ModuleHandle, StructDefinition, StructHandle
@@ -79,7 +79,7 @@ def read_front(cursor: Cursor, reading: ModuleReading) -> None:
         cursor.fault(4, f"version {version}; a module is of version 5 or 6")
     reading.module.version = 5 if version == 5 else 6
     count_at = cursor.at
-    count = cursor.number(numbers.TABLE_COUNT, "the number of tables")
+    count = cursor.number(limits.TABLE_COUNT, "the number of tables")
     if count > len(TABLE_NAMES):
         cursor.fault(count_at, f"{count} tables: there are {len(TABLE_NAMES)} kinds, each at most once")
     for place in range(count):
@@ -95,9 +95,9 @@ def read_header(cursor: Cursor, before: List[Header], place: int) -> Header:
     elif any(kind == header.kind for header in before):
         cursor.fault(at, f"a second table of {TABLE_NAMES[kind]}; each kind stands at most once")
     named = TABLE_NAMES.get(kind, f"table {place}")
-    offset = cursor.number(numbers.TABLE_BYTES, f"the offset of the {named}")
+    offset = cursor.number(limits.TABLE_BYTES, f"the offset of the {named}")
     length_at = cursor.at
-    length = cursor.number(numbers.TABLE_BYTES, f"the length of the {named}")
+    length = cursor.number(limits.TABLE_BYTES, f"the length of the {named}")
     if length == 0:
         cursor.fault(length_at, f"the {named} have the length 0; an empty table has no header")
     return Header(kind, offset, length, at)
@@ -114,8 +114,8 @@ def place_tables(cursor: Cursor, reading: ModuleReading) -> int:
             cursor.fault(header.at, f"the {named} begin at {header.offset} of the tables' area, not at {expected}: "
                                     f"tables stand without gap or overlap")
         expected = max(expected, header.offset + header.length)
-    if expected > numbers.TABLE_BYTES:
-        cursor.fault(HEADERS_AT, f"the tables have {expected} bytes; they have at most {numbers.TABLE_BYTES}")
+    if expected > limits.TABLE_BYTES:
+        cursor.fault(HEADERS_AT, f"the tables have {expected} bytes; they have at most {limits.TABLE_BYTES}")
     return area + expected
 
 
@@ -136,9 +136,9 @@ def read_table(data: bytes, header: Header, reading: ModuleReading) -> None:
             cursor.fault(end, f"the bytes end within the {TABLE_NAMES[header.kind]}")
     except Stop:
         pass
-    if header.kind == model.FUNCTIONS and len(entries) > numbers.FUNCTION_COUNT:
-        cursor.fault(offsets[numbers.FUNCTION_COUNT],
-                     f"{len(entries)} function definitions; there are at most {numbers.FUNCTION_COUNT}")
+    if header.kind == model.FUNCTIONS and len(entries) > limits.FUNCTION_COUNT:
+        cursor.fault(offsets[limits.FUNCTION_COUNT],
+                     f"{len(entries)} function definitions; there are at most {limits.FUNCTION_COUNT}")
 
 
 def read_own(cursor: Cursor, reading: ModuleReading) -> None:
@@ -156,7 +156,7 @@ def read_module_handle(cursor: Cursor, _module: Module, entries: List[Any]) -> N
 
 def read_no_type_parameters(cursor: Cursor, what: str) -> None:
     at = cursor.at
-    count = cursor.number(numbers.INDEX, f"the number of {what}'s type parameters")
+    count = cursor.number(limits.INDEX, f"the number of {what}'s type parameters")
     if count:
         cursor.fault(at, f"{what} has {count} type parameters; there are no generics, so the number is 0")
 
@@ -164,7 +164,7 @@ def read_no_type_parameters(cursor: Cursor, what: str) -> None:
 def read_struct_handle(cursor: Cursor, _module: Module, entries: List[Any]) -> None:
     module = cursor.index("a struct handle's module")
     name = cursor.index("a struct handle's name")
-    abilities = cursor.number(numbers.ABILITY_BITS, "a struct handle's abilities")
+    abilities = cursor.number(limits.ABILITY_BITS, "a struct handle's abilities")
     read_no_type_parameters(cursor, "a struct handle")
     entries.append(StructHandle(module, name, abilities))
 
@@ -179,7 +179,7 @@ def read_function_handle(cursor: Cursor, _module: Module, entries: List[Any]) ->
 
 
 def read_signature(cursor: Cursor, module: Module, entries: List[Any]) -> None:
-    count = cursor.number(numbers.SIGNATURE_TYPES, "the number of a signature's types")
+    count = cursor.number(limits.SIGNATURE_TYPES, "the number of a signature's types")
     entries.append(tuple(cursor.token(module.version, "a signature's type") for _ in range(count)))
 
 
@@ -203,7 +203,7 @@ def read_struct(cursor: Cursor, module: Module, entries: List[Any]) -> None:
     mark = cursor.byte("the byte 02 of a struct definition")
     if mark != 2:
         cursor.fault(at, f"a struct definition has the byte {mark:02X} after its handle; it is 02")
-    for _ in range(cursor.number(numbers.STRUCT_FIELDS, "the number of a struct's fields")):
+    for _ in range(cursor.number(limits.STRUCT_FIELDS, "the number of a struct's fields")):
         name = cursor.index("a field's name")
         definition.fields.append(Field(name, cursor.token(module.version, "a field's type")))
     entries.append(definition)
@@ -231,7 +231,7 @@ def read_function(cursor: Cursor, module: Module, entries: List[Any]) -> None:
         function.acquires.append(cursor.index("an acquired struct"))
     function.locals = cursor.index("the signature of a function's locals")
     entries.append(function)
-    count = cursor.number(numbers.INSTRUCTION_COUNT, "the number of a function's instructions")
+    count = cursor.number(limits.INSTRUCTION_COUNT, "the number of a function's instructions")
     read_code(cursor, module.version, count, function.code)
 
 

@@ -3,7 +3,7 @@
 from dataclasses import dataclass, field
 from typing import Callable, Dict, List, Optional, Tuple
 
-from . import model, numbers
+from . import limits, model
 from .cursor import Cursor, Fault, Stop
 from .model import LEAF_NAMES, LEAF_WIDTHS, Audit, Offer, Publish, RawRecord, Run, Show, Stream
 
@@ -52,7 +52,7 @@ def read_record(cursor: Cursor) -> Tuple[model.Record, RecordPlace]:
     """A record and its place. A payload that isn't of its kind's shape makes a raw record."""
     at = cursor.at
     kind = cursor.byte("a record's kind")
-    size = cursor.number(numbers.RECORD_BYTES, "a record's length")
+    size = cursor.number(limits.RECORD_BYTES, "a record's length")
     place = RecordPlace(at, cursor.at)
     cursor.bytes(size, "a record's payload")
     payload = Cursor(cursor.data, place.payload_at, cursor.at, place.faults)
@@ -76,14 +76,14 @@ def read_record(cursor: Cursor) -> Tuple[model.Record, RecordPlace]:
 def read_publish(cursor: Cursor, place: RecordPlace) -> Publish:
     record = Publish(cursor.address("the sender"))
     at = cursor.at
-    count = cursor.number(numbers.BUNDLE_MODULES, "the number of modules")
+    count = cursor.number(limits.BUNDLE_MODULES, "the number of modules")
     if count == 0:
         cursor.fault(at, "a publish record of no module; it has 1 to 16")
     for _ in range(count):
-        size = cursor.number(numbers.TABLE_BYTES, "a module's length")
+        size = cursor.number(limits.TABLE_BYTES, "a module's length")
         place.modules.append(cursor.at)
         module = cursor.bytes(size, "a module")
-        size = cursor.number(numbers.CERTIFICATE_BYTES, "a certificate's length")
+        size = cursor.number(limits.CERTIFICATE_BYTES, "a certificate's length")
         place.certificates.append(cursor.at)
         record.offers.append(Offer(module, cursor.bytes(size, "a certificate")))
     return record
@@ -92,8 +92,8 @@ def read_publish(cursor: Cursor, place: RecordPlace) -> Publish:
 def read_run(cursor: Cursor, _place: RecordPlace) -> Run:
     sender, address = cursor.address("the sender"), cursor.address("the module's address")
     module, function = cursor.identifier("the module's name"), cursor.identifier("the function's name")
-    record = Run(sender, address, module, function, cursor.number(numbers.BUDGET, "the budget"))
-    for _ in range(cursor.number(numbers.ARGUMENT_COUNT, "the number of arguments")):
+    record = Run(sender, address, module, function, cursor.number(limits.BUDGET, "the budget"))
+    for _ in range(cursor.number(limits.ARGUMENT_COUNT, "the number of arguments")):
         record.arguments.append(read_argument(cursor))
     return record
 

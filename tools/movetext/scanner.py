@@ -1,12 +1,12 @@
 """A text's words."""
 
 import re
-from typing import List
+from typing import List, Optional
 
 from . import habits
-from .errors import TextError
+from .errors import Help
 from .model import LEAF_KINDS
-from .numbers import IDENTIFIER_BYTES
+from .limits import IDENTIFIER_BYTES
 
 # The kinds of words. The first eight have the numbers of the pattern's groups.
 NAME, LINE_END, MARK, NUMBER, INDEX, QUOTED, FILE, WRONG, HEX, END = range(1, 11)
@@ -35,16 +35,21 @@ IDENTIFIER = re.compile(r"(?:[A-Za-z]|_(?=[A-Za-z0-9_]))[A-Za-z0-9_]*\Z")
 
 # What is wrong with text that is no word, by what it begins with.
 WRONG_WORDS = {
-    '"': "the quotes aren't closed", "`": "the backquotes aren't closed on their line",
-    "/": "no word begins with `/`; a comment is `// ...` or `/* ... */`", "#": "an index is `#` and a number, as `#3`",
+    '"': Help("the quotes aren't closed on their line", 'a file is `"coin.text"`, bytes are `x"01 ff"`'),
+    "`": Help("the backquotes aren't closed on their line", "a name in backquotes is as `` `u64` ``"),
+    "/": Help("no word begins with `/`", "a comment is `// ...` or `/* ... */`"),
+    "#": Help("no word begins with `#` alone", "an index is `#` and a number, as `#3`"),
 }
 
 
 class Words:
     """The words of a text: of each its kind, its text and its offset. The last three are of the kind END, so that there
-    are two words behind each that is looked at."""
+    are two words behind each that is looked at. What is no word is one of the kind WRONG."""
 
     def __init__(self, text: str):
+        self.text = text
+        # Where a comment begins that isn't closed, so that the text ends there.
+        self.cut: Optional[int] = None
         self.kinds: List[int] = []
         self.texts: List[str] = []
         self.starts: List[int] = []
@@ -62,18 +67,19 @@ class Words:
             word, start = found.group(kind), found.start(kind)
             if kind == NAME and word[-1] == '"':
                 kind = HEX
-            elif kind == WRONG:
-                raise TextError(start, wrong_word(text, start))
             kinds(kind)
             texts(word)
             starts(start)
+            if kind == WRONG and text.startswith("/*", start):
+                self.cut = start
+                return
 
 
-def wrong_word(text: str, at: int) -> str:
+def wrong_word(text: str, at: int) -> Help:
     """What is wrong where no word is."""
     if text.startswith("/*", at):
-        return "the comment isn't closed"
-    return habits.of_mark(text, at) or WRONG_WORDS.get(text[at]) or f"no word begins with {text[at]!r}"
+        return Help("the comment isn't closed", "a comment is `// ...` or `/* ... */`")
+    return habits.of_mark(text, at) or WRONG_WORDS.get(text[at]) or Help(f"no word begins with {text[at]!r}")
 
 
 def is_identifier(name: str) -> bool:

@@ -1,7 +1,7 @@
 """What a text says, as it says it: a tree whose parts know their offsets (`at`) in the text."""
 
 from dataclasses import dataclass, field
-from typing import Any, Dict, List, NamedTuple, Optional, Union
+from typing import Any, Dict, List, NamedTuple, Optional, Set, Union
 
 from .model import Value
 from .opcodes import Opcode
@@ -134,7 +134,8 @@ class Struct:
 
 @dataclass
 class Function:
-    """A function definition. It has a list of parameters unless its name is an index; its locals may be an index."""
+    """A function definition. It has a list of parameters unless its name is an index; its locals may be an index. It is broken where
+    lines of it aren't read, since they have errors; `lacks_locals` says that these declare locals."""
 
     name: Entry
     at: int
@@ -146,7 +147,10 @@ class Function:
     locals_index: Optional[Index] = None
     locals: List[Local] = field(default_factory=list)
     labels: Dict[str, int] = field(default_factory=dict)
+    label_places: Dict[str, int] = field(default_factory=dict)
     code: List[Line] = field(default_factory=list)
+    is_broken: bool = False
+    lacks_locals: bool = False
 
 
 @dataclass
@@ -165,7 +169,7 @@ class Tables:
 
 @dataclass
 class Module:
-    """A module."""
+    """A module. It is broken where parts of it aren't read, since they have errors; `lost` are the names that these may declare."""
 
     name: ModuleName
     version: int
@@ -174,6 +178,8 @@ class Module:
     structs: List[Struct] = field(default_factory=list)
     functions: List[Function] = field(default_factory=list)
     tables: Optional[Tables] = None
+    is_broken: bool = False
+    lost: Set[str] = field(default_factory=set)
 
 
 class HexBytes(NamedTuple):

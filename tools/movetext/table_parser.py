@@ -20,11 +20,12 @@ class TableParser(CodeParser):
 
     def tables(self) -> syntax.Tables:
         """How tables begin."""
+        self.form = "tables { NAME { an entry END ... } ... } (docs/TEXT.md#the-order-of-tables)"
         self.expect_word("tables")
         tables = syntax.Tables()
         seen: Set[str] = set()
         self.open_brace()
-        while not self.accept("}"):
+        while not self.accept_close():
             self.table(tables, seen)
             self.skip_ends()
         return tables
@@ -35,14 +36,14 @@ class TableParser(CodeParser):
         if self.kind != scanner.NAME:
             self.wanted("a table's name or `}`")
         if kind not in self.table_entries:
-            self.fail(unknown("table", kind, self.table_entries))
+            self.fail_as(unknown("table", kind, self.table_entries))
         read_entry = self.table_entries[kind]
         if kind in seen:
             self.fail(f"a second table `{kind}`", start)
         seen.add(kind)
         self.at += 1
         entries = getattr(tables, kind)
-        self.in_braces(lambda: entries.append(read_entry()), "an entry")
+        self.in_braces(lambda: entries.append(read_entry()))
 
     def module_handle(self) -> syntax.ModuleName:
         return self.module_name()

@@ -3,7 +3,8 @@
 import unittest
 
 from movetext import model
-from movetext.numbers import BUDGET, INDEX, NumberError, read_number, write_number
+from movetext.limits import BUDGET, INDEX
+from movetext.numbers import NumberError, read_number, write_number
 from movetext.opcodes import NUMBER, OPCODES
 from movetext.values import LEAF_WIDTHS, read_leaf, write_leaf
 from movetext.writer import write_instruction, write_name, write_numbers, write_sized, write_token

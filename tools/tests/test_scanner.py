@@ -3,8 +3,7 @@
 import unittest
 
 from movetext import scanner
-from movetext.errors import TextError
-from movetext.scanner import Words, is_identifier, needs_quotes
+from movetext.scanner import Words, is_identifier, needs_quotes, wrong_word
 
 WORDS = [
     ("module", scanner.NAME), ("_x1", scanner.NAME), ("`as`", scanner.QUOTED), ("::", scanner.MARK), ("{", scanner.MARK),
@@ -12,8 +11,8 @@ WORDS = [
     ('x"01 ff"', scanner.HEX), ('"a file"', scanner.FILE), ("\n", scanner.LINE_END),
 ]
 WRONG = {
-    '"open': "the quotes aren't closed", "`open\n`": "the backquotes aren't closed on their line", "/* open": "the comment isn't closed",
-    "/": "no word begins with `/`; a comment is `// ...` or `/* ... */`", "#x": "an index is `#` and a number, as `#3`",
+    '"open': "the quotes aren't closed on their line", "`open\n`": "the backquotes aren't closed on their line",
+    "/* open": "the comment isn't closed", "/": "no word begins with `/`", "#x": "no word begins with `#` alone",
     "$": "no word begins with '$'",
 }
 
@@ -33,9 +32,10 @@ class Scanning(unittest.TestCase):
 
     def test_letters_that_begin_no_word_are_told_with_their_place(self) -> None:
         for text, message in WRONG.items():
-            with self.subTest(text), self.assertRaises(TextError) as caught:
-                Words(f"  ;{text}")
-            self.assertEqual((caught.exception.at, caught.exception.message), (3, message))
+            words = Words(f"  ;{text}")
+            with self.subTest(text):
+                self.assertEqual((words.kinds[1], words.starts[1]), (scanner.WRONG, 3))
+                self.assertEqual(wrong_word(words.text, words.starts[1]).fact, message)
 
     def test_identifiers_and_names_that_need_quotes(self) -> None:
         for name in ("a", "A_1", "_1", "__", "a" * 128):

@@ -74,8 +74,19 @@ class Texts(unittest.TestCase):
         with self.assertRaises(TextErrors) as caught:
             TextAssembler(Source("my.text", text), "", Prover()).bytes()
         self.assertEqual(caught.exception.lines(), [
-            "my.text:3:17: no local `y`", "my.text:4:14: no function `g`", "my.text:5:16: no label `on`"])
+            "my.text:3:17: error: no local `y`",
+            "            MoveLoc y",
+            "                    ^",
+            "    help: write `let y: TYPE` before the first instruction",
+            "my.text:4:14: error: no function `g`",
+            "            Call g",
+            "                 ^",
+            "    help: the module's functions are `f`",
+            "my.text:5:16: error: no label `on`",
+            "            Branch on",
+            "                   ^^",
+            "    help: write `on:` before the instruction to go on with"])
 
     def test_a_text_is_of_utf_8(self) -> None:
-        with self.assertRaisesRegex(TextErrors, "my.text:2:2: the byte FF is no UTF-8"):
+        with self.assertRaisesRegex(TextErrors, "my.text:2:2: error: the byte FF isn't UTF-8"):
             read_source("my.text", b"// \xc3\xa9\n \xff")

@@ -51,19 +51,19 @@ class Locals:
         if instruction.name in READING:
             if state[local] != AVAILABLE:
                 raise Need("where a local is read, moved or borrowed it is Available",
-                           f"{self.told(state, local)} where it is {VERBS[instruction.name]}")
+                           f"{self.told(state, local)} where it is {VERBS[instruction.name]}", local)
             if instruction.name == "MoveLoc":
                 state[local] = UNAVAILABLE
         elif instruction.name == "StLoc":
             if state[local] != UNAVAILABLE and not self.has_drop(local):
                 raise Need("where a local is overwritten, what it may hold has drop",
-                           f"{self.told(state, local)}, and its type {self.type(local)} lacks drop")
+                           f"{self.told(state, local)}, and its type {self.type(local)} lacks drop", local)
             state[local] = AVAILABLE
         elif instruction.name == "Ret":
             for left, availability in enumerate(state):
                 if availability != UNAVAILABLE and not self.has_drop(left):
                     raise Need("where a local is left behind by Ret, what it may hold has drop",
-                               f"{self.told(state, left)}, and its type {self.type(left)} lacks drop")
+                               f"{self.told(state, left)}, and its type {self.type(left)} lacks drop", left)
 
     def has_drop(self, local: int) -> bool:
         return bool(self.subject.abilities(self.types[local]) & DROP)

@@ -4,7 +4,7 @@ from typing import Callable, Dict, List, Optional, Sequence, Tuple
 
 from .. import model
 from ..model import GLOB, NODE_NAMES, OWN, SLOT, Token, known
-from ..numbers import EDGE_COUNT, POSITION_COUNT
+from ..limits import EDGE_COUNT, POSITION_COUNT
 from ..states import path_text
 from .edges import EMPTY, TEMP, Edge, Edges, Node, Origins, edge_of
 from .flows import Need
@@ -77,7 +77,7 @@ class Borrows:
             if (not to_mutable or self.is_mutable(edge.target, stack)) and (field is None or edge.agrees_with(field)):
                 rule = f"no edge leads from {self.node_text(node)}" + (" to a mutable reference" if to_mutable else "")
                 rule += "" if field is None else f" that agrees with the field {field_name}"
-                raise Need(f"{needs} needs that {rule}", f"there is {self.edge_text(edge, stack)}")
+                raise Need(f"{needs} needs that {rule}", f"there is {self.edge_text(edge, stack)}", edge)
 
     def node_text(self, node: Node) -> str:
         kind, index = node
@@ -211,10 +211,10 @@ def leave(domain: Borrows, edges: Edges, stack: Stack, _operand: int) -> None:
     for edge in sorted(edge for edge in edges if edge.target[0] == TEMP):
         if edge.source[0] in (OWN, GLOB):
             raise Need("Ret needs that no edge leads from an Own or a Glob to a result",
-                       f"there is {domain.edge_text(edge, stack)}")
+                       f"there is {domain.edge_text(edge, stack)}", edge)
         if edge.source[0] == TEMP and domain.is_mutable(edge.source, stack):
             raise Need("Ret needs that no edge leads from a mutable result to another result",
-                       f"there is {domain.edge_text(edge, stack)}")
+                       f"there is {domain.edge_text(edge, stack)}", edge)
 
 
 # Of each instruction that needs something of edges, or changes them, its rule.

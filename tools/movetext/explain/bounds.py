@@ -1,9 +1,10 @@
 """Phase 3: every index is below the length of its table."""
 
-from typing import Tuple
+from functools import partial
+from typing import Iterator, Tuple
 
 from .. import model, opcodes
-from .failures import Place, counted
+from .failures import Advice, Check, Place, Spot, counted
 from .subject import ENTRY_WORDS, Subject
 
 PHASE = 3
@@ -29,13 +30,18 @@ OPERANDS = {
 EVERY_INDEX = "every index is below the length of its table"
 
 
-def check(subject: Subject) -> None:
-    """Raises the first failure: in tables, then in types, in acquires lists and in code."""
-    check_entries(subject)
-    check_types(subject)
-    check_positions(subject)
+def checks(subject: Subject) -> Iterator[Check]:
+    """What is checked, in its order: tables, types, acquires lists and code."""
+    yield Check(partial(check_entries, subject))
+    yield Check(partial(check_types, subject))
+    yield Check(partial(check_positions, subject))
     for index, function in enumerate(subject.module.functions):
-        check_function(subject, index, function)
+        yield Check(partial(check_function, subject, index, function))
+    yield Check(partial(check_own, subject))
+
+
+def check_own(subject: Subject) -> None:
+    """Wants the module's own handle to be there."""
     if subject.module.own >= len(subject.module.module_handles):
         where, at = "the own module handle", subject.reading.own_at
         place = Place(where) if at is None else Place(f"{where}, {subject.offset(at)}", subject.base + at)
@@ -100,9 +106,17 @@ def check_function(subject: Subject, index: int, function: model.FunctionDefinit
         kind, operand = instruction.opcode.operand, instruction.operand
         if kind == opcodes.LOCAL and operand >= locals_:
             subject.fail_at(PHASE, index, at, "local indices are below the number of locals (parameters included)",
-                            f"it is {operand}, and the function has {counted(locals_, 'local')}")
+                            f"it is {operand}, and the function has {counted(locals_, 'local')}",
+                            advice=missing(index, at, "local", operand, locals_))
         elif kind == opcodes.TARGET and operand >= len(function.code):
             subject.fail_at(PHASE, index, at, "branch targets are below the number of instructions",
-                            f"it is {operand}, and the function has {counted(len(function.code), 'instruction')}")
+                            f"it is {operand}, and the function has {counted(len(function.code), 'instruction')}",
+                            advice=missing(index, at, "instruction", operand, len(function.code)))
         elif kind in OPERANDS and operand >= len(subject.module.table(OPERANDS[kind])):
             subject.fail_at(PHASE, index, at, EVERY_INDEX, f"it is {too_great(subject, OPERANDS[kind], operand)}")
+
+
+def missing(function: int, at: int, what: str, number: int, count: int) -> Advice:
+    """What is said of a local or a target that isn't there."""
+    return Advice(f"there is no {what} {number}: the function has {count}", f"they count from 0; a name is safer: write the {what}'s "
+                  f"{'label' if what == 'instruction' else 'name'}", Spot("operand", function, at))

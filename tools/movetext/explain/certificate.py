@@ -1,16 +1,19 @@
 """Phases 9 to 11: a certificate's bytes, and the flows that it states; without one, the least flows."""
 
 from bisect import bisect_right
-from typing import Iterator, List, NoReturn, Optional, Sequence, Union
+from functools import partial
+from typing import Callable, Dict, Iterator, List, NoReturn, Optional, Sequence, Tuple, Union
 
 from .. import model
 from ..certificates import read_certificate
-from ..writer import write_certificate
+from ..model import known
 from .availability import Locals
 from .borrows import Borrows
 from .edges import Edges
-from .failures import Place
+from .failures import Advice, Check, Place
+from .borrow_advice import of_edge
 from .flows import Broken, Gives, State, first_break, least_states
+from .local_advice import of_local
 from .stack import stacks_of
 from .subject import Subject
 
@@ -46,38 +49,52 @@ def read(subject: Subject, data: bytes, base: int = 0) -> model.Certificate:
     return reading.certificate
 
 
-def domains(subject: Subject) -> Iterator[Iterator[OfFunction]]:
-    """For each of the two phases the domain of each function. The types on the stacks are found once for a function."""
-    functions = range(len(subject.module.functions))
-    yield (Locals(subject, function) for function in functions)
-    yield (Borrows(subject, function, stacks_of(subject, function)) for function in functions)
+class States:
+    """The states of a module's functions: those that are stated, which are checked, or the least ones, which are found."""
 
+    def __init__(self, subject: Subject, stated: Optional[model.Certificate] = None):
+        self.subject, self.stated = subject, stated
+        self.found: Tuple[Dict[int, Sequence[State]], Dict[int, Sequence[State]]] = ({}, {})
 
-def check_stated(subject: Subject, certificate: model.Certificate) -> None:
-    """Wants the stated availabilities to be closed flows in every function, and then the stated edges. Raises the first
-    failure."""
-    for of_phase in domains(subject):
-        for domain in of_phase:
-            graph = subject.graph(domain.function)
-            stated = [one and domain.stated(one) for one in certificate.functions[domain.function]]
+    def checks(self) -> Iterator[Iterator[Check]]:
+        """What is checked of each function: first its availabilities, then its edges, of which the types on the stacks are found
+        once."""
+        functions = range(len(self.subject.module.functions))
+        yield (Check(partial(self.check, 0, Locals, function), function) for function in functions)
+        yield (Check(partial(self.check, 1, self.borrows, function), function) for function in functions)
+
+    @staticmethod
+    def borrows(subject: Subject, function: int) -> Borrows:
+        return Borrows(subject, function, stacks_of(subject, function))
+
+    def check(self, place: int, domain_of: Callable[[Subject, int], OfFunction], function: int) -> None:
+        """Wants a closed flow: the stated one, or any."""
+        domain, graph = domain_of(self.subject, function), self.subject.graph(function)
+        if self.stated is not None:
+            stated = [one and domain.stated(one) for one in self.stated.functions[function]]
             broken = first_break(domain, graph, stated) if graph else None
             if broken:
-                not_closed(subject, domain, broken, stated)
+                not_closed(self.subject, domain, broken, stated)
+            return
+        states = least_states(domain, graph)
+        if isinstance(states, Gives):
+            given_up(self.subject, domain, states)
+        if isinstance(states, Broken):
+            not_closed(self.subject, domain, states)
+        self.found[place][function] = states
+
+    def least(self) -> model.Certificate:
+        """The certificate that states the least states, once they were found."""
+        availabilities, edges = self.found
+        return model.Certificate([[stated_block(*both) for both in zip(availabilities[function], edges[function])]
+                                  for function in range(len(self.subject.module.functions))])
 
 
-def least(subject: Subject) -> model.Certificate:
-    """The certificate that states the least states. Raises the first failure where there is none."""
-    found: List[List[Sequence[State]]] = []
-    for of_phase in domains(subject):
-        found.append([])
-        for domain in of_phase:
-            states = least_states(domain, subject.graph(domain.function))
-            if isinstance(states, Gives):
-                given_up(subject, domain, states)
-            if isinstance(states, Broken):
-                not_closed(subject, domain, states)
-            found[-1].append(states)
-    return model.Certificate([[stated_block(*both) for both in zip(*of_function)] for of_function in zip(*found)])
+def domains(subject: Subject) -> Iterator[Iterator[OfFunction]]:
+    """For each of the two phases the domain of each function."""
+    functions = range(len(subject.module.functions))
+    yield (Locals(subject, function) for function in functions)
+    yield (States.borrows(subject, function) for function in functions)
 
 
 def stated_block(availabilities: Optional[List[int]], edges: Edges) -> Optional[model.BlockState]:
@@ -88,18 +105,14 @@ def stated_block(availabilities: Optional[List[int]], edges: Edges) -> Optional[
         one.stated() for one in sorted(edges)])
 
 
-def least_bytes(subject: Subject) -> bytes:
-    """The bytes of the certificate with the least states."""
-    return write_certificate(least(subject))
-
-
 def not_closed(subject: Subject, domain: OfFunction, broken: Broken, stated: Sequence[State] = ()) -> NoReturn:
     """Raises the failure of a flow that isn't closed: a need that isn't met, or a state that isn't below the next block's."""
     function = domain.function
     if broken.need is not None:
         lines = ["the state before it:"] + indented(domain.state_lines(broken.state, broken.at))
-        subject.fail(domain.phase, subject.instruction(function, broken.at), broken.need.rule, broken.need.found, lines)
-    there = stated[model.known(broken.to)]
+        advice = advice_of(domain, broken) if subject.advises else None
+        subject.fail(domain.phase, subject.instruction(function, broken.at), broken.need.rule, broken.need.found, lines, advice)
+    there = stated[known(broken.to)]
     if broken.block is None:
         place = subject.block(function, 0)
         rule = "the state that is stated for the first block is above the state in which the function begins"
@@ -113,6 +126,14 @@ def not_closed(subject: Subject, domain: OfFunction, broken: Broken, stated: Seq
     excess = domain.excess(broken.state, there)
     told = "; ".join(excess[:MOST_EXCESS]) + (f"; and {len(excess) - MOST_EXCESS} more" if len(excess) > MOST_EXCESS else "")
     subject.fail(domain.phase, place, rule, told, lines)
+
+
+def advice_of(domain: OfFunction, broken: Broken) -> Advice:
+    """What is said of a need that isn't met."""
+    about = known(broken.need).about
+    if isinstance(domain, Locals):
+        return of_local(domain, broken.state, broken.at, about)
+    return of_edge(domain, broken.at, about)
 
 
 def given_up(subject: Subject, domain: OfFunction, gives: Gives) -> NoReturn:

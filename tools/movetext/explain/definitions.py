@@ -1,9 +1,11 @@
 """Phase 4: entries that are equal, definitions, fields, and structs that contain themselves."""
 
-from typing import Dict, Hashable, List, Sequence
+from functools import partial
+from typing import Dict, Hashable, Iterator, List, Sequence
 
 from .. import model
 from .chains import chain_back
+from .failures import Advice, Check, Spot
 from .subject import ENTRY_WORDS, Subject
 
 PHASE = 4
@@ -21,18 +23,18 @@ DEFINED = {model.STRUCT_HANDLES: ("struct handles", model.STRUCTS),
 ONCE = "each own handle is defined exactly once"
 
 
-def check(subject: Subject) -> None:
-    """Raises the first failure."""
+def checks(subject: Subject) -> Iterator[Check]:
+    """What is checked, in its order."""
     for kind, words in DIFFERENT.items():
-        check_different(subject, kind, subject.module.table(kind), f"no two equal {words}")
+        yield Check(partial(check_different, subject, kind, subject.module.table(kind), f"no two equal {words}"))
     for kind, (words, _) in DEFINED.items():
         named = [(handle.module, handle.name) for handle in subject.module.table(kind)]
-        check_different(subject, kind, named, f"no two {words} of one module and name")
+        yield Check(partial(check_different, subject, kind, named, f"no two {words} of one module and name"))
     for kind, (_, definitions) in DEFINED.items():
-        check_definitions(subject, kind, definitions)
+        yield Check(partial(check_definitions, subject, kind, definitions))
     for index, definition in enumerate(subject.module.structs):
-        check_fields(subject, index, definition)
-    check_cycles(subject)
+        yield Check(partial(check_fields, subject, index, definition))
+    yield Check(partial(check_cycles, subject))
 
 
 def check_different(subject: Subject, kind: int, entries: Sequence[Hashable], rule: str) -> None:
@@ -65,7 +67,9 @@ def check_definitions(subject: Subject, kind: int, definitions: int) -> None:
 
 def check_fields(subject: Subject, index: int, definition: model.StructDefinition) -> None:
     if not definition.fields:
-        subject.fail_entry(PHASE, model.STRUCTS, index, "each struct has a field", "it has none")
+        subject.fail_entry(PHASE, model.STRUCTS, index, "each struct has a field", "it has none",
+                           Advice(f"`{subject.module.definition_name(index)}` has no field", "write one at least, as `is_set: bool`",
+                                  Spot("struct", index)))
     names = [one.name for one in definition.fields]
     for position, name in enumerate(names):
         first = names.index(name)
@@ -87,4 +91,17 @@ def check_cycles(subject: Subject) -> None:
     if chain:
         names = ", which has a ".join(f"`{subject.module.definition_name(one)}`" for one in chain)
         subject.fail_entry(PHASE, model.STRUCTS, chain[0], "no struct contains itself by a chain of fields",
-                           f"there is a {names}")
+                           f"there is a {names}", contains_itself(subject, chain))
+
+
+def contains_itself(subject: Subject, chain: Sequence[int]) -> Advice:
+    """What is said of a struct that contains itself."""
+    spots = []
+    for struct, inner in zip(chain, chain[1:]):
+        types = [subject.names.definition_places.get(one.type.struct) if one.type.kind == model.STRUCT else None
+                 for one in subject.module.structs[struct].fields]
+        spots.append(Spot("field type", struct, types.index(inner)))
+    name = subject.module.definition_name(chain[0])
+    notes = tuple((spot, f"`{subject.module.definition_name(chain[at])}` contains it here") for at, spot in enumerate(spots) if at)
+    return Advice(f"`{name}` contains itself, so that it would have no end",
+                  "keep an address in its place, and store the other value there", spots[0], notes)

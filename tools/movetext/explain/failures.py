@@ -1,6 +1,6 @@
 """What is said of a refusal."""
 
-from typing import Dict, List, NamedTuple, Optional, Tuple
+from typing import Callable, Dict, List, NamedTuple, Optional, Sequence, Tuple
 
 # The phases, as docs/VERIFIER.md names them.
 PHASES = {
@@ -14,6 +14,14 @@ REASONS = {
     "rejected": {1: "record", 2: "budget", 3: "module", 4: "function", 5: "entry", 6: "arguments", 7: "runs"},
     "load refused": {1: "beginning", 2: "modules", 3: "link", 4: "values", 5: "tallies"},
 }
+
+
+class Check(NamedTuple):
+    """A part of a phase, which raises Fails at the first failure that it finds. `function` is the definition that it is about, so
+    that other functions are tried after a failure; None where it is about what functions stand on."""
+
+    run: Callable[[], object]
+    function: Optional[int] = None
 
 
 class Place(NamedTuple):
@@ -39,6 +47,26 @@ class Place(NamedTuple):
         return self._replace(text=self.text + words)
 
 
+class Spot(NamedTuple):
+    """A word of a module's text, by what it is: of a function `function`, `local`, `local type`, `result`, `acquires`, `instruction`
+    or `operand`, of a struct `struct`, `field` or `field type`; by the definition, and by the place in it. Of an import it is a
+    `struct handle` or a `function handle`, and a `there struct` or a `there function` of the module that is imported."""
+
+    kind: str
+    definition: int
+    place: int = 0
+
+
+class Advice(NamedTuple):
+    """A failure in the words of an author: the fact, what to write, the word that it is about, and second places with what is said
+    of each."""
+
+    fact: str
+    help: str
+    spot: Spot
+    notes: Tuple[Tuple[Spot, str], ...] = ()
+
+
 class Failure(NamedTuple):
     """The first failure of a phase: the place, the rule, and what was found that breaks it. `state` are lines with what holds
     at the place. The phase is None where the search for a certificate gives up, and where `said` has the words of a report for
@@ -51,6 +79,7 @@ class Failure(NamedTuple):
     state: Tuple[str, ...] = ()
     source: Optional["SourcePlace"] = None
     said: str = ""
+    advice: Optional[Advice] = None
 
     @property
     def verdict(self) -> str:
@@ -112,6 +141,18 @@ class Fails(Exception):
     def __init__(self, failure: Failure):
         super().__init__(failure.sentence)
         self.failure = failure
+
+
+def a_type(name: str) -> str:
+    """A type's name with its article."""
+    article = "an" if name.lstrip("&")[:1].lower() in "aeio" else "a"
+    return f"{article} `{name}`"
+
+
+def listed(names: Sequence[str], last: str = "and") -> str:
+    """Names in backquotes as `a`, `b` and `c`."""
+    *others, end = [f"`{name}`" for name in names]
+    return f"{', '.join(others)} {last} {end}" if others else end
 
 
 def counted(count: int, one: str, many: str = "") -> str:

@@ -2,9 +2,8 @@
 
 from typing import Any, List, NamedTuple, Optional, Sequence, Union
 
+from ..limits import VISIT_COUNT
 from .subject import Block
-
-MOST_VISITS = 256
 
 # A domain of states has `start`, `copy`, `is_below`, `join`, `too_large` and `step`, as `Locals` and `Borrows` have. What a
 # state is, only the domain knows.
@@ -13,11 +12,12 @@ State = Any
 
 
 class Need(Exception):
-    """Raised by a domain where an instruction's need isn't met: the rule, and what was found."""
+    """Raised by a domain where an instruction's need isn't met: the rule, what was found, and the local or the edge that it is
+    about."""
 
-    def __init__(self, rule: str, found: str):
+    def __init__(self, rule: str, found: str, about: Any):
         super().__init__(f"{rule}, but {found}")
-        self.rule, self.found = rule, found
+        self.rule, self.found, self.about = rule, found, about
 
 
 class Broken(NamedTuple):
@@ -76,8 +76,8 @@ def least_states(domain: Domain, graph: Sequence[Block]) -> Union[List[State], B
         block = min(waiting)
         waiting.remove(block)
         visits[block] += 1
-        if visits[block] > MOST_VISITS:
-            return Gives(block, states[block], f"the block would be visited a {MOST_VISITS + 1}th time")
+        if visits[block] > VISIT_COUNT:
+            return Gives(block, states[block], f"the block would be visited a {VISIT_COUNT + 1}th time")
         state = through(domain, graph, block, states[block])
         if isinstance(state, Broken):
             return state

@@ -7,16 +7,13 @@ from .. import model
 from ..ledgers import LedgerReading, read_ledger
 from ..model import COPY, DROP, KEY, STRUCT, Token
 from ..naming import address_text
-from ..numbers import STORE_MODULES
+from ..limits import PACKED_IN_A_RUN, STORE_MODULES
 from ..records import RecordPlace
 from ..source_names import NameTable
 from .failures import Failure, Fails, Place
 from .link import Linking, ModuleName, Published, name_text
-from .machine import StoredKey, StructKey, Value
+from .machine import StoredKey, StructKey, Value, Watch
 from .verdict import explain_module
-
-# A saved ledger has packed at most so many values of a struct for each of its runs.
-PACKED_IN_A_RUN = 10_000_000
 
 
 class Refusal(NamedTuple):
@@ -27,7 +24,8 @@ class Refusal(NamedTuple):
 
 
 class Ledger:
-    """A ledger, which begins empty. Modules stand by address and name, in the order of publication."""
+    """A ledger, which begins empty. Modules stand by address and name, in the order of publication. Its runs are watched where
+    there is something to watch them."""
 
     def __init__(self, names: Optional[NameTable] = None):
         self.names = names or NameTable()
@@ -36,6 +34,7 @@ class Ledger:
         self.packed: Counter[StructKey] = Counter()
         self.unpacked: Counter[StructKey] = Counter()
         self.runs = 0
+        self.watch: Optional[Watch] = None
 
     def publish(self, record: model.Publish, place: RecordPlace) -> Optional[Refusal]:
         """Publishes a bundle, or says why not; nothing changes then."""
@@ -45,7 +44,7 @@ class Ledger:
                                      self.names.of(offer.module))
             if verdict.failure:
                 return Refusal(verdict.failure, index)
-            bundle.append(Published(verdict.subject))
+            bundle.append(Published(verdict.subject, offer.certificate))
         try:
             linking = Linking(self.modules, record.sender, bundle)
             linking.check()
@@ -109,7 +108,7 @@ class Ledger:
                                      reading.certificate_offsets[index], self.names.of(offer.module))
             if verdict.failure:
                 return Refusal(as_load(2, verdict.failure), index)
-            bundle.append(Published(verdict.subject))
+            bundle.append(Published(verdict.subject, offer.certificate))
         try:
             Linking({}, None, bundle).check()
         except Fails as fails:

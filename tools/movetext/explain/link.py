@@ -1,16 +1,18 @@
 """Phase 13: the rules a to h, over all modules that the ledger would then have."""
 
-from typing import Any, Dict, List, NoReturn, Optional, Sequence, Set, Tuple
+from functools import partial
+from typing import Any, Dict, Iterator, List, NoReturn, Optional, Sequence, Set, Tuple
 
 from .. import model
+from ..errors import meant
+from ..limits import LEAF_COUNT, NESTING
 from ..model import STRUCT, known
 from ..naming import address_text, quoted
 from .chains import chain_back
-from .failures import Place, counted
+from .failures import Advice, Failure, Fails, Place, Spot, counted
 from .subject import Subject
 
 PHASE = 13
-MOST_NESTED, MOST_LEAVES = 8, 256
 
 ModuleName = Tuple[bytes, str]
 StructName = Tuple[bytes, str, str]
@@ -20,11 +22,11 @@ FullSignature = Tuple[Tuple[FullType, ...], Tuple[FullType, ...]]
 
 
 class Published:
-    """A module that passed phases 2 to 12, as others name it. `place` is its place in the order of publication, once it has
-    one, and `operations` what its functions do, once they were run."""
+    """A module that passed phases 2 to 12, as others name it, with its certificate. `place` is its place in the order of
+    publication, once it has one, and `operations` what its functions do, once they were run."""
 
-    def __init__(self, subject: Subject):
-        self.subject, self.module = subject, subject.module
+    def __init__(self, subject: Subject, certificate: bytes = b""):
+        self.subject, self.module, self.certificate = subject, subject.module, certificate
         self.place = 0
         self.operations: Dict[int, List[Any]] = {}
         module = subject.module
@@ -88,6 +90,16 @@ def signature_text(signature: FullSignature) -> str:
     return types_text(signature[0]) + (f": {types_text(signature[1])}" if signature[1] else "")
 
 
+def short_text(signature: FullSignature) -> str:
+    """A signature as an import has it: structs by their module's name, and one result alone."""
+    def said(one: FullType) -> str:
+        if len(one) == 2 and one[0] != STRUCT:
+            return ("&mut " if one[0] == model.MUTABLE else "&") + said(one[1])
+        return "::".join(map(quoted, one[1][1:])) if one[0] == STRUCT else model.LEAF_NAMES[one[0]]
+    parameters, results = (", ".join(map(said, types)) for types in signature)
+    return f"({parameters})" + ("" if not signature[1] else f": {results}" if len(signature[1]) == 1 else f": ({results})")
+
+
 def abilities_said(bits: int) -> str:
     return ", ".join(word for bit, word in model.ABILITIES if bits & bit) or "no ability"
 
@@ -109,9 +121,9 @@ class Linking:
             rule()
 
     @staticmethod
-    def fail(one: Published, kind: int, index: int, rule: str, found: str) -> NoReturn:
+    def fail(one: Published, kind: int, index: int, rule: str, found: str, advice: Optional[Advice] = None) -> NoReturn:
         """Raises a failure at an entry of a module's table."""
-        one.subject.fail(PHASE, one.subject.entry(kind, index).behind(f"module {name_text(one.name)}, "), rule, found)
+        one.subject.fail(PHASE, one.subject.entry(kind, index).behind(f"module {name_text(one.name)}, "), rule, found, advice=advice)
 
     def check_sender(self) -> None:
         for one in self.bundle:
@@ -136,34 +148,66 @@ class Linking:
                               "rule c, each module handle names a module that is there", f"there is no {name_text(name)}")
 
     def check_structs(self) -> None:
-        rule = "rule d, each struct handle names a struct that is defined there with the same abilities"
         for one in self.bundle:
-            for index, handle in enumerate(one.module.struct_handles):
-                name = one.struct_name(index)
-                there = self.all[name[:2]]
-                found = there.structs.get(name[2])
-                if found is None:
-                    self.fail(one, model.STRUCT_HANDLES, index, rule, f"{name_text(name[:2])} defines no {quoted(name[2])}")
-                has = there.definition_abilities(found)
-                if has != handle.abilities:
-                    self.fail(one, model.STRUCT_HANDLES, index, rule, f"the handle has {abilities_said(handle.abilities)}, and "
-                              f"{name_text(name)} has {abilities_said(has)}")
+            for index in range(len(one.module.struct_handles)):
+                self.check_struct(one, index)
+
+    def check_struct(self, one: Published, index: int) -> None:
+        rule = "rule d, each struct handle names a struct that is defined there with the same abilities"
+        handle, name = one.module.struct_handles[index], one.struct_name(index)
+        there = self.all[name[:2]]
+        found = there.structs.get(name[2])
+        if found is None:
+            self.fail(one, model.STRUCT_HANDLES, index, rule, f"{name_text(name[:2])} defines no {quoted(name[2])}",
+                      Advice(f"`{name_text(name[:2])}` has no struct `{name[2]}`", meant(name[2], there.structs), Spot("struct handle", index)))
+        has = there.definition_abilities(found)
+        if has != handle.abilities:
+            said, wanted = abilities_said(handle.abilities), abilities_said(has)
+            written = f"struct {quoted(name[2])}" + (f" has {wanted}" if has else "")
+            self.fail(one, model.STRUCT_HANDLES, index, rule, f"the handle has {said}, and {name_text(name)} has {wanted}",
+                      Advice(f"`{name[2]}` has {wanted} in `{name_text(name[:2])}`, and {said} in this import", f"write `{written}`",
+                             Spot("struct handle", index), ((Spot("there struct", found), "it is defined here"),)))
 
     def check_functions(self) -> None:
-        rule = "rule e, each function handle names a function that is defined there"
         for one in self.bundle:
-            for index, handle in enumerate(one.module.function_handles):
-                there, name = self.all[one.module_name(handle.module)], known(one.module.function_name(index))
-                found, full = there.functions.get(name), f"{name_text(there.name)}::{quoted(name)}"
-                if found is None:
-                    self.fail(one, model.FUNCTION_HANDLES, index, rule, f"{name_text(there.name)} defines no {quoted(name)}")
-                wanted, has = one.signature(index), there.signature(found.handle)
-                if wanted != has:
-                    self.fail(one, model.FUNCTION_HANDLES, index, f"{rule}, with the same types of parameters and results",
-                              f"the handle has {signature_text(wanted)}, and {full} has {signature_text(has)}")
-                if there is not one and not found.is_public:
-                    self.fail(one, model.FUNCTION_HANDLES, index,
-                              f"{rule}, and a public one where its module is another", f"{full} is private")
+            for index in range(len(one.module.function_handles)):
+                self.check_function(one, index)
+
+    def check_function(self, one: Published, index: int) -> None:
+        rule = "rule e, each function handle names a function that is defined there"
+        handle = one.module.function_handles[index]
+        there, name = self.all[one.module_name(handle.module)], known(one.module.function_name(index))
+        found, module = there.functions.get(name), name_text(there.name)
+        spot, full = Spot("function handle", index), f"{module}::{quoted(name)}"
+        if found is None:
+            self.fail(one, model.FUNCTION_HANDLES, index, rule, f"{module} defines no {quoted(name)}",
+                      Advice(f"`{module}` has no function `{name}`", meant(name, there.functions), spot))
+        notes = ((Spot("there function", there.function_places[name]), "it is defined here"),)
+        wanted, has = one.signature(index), there.signature(found.handle)
+        if wanted != has:
+            self.fail(one, model.FUNCTION_HANDLES, index, f"{rule}, with the same types of parameters and results",
+                      f"the handle has {signature_text(wanted)}, and {full} has {signature_text(has)}",
+                      Advice(f"this isn't `{name}` as `{module}` defines it, `{quoted(name)}{short_text(has)}`",
+                             f"write `{quoted(name)}{short_text(has)}`", spot, notes))
+        if there is not one and not found.is_public:
+            self.fail(one, model.FUNCTION_HANDLES, index,
+                      f"{rule}, and a public one where its module is another", f"{full} is private",
+                      Advice(f"`{name}` is private in `{module}`", f"write `public {name}` there, or call a public function of it", spot,
+                             notes))
+
+    def wrong_imports(self) -> Iterator[Tuple[int, Failure]]:
+        """What the bundle's modules say wrongly of what other modules define, each with the place of the module. Modules that aren't
+        there are taken for right."""
+        for place, one in enumerate(self.bundle):
+            checks = [(handle.module, partial(self.check_struct, one, index)) for index, handle in enumerate(one.module.struct_handles)]
+            checks += [(handle.module, partial(self.check_function, one, index))
+                       for index, handle in enumerate(one.module.function_handles)]
+            for owner, check in checks:
+                if owner != one.module.own and one.module_name(owner) in self.all:
+                    try:
+                        check()
+                    except Fails as fails:
+                        yield place, fails.failure
 
     def check_order(self) -> None:
         """Wants no module that depends on itself. A chain that leads back goes through a module of the bundle."""
@@ -177,12 +221,12 @@ class Linking:
         for one in self.bundle:
             for index in range(len(one.module.structs)):
                 nested, leaves = self.size((*one.name, one.definition_name(index)))
-                if nested > MOST_NESTED:
+                if nested > NESTING:
                     self.fail(one, model.STRUCTS, index,
-                              f"rule g, each struct nests at most {MOST_NESTED} deep", f"it nests {nested} deep")
-                if leaves > MOST_LEAVES:
+                              f"rule g, each struct nests at most {NESTING} deep", f"it nests {nested} deep")
+                if leaves > LEAF_COUNT:
                     self.fail(one, model.STRUCTS, index,
-                              f"rule g, each struct has at most {MOST_LEAVES} leaf values", f"it has {leaves}")
+                              f"rule g, each struct has at most {LEAF_COUNT} leaf values", f"it has {leaves}")
 
     def size(self, name: StructName) -> Tuple[int, int]:
         """How deep a struct nests, and how many leaf values it has. Those of its fields are found before its own."""

@@ -4,7 +4,7 @@ before an instruction."""
 from typing import Iterable, List, NamedTuple, Optional, Sequence, Tuple, Union
 
 from .. import model
-from ..model import SLOT
+from ..model import SLOT, UNAVAILABLE
 from ..states import path_text
 from . import abilities, bounds, certificate, control, definitions, signatures, stack
 from .availability import Locals
@@ -55,7 +55,8 @@ def flows_of(subject: Subject, function: int, stated: Optional[bytes]) -> Flows:
         raise NoPicture(f"not a module's encoding: offset {fault.offset}: {fault.reason}")
     try:
         for phase in (bounds, definitions, signatures, abilities, control, stack):
-            phase.check(subject)
+            for check in phase.checks(subject):
+                check.run()
         found = None if stated is None else certificate.read(subject, stated).functions[function]
     except Fails as fails:
         raise NoPicture(f"{fails.failure.named_verdict}, {fails.failure.place.text}: {fails.failure.sentence}") from None
@@ -91,7 +92,8 @@ def flow_graph(subject: Subject, function: int, stated: Optional[bytes] = None) 
     """The flow graph of a function, with what a certificate, or the least states, say of each block."""
     flows = flows_of(subject, function, stated)
     code = subject.module.functions[function].code
-    lines = [f'digraph "{escaped(subject.function_name(function))}" {{', '    node [shape=box, fontname="monospace"]']
+    lines = [f'digraph "{escaped(subject.function_name(function))}" {{', '    node [shape=box, fontname="monospace"]',
+             '    edge [fontname="monospace"]']
     for block, one in enumerate(subject.graph(function)):
         style = "" if one.is_reached else ", style=dashed"
         lines.append(f"    b{block} [label={label(block_lines(subject, function, block, flows))}{style}]")
@@ -129,6 +131,23 @@ def edges_of_broken(subject: Subject, function: int, at: int, flows: Flows) -> E
     raise NoPicture(f"the function has no least states, and none are known{where}")
 
 
+def references_before(subject: Subject, function: int, at: int, flows: Flows) -> List[Node]:
+    """The references that are there before an instruction: operands, and locals that hold one or may."""
+    found = [(TEMP, place) for place, one in enumerate(flows.borrows.stacks[at]) if one.is_reference]
+    state = availabilities_before(subject, function, at, flows)
+    return found + [(SLOT, local) for local, one in enumerate(flows.borrows.types) if one.is_reference and state[local] != UNAVAILABLE]
+
+
+def availabilities_before(subject: Subject, function: int, at: int, flows: Flows) -> List[int]:
+    """Which locals hold a value before an instruction; none of them where that isn't known."""
+    graph = subject.graph(function)
+    block = next(index for index, one in enumerate(graph) if one.first <= at <= one.last)
+    found: Union[List[int], Broken, None] = None
+    if flows.locals[block] is not None:
+        found = through(flows.availability, [Block(graph[block].first, at - 1, [], True)], 0, flows.locals[block])
+    return [UNAVAILABLE] * len(flows.borrows.types) if found is None or isinstance(found, Broken) else found
+
+
 def borrow_graph(subject: Subject, function: int, at: int, stated: Optional[bytes] = None) -> List[str]:
     """The borrow graph before an instruction of a function."""
     code = subject.module.functions[function].code
@@ -136,10 +155,10 @@ def borrow_graph(subject: Subject, function: int, at: int, stated: Optional[byte
         raise NoPicture(f"the function has {counted(len(code), 'instruction')}, and none of the number {at}")
     flows = flows_of(subject, function, stated)
     edges, on_stack = edges_before(subject, function, at, flows), flows.borrows.stacks[at]
-    temps = [(TEMP, place) for place, one in enumerate(on_stack) if one.is_reference]
-    nodes = sorted({node for edge in edges for node in (edge.source, edge.target)} | set(temps))
+    nodes = sorted({node for edge in edges for node in (edge.source, edge.target)} | set(references_before(subject, function, at, flows)))
     title = f"{subject.function_name(function)}, before instruction {at} {subject.instruction_text(function, at)}"
-    lines = [f'digraph "{escaped(title)}" {{', f'    label="{escaped(title)}"', "    rankdir=LR",
+    below = "" if len(edges) else "\\nno edges"
+    lines = [f'digraph "{escaped(title)}" {{', f'    label="{escaped(title)}{below}"', '    fontname="monospace"', "    rankdir=LR",
              '    node [fontname="monospace"]', '    edge [fontname="monospace"]']
     for place, node in enumerate(nodes):
         lines.append(f"    n{place} [{node_attributes(flows.borrows, node, on_stack)}]")

@@ -3,16 +3,16 @@
 from typing import List, NamedTuple, NoReturn, Optional, Sequence, Tuple
 
 from .. import model
-from ..errors import meant
+from ..errors import and_meant
 from ..model import LEAF_NAMES, SIGNER, Token, known
 from ..naming import quoted
-from ..numbers import RUN_COUNT
-from .failures import Failure, Fails, Place, counted
+from ..limits import RUN_COUNT, STEP_COUNT
+from .failures import Failure, Fails, Place, a_type, counted
 from .ledger import Ledger, said_value
 from .link import Published, name_text
 from .machine import Frame, Machine
+from .signatures import is_given
 
-MOST_STEPS = 10_000_000
 # So many frames, and so many locals of one, are told of a run that is given up.
 MOST_TOLD = 12
 
@@ -30,12 +30,14 @@ def answered(ledger: Ledger, record: model.Run, offset: int) -> Outcome:
         owner, function = begun(ledger, record, offset)
     except Fails as fails:
         return Outcome(fails.failure.verdict, fails.failure)
-    machine = Machine(ledger.modules, ledger.stored)
+    machine = Machine(ledger.modules, ledger.stored, ledger.watch)
     arguments = [one.value for one in record.arguments]
     if len(known(owner.module.parameters(owner.module.functions[function]))) > len(arguments):
         arguments.insert(0, record.sender)
     ending = machine.run(owner, function, arguments, record.budget)
     ledger.runs += 1
+    if ledger.watch is not None:
+        ledger.watch.ends(machine, ending)
     if ending.words.startswith("returned"):
         machine.keep()
         ledger.packed.update(machine.packed)
@@ -52,19 +54,19 @@ def begun(ledger: Ledger, record: model.Run, offset: int) -> Tuple[Published, in
     def fail(reason: int, rule: str, found: str) -> NoReturn:
         raise Fails(Failure(None, Place(f"the run of {where}, offset {offset}", offset), rule, found, said=f"rejected {reason}"))
 
-    if record.budget > MOST_STEPS:
-        fail(2, f"a run's budget is at most {MOST_STEPS:,} steps", f"it is {record.budget:,}")
+    if record.budget > STEP_COUNT:
+        fail(2, f"a run's budget is at most {STEP_COUNT:,} steps", f"it is {record.budget:,}")
     owner = ledger.modules.get(name)
     if owner is None:
         fail(3, "the run names a module that is published",
-             f"there is no {name_text(name)}{meant(name_text(name), map(name_text, ledger.modules))}")
+             f"there is no {name_text(name)}{and_meant(name_text(name), map(name_text, ledger.modules))}")
     function = owner.function_places.get(record.function)
     if function is None:
         fail(4, "the run names a function of the module",
-             f"{name_text(name)} has no `{record.function}`{meant(record.function, owner.function_places)}")
+             f"{name_text(name)} has no `{record.function}`{and_meant(record.function, owner.function_places)}")
     definition = owner.module.functions[function]
     if not definition.is_entry:
-        fail(5, "a run's function is entry", f"{where} isn't: write `entry` before its name")
+        fail(5, "a run's function is entry", f"{where} isn't{how_entry(owner, definition)}")
     wanted = known(owner.module.parameters(definition))
     wanted = wanted[1:] if wanted and wanted[0].kind == SIGNER else wanted
     if [one.kind for one in wanted] != [one.kind for one in record.arguments]:
@@ -73,6 +75,17 @@ def begun(ledger: Ledger, record: model.Run, offset: int) -> Tuple[Published, in
     if ledger.runs >= RUN_COUNT:
         fail(7, f"a ledger has at most {RUN_COUNT:,} runs", "it has had as many")
     return owner, function
+
+
+def how_entry(owner: Published, definition: model.FunctionDefinition) -> str:
+    """What to do where a function isn't entry: it is made so, where it may be."""
+    types, results = known(owner.module.parameters(definition)), known(owner.module.results(definition))
+    cant = [owner.subject.type(one) for place, one in enumerate(types) if not is_given(one, place)]
+    if cant:
+        return f", and takes {a_type(cant[0])}, which no run can give: call it from an entry function"
+    if results:
+        return ", and gives a result, which no run takes: call it from an entry function"
+    return ": write `entry` before its name"
 
 
 def types_said(types: Sequence[Token]) -> str:

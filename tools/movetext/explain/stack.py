@@ -1,22 +1,25 @@
 """Phase 8: the operand stack, its types, and their abilities."""
 
-from typing import Dict, List, NoReturn, Sequence, Tuple, Union
+from functools import partial
+from typing import Dict, Iterator, List, NoReturn, Optional, Sequence, Tuple, Union
 
 from .. import model, opcodes
+from ..limits import OPERAND_COUNT
 from ..model import LEAF_KINDS, MUTABLE, REFERENCE, STRUCT, Token, known
+from .failures import Advice, Check
 from .rows import ROWS, SAID
+from .stack_advice import makers, of_block, of_many, of_need, of_rest, of_types
 from .subject import Subject
 
 PHASE = 8
-MOST_OPERANDS = 128
 ABILITY_BITS = {name: bit for bit, name in model.ABILITIES}
 REFERENCES = {"&mut_": MUTABLE, "&": REFERENCE}
 
 
-def check(subject: Subject) -> None:
-    """Raises the first failure."""
+def checks(subject: Subject) -> Iterator[Check]:
+    """What is checked, in its order."""
     for index in range(len(subject.module.functions)):
-        stacks_of(subject, index)
+        yield Check(partial(stacks_of, subject, index), index)
 
 
 def stacks_of(subject: Subject, function: int) -> List[Tuple[Token, ...]]:
@@ -36,12 +39,13 @@ def found_stacks(subject: Subject, function: int) -> List[Tuple[Token, ...]]:
         for at in range(block.first, block.last + 1):
             stacks.append(stack)
             stack = Step(subject, function, at, stack).after()
-            if len(stack) > MOST_OPERANDS:
-                subject.fail_at(PHASE, function, at, f"the stack never has more than {MOST_OPERANDS} operands",
-                                f"it has {len(stack)}")
+            if len(stack) > OPERAND_COUNT:
+                subject.fail_at(PHASE, function, at, f"the stack never has more than {OPERAND_COUNT} operands",
+                                f"it has {len(stack)}", advice=of_many(function, at, OPERAND_COUNT))
         if stack:
             subject.fail_at(PHASE, function, block.last, "in every block the stack is empty at the end",
-                            f"{code[block.last].name} leaves {types_text(subject, stack)}")
+                            f"{code[block.last].name} leaves {types_text(subject, stack)}",
+                            advice=of_block(subject, function, block.last, stack))
     return stacks
 
 
@@ -109,7 +113,8 @@ class Step:
             self.check_need(self.types[word], need)
         if self.instruction.name == "Ret" and base:
             left = types_text(self.subject, self.stack[:base])
-            self.fail("nothing else is on the stack", f"Ret takes the results, and leaves {left}")
+            self.fail("nothing else is on the stack", f"Ret takes the results, and leaves {left}",
+                      of_rest(self.subject, self.function, self.at, self.stack[:base]))
         given = self.listed(self.row.gives)
         return self.stack[:base] + tuple(map(self.token, given))
 
@@ -143,10 +148,10 @@ class Step:
         if need in ABILITY_BITS:
             if not self.subject.abilities(token) & ABILITY_BITS[need]:
                 self.fail("each instruction finds the abilities that it needs",
-                          f"{self.instruction.name} needs {need}, which the type {named} lacks")
+                          f"{self.instruction.name} needs {need}, which the type {named} lacks", of_need(self, token, need))
         elif token.is_reference:
             self.fail("each instruction finds the types that it needs",
-                      f"{self.instruction.name} needs a type that is no reference, and {named} is one")
+                      f"{self.instruction.name} needs a type that is no reference, and {named} is one", of_need(self, token, need))
 
     def fail_types(self) -> NoReturn:
         """Fails, since the operands aren't those that the row takes."""
@@ -155,7 +160,8 @@ class Step:
         order = ", the last on top," if len(wanted) > 1 else ""
         found = types_text(self.subject, self.stack[max(0, len(self.stack) - len(wanted)):])
         self.fail("each instruction finds the types that it needs",
-                  f"{self.instruction.name} takes {takes or 'nothing'}{order} and finds {found}")
+                  f"{self.instruction.name} takes {takes or 'nothing'}{order} and finds {found}",
+                  of_types(self) if self.subject.advises else None)
 
     def said(self, word: str) -> str:
         """A word of the row, with what it means where that is known."""
@@ -170,6 +176,16 @@ class Step:
             return told if word in ("T", "n") else f"`{told}`"
         return " or ".join(f"`{one.replace(word[-1], self.subject.type(named))}`" for one in told.split(" or "))
 
-    def fail(self, rule: str, found: str) -> NoReturn:
+    def counts(self) -> Tuple[int, int]:
+        """How many operands the instruction takes, and how many it gives."""
+        return len(self.listed(self.row.takes)), len(self.listed(self.row.gives))
+
+    def fail(self, rule: str, found: str, advice: Optional[Advice]) -> NoReturn:
         state = [f"the stack before it: {types_text(self.subject, self.stack)}"]
-        self.subject.fail_at(PHASE, self.function, self.at, rule, found, state)
+        self.subject.fail_at(PHASE, self.function, self.at, rule, found, state, advice)
+
+
+def made_by(subject: Subject, function: int, at: int, below: int) -> Optional[int]:
+    """The instruction that made an operand of another one, by how far it is below the top; None where there is none."""
+    found = makers(Step(subject, function, at, ()))
+    return found[-1 - below] if below < len(found) else None

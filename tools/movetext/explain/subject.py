@@ -9,7 +9,7 @@ from ..opcodes import TARGET
 from ..printer import FunctionPrinter, ModulePrinter
 from ..reader import ModuleReading
 from ..source_names import ModuleNames
-from .failures import Failure, Fails, Place, SourcePlace
+from .failures import Advice, Failure, Fails, Place, SourcePlace
 
 # What an entry of a table is called.
 ENTRY_WORDS = {
@@ -30,9 +30,11 @@ class Block(NamedTuple):
 
 class Subject:
     """A module with the words for its places. Offsets are told from the first byte of the file, in which the module begins at
-    `base`. Where the names of the module's text are given, places and locals have them."""
+    `base`. Where the names of the module's text are given, places and locals have them. Where it advises, failures are told in an
+    author's words, too, for which the way to them is searched."""
 
-    def __init__(self, reading: ModuleReading, base: int = 0, source: Optional[ModuleNames] = None):
+    def __init__(self, reading: ModuleReading, base: int = 0, source: Optional[ModuleNames] = None, advises: bool = False):
+        self.advises = advises
         self.reading = reading
         self.module = reading.module
         self.base = base
@@ -44,17 +46,19 @@ class Subject:
         self.stacks: Dict[int, List[Tuple[model.Token, ...]]] = {}
         self.definition_of = {one.handle: index for index, one in enumerate(self.module.functions)}
 
-    def fail(self, phase: Optional[int], place: Place, rule: str, found: str, state: Iterable[str] = ()) -> NoReturn:
+    def fail(self, phase: Optional[int], place: Place, rule: str, found: str, state: Iterable[str] = (),
+             advice: Optional[Advice] = None) -> NoReturn:
         """Raises a failure."""
-        raise Fails(Failure(phase, place, rule, found, tuple(state), self.source_place(place)))
+        raise Fails(Failure(phase, place, rule, found, tuple(state), self.source_place(place), advice=advice))
 
-    def fail_entry(self, phase: int, kind: int, index: int, rule: str, found: str) -> NoReturn:
+    def fail_entry(self, phase: int, kind: int, index: int, rule: str, found: str, advice: Optional[Advice] = None) -> NoReturn:
         """Raises a failure at an entry of a table."""
-        self.fail(phase, self.entry(kind, index), rule, found)
+        self.fail(phase, self.entry(kind, index), rule, found, advice=advice)
 
-    def fail_at(self, phase: int, function: int, at: int, rule: str, found: str, state: Iterable[str] = ()) -> NoReturn:
+    def fail_at(self, phase: int, function: int, at: int, rule: str, found: str, state: Iterable[str] = (),
+                advice: Optional[Advice] = None) -> NoReturn:
         """Raises a failure at an instruction of a function."""
-        self.fail(phase, self.instruction(function, at), rule, found, state)
+        self.fail(phase, self.instruction(function, at), rule, found, state, advice)
 
     def source_place(self, place: Place) -> Optional[SourcePlace]:
         """A place in the module's text, or None where the text isn't known."""

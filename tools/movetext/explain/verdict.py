@@ -1,16 +1,15 @@
 """Phases 1 to 12 of one module, in their order."""
 
-from typing import NamedTuple, Optional
+from functools import partial
+from typing import Iterator, NamedTuple, Optional, Set
 
 from .. import model
-from ..numbers import CERTIFICATE_BYTES, TABLE_BYTES
+from ..limits import CERTIFICATE_BYTES, TABLE_BYTES
 from ..reader import read_module
 from ..source_names import ModuleNames
 from . import abilities, acquires, bounds, certificate, control, definitions, signatures, stack
-from .failures import Failure, Fails, Place
+from .failures import Check, Failure, Fails, Place
 from .subject import ENTRY_WORDS, Subject
-
-CHECKS = (bounds.check, definitions.check, signatures.check, abilities.check, control.check, stack.check)
 
 
 class Verdict(NamedTuple):
@@ -22,25 +21,59 @@ class Verdict(NamedTuple):
     least: Optional[model.Certificate] = None
 
 
+class Trial:
+    """A module that is tried, with a certificate's bytes or without one. `base` and `certificate_base` are where they begin in
+    their files, `source` are the names of the module's text. `states` are those of its blocks, once phase 9 is reached."""
+
+    def __init__(self, data: bytes, stated: Optional[bytes] = None, base: int = 0, certificate_base: int = 0,
+                 source: Optional[ModuleNames] = None, advises: bool = False):
+        self.data, self.stated, self.certificate_base = data, stated, certificate_base
+        self.subject = Subject(read_module(data), base, source, advises)
+        self.states = certificate.States(self.subject)
+
+    def phases(self) -> Iterator[Iterator[Check]]:
+        """What is checked, phase by phase."""
+        subject = self.subject
+        yield iter([Check(partial(check_sizes, subject, self.data, self.stated))])
+        yield iter([Check(partial(check_text, subject))])
+        for phase in (bounds, definitions, signatures, abilities, control, stack):
+            yield phase.checks(subject)
+        yield iter([Check(self.read_certificate)] if self.stated is not None else [])
+        yield from self.states.checks()
+        yield acquires.checks(subject)
+
+    def read_certificate(self) -> None:
+        """Takes the states that the certificate states."""
+        self.states.stated = certificate.read(self.subject, self.stated or b"", self.certificate_base)
+
+    def failures(self) -> Iterator[Failure]:
+        """The first failure, and then those of other functions, each with its own first. Where one is about what functions stand
+        on, no phase after it is tried."""
+        broken: Set[Optional[int]] = set()
+        for phase in self.phases():
+            for check in phase:
+                if check.function in broken:
+                    continue
+                try:
+                    check.run()
+                except Fails as fails:
+                    broken.add(check.function)
+                    yield fails.failure
+            if None in broken or broken and self.stated is not None:
+                return
+
+    def first(self) -> Optional[Failure]:
+        """The first failure, or None."""
+        return next(self.failures(), None)
+
+
 def explain_module(data: bytes, stated: Optional[bytes] = None, base: int = 0, certificate_base: int = 0,
                    source: Optional[ModuleNames] = None) -> Verdict:
     """The first phase of 1 to 12 that refuses a module with a certificate's bytes, or without one by the least states. `base`
     and `certificate_base` are where they begin in their files, `source` are the names of the module's text."""
-    subject = Subject(read_module(data), base, source)
-    least = None
-    try:
-        check_sizes(subject, data, stated)
-        check_text(subject)
-        for check in CHECKS:
-            check(subject)
-        if stated is None:
-            least = certificate.least(subject)
-        else:
-            certificate.check_stated(subject, certificate.read(subject, stated, certificate_base))
-        acquires.check(subject)
-    except Fails as fails:
-        return Verdict(subject, fails.failure)
-    return Verdict(subject, None, least)
+    trial = Trial(data, stated, base, certificate_base, source)
+    failure = trial.first()
+    return Verdict(trial.subject, failure, trial.states.least() if failure is None and stated is None else None)
 
 
 def check_sizes(subject: Subject, data: bytes, stated: Optional[bytes]) -> None:
