@@ -298,6 +298,9 @@ def state(holding: Sequence[int], edges: Iterable[Edge]) -> bytes:
 # Releases the first parameter, and goes on to a block that releases a local.
 ON = "MoveLoc 0; Pop; Branch next; next: MoveLoc {0}; Pop; Ret"
 PAIRS = [(a, b) for a in range(32) for b in range(32)]
+# Edges from a local's value to the first parameter, one for each pair, and the labels of 32 fields.
+EACH_PAIR: List[Leading] = [(OWN, 1, 0, pair, 0) for pair in PAIRS]
+FIRST_FIELDS = [(n,) for n in range(32)]
 
 
 def stated(code: str, parameters: str = "&u64; u64") -> Offered:
@@ -587,6 +590,27 @@ def borrows_and_calls(borrows: int, calls: int) -> Offered:
     return m.borrowing(several("u64", 3), "", code + "Pop;" * 8 + "Ret", state([1] * 3, ()))
 
 
+def spread(times: int, references: int, depth: int, edges: Sequence[Leading], ahead: Sequence[Sequence[int]]) -> Offered:
+    """Below a reference with these edges, so many positions down, so many borrows of fields are gathered, and so many copies of what they
+    are gathered in are stated ahead, each by an open label of these paths from each local that an edge leads out of."""
+    m = Borrowing()
+    m.nested()
+    kinds = ["W", *(f"D{n}" for n in range(depth - 1))][:depth]
+    for n, kind in enumerate(kinds[1:]):
+        m.struct(kind, "has copy, drop", f"w: {kinds[n]}")
+    m.called("with", "&u64; &u64", "&u64")
+    owns = sorted({edge[1] for edge in edges})
+    first = 1 + len(owns)
+    down = "CopyLoc 0;" + "".join(f"ImmBorrowField {kind}.w;" for kind in reversed(kinds)) + f"StLoc {first};"
+    code = down + f"CopyLoc {first}; {inner(0)}" + "".join(f"CopyLoc {first}; {inner(n)} Call with;" for n in range(1, times)) + f"StLoc {first + 1};"
+    code += "".join(f"CopyLoc {first + 1}; StLoc {first + 2 + n};" for n in range(references - 1))
+    code += f"MoveLoc {first}; Pop; MoveLoc 0; Pop; Branch next; next: Ret"
+    here = leading([1] * first + [0] * (1 + references), edges)
+    stated_ahead = leading([0] + [1] * len(owns) + [0] + [1] * references, [(OWN, own, first + 1 + n, path, 1) for n in range(references) for own in owns for path in ahead])
+    top = kinds[-1] if kinds else "S"
+    return m.borrowing(f"&{top}; {several('u64', len(owns))}", f"&S; {several('&u64', references)}", code, here + stated_ahead)
+
+
 def globals_gathered(count: int) -> Offered:
     """So many globals are gathered in one reference, and as many stated ahead."""
     m = Borrowing()
@@ -719,6 +743,13 @@ def sought_blocks() -> Sequence[Tuple[str, Offered]]:
         ("1,024 fields, a call with 8 references after each, and 2,020 calls that ask of a global", fields_and_asked(1_024, 2_020)),
         ("1,020 borrows of a local, each gathered with those before, and 2,040 calls that ask of a global", lent_and_asked(1_020, 2_040)),
         ("256 fields of a reference with 288 edges, gathered, and 2,900 calls with 8 copies of it", gathered_and_returned(256, 2_900)),
+        ("950 borrows of fields of a reference with 1,024 edges, gathered, and 59 references stated ahead by an open label each", spread(950, 59, 0, EACH_PAIR, [()])),
+        ("950 such borrows, gathered, and 31 references stated ahead by 32 open labels each", spread(950, 31, 0, EACH_PAIR, FIRST_FIELDS)),
+        ("900 borrows of fields three fields down of a reference with 105 edges, gathered, and 45 references stated ahead",
+         spread(900, 45, 3, [(OWN, own, 0, (0,) * n, 0) for own in range(1, 16) for n in range(7)], [(0,) * 3])),
+        ("560 borrows of fields of the last of 800 mutable copies, gathered, and 33 references stated ahead", fields_of_copies(800, 560, 32)),
+        ("950 borrows of fields of a reference with 1,024 edges, one of them with no position, gathered, and 31 references stated ahead by 32 open labels each",
+         spread(950, 31, 0, [*EACH_PAIR[1:], (OWN, 1, 0, (), 0)], FIRST_FIELDS)),
     )
 
 

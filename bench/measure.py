@@ -171,7 +171,7 @@ def main() -> None:
     growth.tell(clock.program, folder)
     above = runs.tell(clock.program, folder) + memory.tell(clock.program, folder)
     if (folder / beside.PLAIN).exists():
-        beside.tell(folder, clock.program)
+        above += beside.tell(folder, clock.program)
     sys.exit(1 if above else 0)
 
 

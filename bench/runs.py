@@ -29,8 +29,12 @@ COUNTED, COUNTED_SECONDS = (500, 50_000), 0.02
 # Nothing is counted where it takes longer to load the ledger.
 LOADED = 0.15
 SECONDS, MEGABYTES = 2.0, 300.0
-# What a record with a small budget may take: in times what it takes beside a small store, and seconds besides those of its steps.
-BESIDE, RECORD_SECONDS = 1.1, 5e-6
+# What a run may take whose steps wait for memory that no cache holds: each moves 4 KB, or looks for a key among many.
+MEMORY_SECONDS = 3.2
+# What a record with a small budget may take: in times what it takes beside a small store, seconds for each step, and besides those.
+BESIDE, STEP_SECONDS, RECORD_SECONDS = 1.1, 2e-7, 5e-6
+# What a run may take that is the second one of its kind, whatever its code, so that what it grew is there.
+DEEP_STEP_SECONDS, DEEP_SECONDS = 3e-6, 2e-5
 
 # A struct of 256 leaves, and how a function with a local of each kind makes one: in the local after the last one of a number.
 LEAVES = 256
@@ -62,12 +66,14 @@ def again(code: str, begin: str = "", most: int = LONG, first: str = "", last: s
 
 
 class Row(NamedTuple):
-    """A run without an end: what it does, the ledger or the records before, the function, and its arguments."""
+    """A run without an end: what it does, the ledger or the records before, the function, its arguments, and the seconds that all steps
+    may take."""
 
     what: str
     modules: Sequence[Module]
     arguments: Tuple[model.Value, ...] = ()
     stored: Sequence[model.Stored] = ()
+    seconds: float = SECONDS
 
 
 def called(m: Module, own: str) -> Module:
@@ -125,11 +131,12 @@ def of_locals() -> Iterator[Row]:
     yield Row("254 returns of 8 results, moved by one word, with a Nop before each", one(again("Call g0;" + "Pop;" * RESULTS), m=m))
     m = wide_module()
     m.function("g", results, results, "", "".join(f"MoveLoc {n};" for n in range(RESULTS)) + "Ret", entry=False)
-    yield Row("calls that hand back 8 arguments of 256 leaves", one(again("Call g;", made(0, 1), first="CopyLoc 1;" * RESULTS, last="Pop;" * RESULTS), "Row; Wide", m=m))
+    yield Row("calls that hand back 8 arguments of 256 leaves", one(again("Call g;", made(0, 1), first="CopyLoc 1;" * RESULTS, last="Pop;" * RESULTS), "Row; Wide", m=m),
+              seconds=MEMORY_SECONDS)
     m = wide_module()
     taken = "; ".join(["Wide"] * PARAMETERS)
     m.function("g", taken, "", "", "Ret", entry=False)
-    yield Row("calls with 16 arguments of 256 leaves", one(again("CopyLoc 1;" * PARAMETERS + "Call g;", made(0, 1)), "Row; Wide", m=m))
+    yield Row("calls with 16 arguments of 256 leaves", one(again("CopyLoc 1;" * PARAMETERS + "Call g;", made(0, 1)), "Row; Wide", m=m), seconds=MEMORY_SECONDS)
     m = wide_module()
     m.function("g", "u64", "u64", "", "MoveLoc 0; Ret", entry=False)
     yield Row("calls that hand a number back", one(again("Call g;", first="LdU64 1;", last="Pop;"), m=m))
@@ -138,7 +145,7 @@ def of_locals() -> Iterator[Row]:
     m = wide_module()
     m.function("g", "Wide; u64", "", "", "CopyLoc 1; LdU64 0; Eq; BrTrue done;" + "CopyLoc 0;" * (OPERANDS - 2) + "CopyLoc 1; LdU64 1; Sub; Call g;"
                + "Pop;" * (OPERANDS - 3) + "Ret; done: Ret", entry=False)
-    yield Row("125 copies of 256 leaves in each of 254 frames", one(again(f"CopyLoc 1; LdU64 {FRAMES - 3}; Call g;", made(0, 1)), "Row; Wide", m=m))
+    yield Row("125 copies of 256 leaves in each of 254 frames", one(again(f"CopyLoc 1; LdU64 {FRAMES - 3}; Call g;", made(0, 1)), "Row; Wide", m=m), seconds=MEMORY_SECONDS)
     yield Row("moves of 256 leaves", one(again("MoveLoc 1; StLoc 1;", made(0, 1)), "Row; Wide", m=wide_module()))
     spread = "".join(f"CopyLoc {n}; StLoc {n + 1};" for n in range(1, LOCALS - 1)) + f"CopyLoc {LOCALS - 1}; StLoc 1;"
     yield Row("copies of 256 leaves from local to local", one(again(spread, made(0, 1)), "; ".join(["Row"] + ["Wide"] * (LOCALS - 1)), m=wide_module()))
@@ -289,12 +296,12 @@ def of_storage() -> Iterator[Row]:
         (f"writes of a stored field, of {HELD * LEAVES:,} among {KEYS:,} keys", "MutBorrowGlobal Coin; StLoc {r}; LdU64 5; MoveLoc {r}; MutBorrowField Coin.v; WriteRef;", "Coin"),
     )
     for what, use, acquires in uses:
-        yield Row(what, [visiting(use, acquires)], stored=stored)
+        yield Row(what, [visiting(use, acquires)], stored=stored, seconds=MEMORY_SECONDS)
     bigs = [model.Stored(scattered(n), 0, 5, [u64(7)] * LEAVES) for n in shuffled]
     stored = sorted(tables + bigs, key=lambda one: (one.struct, one.address))
-    yield Row(f"reads of all 256 leaves of {HELD * LEAVES:,} stored values", [visiting("ImmBorrowGlobal Big; ReadRef; Pop;", "Big")], stored=stored)
+    yield Row(f"reads of all 256 leaves of {HELD * LEAVES:,} stored values", [visiting("ImmBorrowGlobal Big; ReadRef; Pop;", "Big")], stored=stored, seconds=MEMORY_SECONDS)
     written = "StLoc {r}; CopyLoc {w}; MoveLoc {r}; MutBorrowGlobal Big; WriteRef;"
-    yield Row(f"writes of all 256 leaves of {HELD * LEAVES:,} stored values", [visiting(written, "Big")], stored=stored)
+    yield Row(f"writes of all 256 leaves of {HELD * LEAVES:,} stored values", [visiting(written, "Big")], stored=stored, seconds=MEMORY_SECONDS)
     m = wide_module()
     m.struct("Node", ASSET, "next: address; w: Part")
     m.struct("Part", PLAIN, "; ".join(f"r{n}: Row" for n in range(31)))
@@ -402,19 +409,22 @@ class Runs:
         counted = "" if each is None else f"{each / count:10.1f} instructions a step"
         least, most = self.memory(row, None), self.memory(row, steps)
         held = (most - least) / 1024
-        is_above = seconds > SECONDS or held > MEGABYTES
+        is_above = seconds > row.seconds or held > MEGABYTES
         self.above += is_above
-        print(f"runs: {row.what:72}{seconds:8.2f} s {how:16}{counted}{held:8.1f} MB beside "
+        print(f"runs: {row.what:72}{seconds:8.2f} s (bound: {row.seconds}) {how:16}{counted}{held:8.1f} MB beside "
               f"{least / 1024:.0f}{'  ABOVE' if is_above else ''}", flush=True)
 
 
 class Small(NamedTuple):
-    """A record with a small budget: what it does, the ledger that it meets, the records before it, and itself."""
+    """A record with a small budget: what it does, the ledger that it meets, the records before it, and itself; and the seconds that it may
+    take for each step, and besides."""
 
     what: str
     modules: Sequence[Module]
     before: Sequence[bytes]
     offered: bytes
+    step: float = STEP_SECONDS
+    rest: float = RECORD_SECONDS
 
 
 def idle_module() -> Module:
@@ -451,6 +461,7 @@ def small_runs() -> Iterator[List[Small]]:
     m.function("last", "", "", "", "Ret", entry=False)
     chain(m, FRAMES - 3, "", "", "; ".join(["Wide"] * LOCALS), "", "Ret", "Call last; Ret")
     m.function("f", "", "", "", "Call g0; Ret")
+    m.function("given", "u64", "", "", "Call g0; Ret")
     few, many, deep = [idle_module()], large_store(), [m, idle_module()]
     packs = [called(packing("P", 2_000), f"P{k}") for k in range(4)]
     user = Module("U")
@@ -459,6 +470,7 @@ def small_runs() -> Iterator[List[Small]]:
     user.function("f", "", "", "", "LdTrue;" + "".join(f"Call P{k}::pack;" for k in range(len(packs))) + "Pop; Ret")
     packing_store = [*packs, user, *few]
     first, packed = of("f", 1_000_000, module="M"), of("f", 1_000_000, module="U")
+    given = of("given", 1_000_000, u64(7), module="M")
     kinds = (
         ("a run of no step", of("idle", 0)), ("a run of one step", of("idle", 10)), ("an asset packed and unpacked", of("coin", 10, u64(7))),
         ("an asset stored and taken out", of("churn", 20)), ("a run with 16 arguments", of("many", 10, *[model.Value(model.U128, 7)] * PARAMETERS)),
@@ -468,7 +480,8 @@ def small_runs() -> Iterator[List[Small]]:
         yield [Small(what, few, [], offered), Small(f"{what}, in the last of {len(many):,} modules", many, [], offered),
                Small(f"{what}, behind a run 254 calls deep", deep, [first], offered),
                Small(f"{what}, behind a run that packed of 8,000 structs", packing_store, [packed], offered)]
-    yield [Small("a run 254 calls deep, each with 64 locals of 256 leaves", deep, [], first)]
+    for what, one in ("a run 254 calls deep", first), ("a run 254 calls deep of a function with an argument", given):
+        yield [Small(f"{what}, each with 64 locals of 256 leaves, behind such a run", deep, [one], one, DEEP_STEP_SECONDS, DEEP_SECONDS)]
     yield [Small("a run that packs and unpacks of 8,000 structs", packing_store, [], packed)]
 
 
@@ -509,7 +522,7 @@ class SmallRuns:
             each = None if more is None else more / count
             least = least or each
             ratio = each / least if each is not None and least else 1.0
-            bound = SECONDS / STEPS * steps + RECORD_SECONDS
+            bound = one.step * steps + one.rest
             is_above = spent / times > bound or ratio > BESIDE
             self.above += is_above
             counted = "" if each is None else f"{each:14,.0f} instructions, {ratio:.2f} times the first one's (bound: {BESIDE})"
@@ -526,7 +539,7 @@ def tell(program: Path, folder: Path, *words: str) -> int:
     def is_asked(what: str) -> bool:
         return not words or any(word in what for word in words)
 
-    print(f"runs: seconds for {STEPS:,} steps (bound: {SECONDS}), memory of a run (bound: {MEGABYTES} MB)")
+    print(f"runs: seconds for {STEPS:,} steps, each with its bound, and memory of a run (bound: {MEGABYTES} MB)")
     for rows in ROWS:
         for row in rows():
             if is_asked(row.what):
