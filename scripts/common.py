@@ -18,6 +18,9 @@ TOOLS = TOP / "tools"
 # Where a build leaves the program, from the top.
 BUILT = "crates/moveledger_program/out/moveledger_program"
 
+# The status by which a script says that it was left out, since something isn't installed; its last line says what.
+LEFT_OUT = 77
+
 Word = Union[str, Path]
 
 

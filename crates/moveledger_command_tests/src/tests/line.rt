@@ -103,9 +103,11 @@ fn ends_follow_what_a_command_made(rt: HostRuntime) {
     }
     for (kept, wanted) in [
         (Ok(()), End::Done),
-        (Err(KeepError::Write), End::Write),
+        (Err(KeepError::Write(Some(28))), End::Write),
         (Err(KeepError::NoLedger), End::Write),
         (Err(KeepError::InUse), End::Write),
+        (Err(KeepError::NoLock(None)), End::Write),
+        (Err(KeepError::Name), End::Write),
         (Err(KeepError::Memory), End::Memory),
     ] {
         assert_eq!(rt; end_of_keeping(kept), wanted);
