@@ -79,32 +79,52 @@ pub struct Teller<'a> {
     pub path: &'a str,
 }
 
-impl Tell for Teller<'_> {
-    fn tell(&self, notice: Notice<'_>) {
-        let (alloc, path) = (self.rt.alloc(), self.path);
-        let said = match notice {
-            Notice::Previous(name) => format!(in alloc;
-                "moveledger: {path}: the ledger that stood there is kept as {name}\n"
+/// What is told of files that stay while a ledger is saved by a name.
+#[derive(Clone, Copy, Debug, PartialEq, Eq)]
+struct Line<'a> {
+    path: &'a str,
+    notice: Notice<'a>,
+}
+
+impl Display for Line<'_> {
+    fn fmt<W: fmt::Write>(&self, f: &mut Formatter<W>) -> fmt::Result {
+        let path = self.path;
+        match self.notice {
+            Notice::Previous(name) => {
+                write!(f, "{path}: the ledger that stood there is kept as {name}")
+            }
+            Notice::Earlier(name) => write!(
+                f,
+                "{path}: what an earlier program couldn't put in place is kept as {name}"
             ),
-            Notice::Earlier(name) => format!(in alloc;
-                "moveledger: {path}: what an earlier program couldn't put in place is kept as {name}\n"
-            ),
-            Notice::Unsaved(name) => format!(in alloc;
-                "moveledger: the ledger is whole in {name}: move or copy it to {path}\n"
-            ),
+            Notice::Unsaved(name) => {
+                write!(f, "the ledger is whole in {name}: move or copy it to {path}")
+            }
             Notice::Unconfirmed(number) => {
                 let words = Words(number);
-                format!(in alloc; "moveledger: {path}: the disk hasn't confirmed that: {words}\n")
+                write!(f, "{path}: the disk hasn't confirmed that: {words}")
             }
             Notice::Placed(number) => {
                 let words = Words(number);
-                format!(in alloc;
-                    "moveledger: {path}: it is in its place, but the disk hasn't confirmed that: {words}\n"
+                write!(
+                    f,
+                    "{path}: it is in its place, but the disk hasn't confirmed that: {words}"
                 )
             }
-        };
-        if let Ok(said) = said {
-            let _ = self.rt.eprint(said.as_str());
         }
+    }
+}
+
+impl Tell for Teller<'_> {
+    fn tell(&self, notice: Notice<'_>) {
+        let line = Line {
+            path: self.path,
+            notice,
+        };
+        // In one write, unless there is no memory for that.
+        let _ = match format!(in self.rt.alloc(); "moveledger: {line}\n") {
+            Ok(said) => self.rt.eprint(said.as_str()),
+            Err(_) => eprint!(self.rt; "moveledger: {line}\n"),
+        };
     }
 }

@@ -186,7 +186,8 @@ where
     Ok(fs::remove_file(names.rt, names.claim.new.as_path())?)
 }
 
-/// Gives a new file that can't have a second name another one, which is told before.
+/// Gives a new file that can't have a second name another one, which is told before. Where it can't have that either, its own name
+/// is told.
 fn renamed_aside<R: Files + Looks + AllocGlobal, T: Tell>(
     names: &OnDisk<'_, R, T>,
     whose: Whose,
@@ -194,20 +195,28 @@ fn renamed_aside<R: Files + Looks + AllocGlobal, T: Tell>(
 where
     R::File: Hold,
 {
+    let renamed = renamed_once(names, whose);
+    let new = names.claim.new.as_path();
+    if renamed.is_err() && leads_to(names.rt, new, names.file)? {
+        names.tell(whose.notice(new.as_str()));
+    }
+    renamed
+}
+
+/// Gives a new file the first name that nothing has, which is told before.
+fn renamed_once<R: Files + Looks + AllocGlobal, T: Tell>(
+    names: &OnDisk<'_, R, T>,
+    whose: Whose,
+) -> Result<(), KeepError> {
     let (rt, claim) = (names.rt, names.claim);
     let base = unsaved_name(rt.alloc(), claim.target.as_path())?;
     for number in 0..MOST_NAMES {
         let name = numbered(rt.alloc(), base.as_str(), number)?;
         if let None = rt.look(name.as_str())? {
             names.tell(whose.notice(name.as_str()));
-            if fs::rename(rt, claim.new.as_path(), name.as_str()).is_ok() {
-                return Ok(claim.folder.sync_all()?);
-            }
-            break;
+            fs::rename(rt, claim.new.as_path(), name.as_str())?;
+            return Ok(claim.folder.sync_all()?);
         }
-    }
-    if leads_to(rt, claim.new.as_path(), names.file)? {
-        names.tell(whose.notice(claim.new.as_str()));
     }
     Err(KeepError::Write(None))
 }
