@@ -39,7 +39,7 @@ pub use laws::{
 pub use loading::migrate;
 pub use mv_ledger_state::LoadError;
 use mv_ledger_state::{Published, read_run, text_of};
-pub use mv_lines::{Lines, Piece, json_of_storage, json_of_tallies};
+pub use mv_lines::{Lines, Piece};
 use mv_machine::Outcome;
 use mv_move_types::Refusal;
 use mv_storage::Storage;

@@ -4,8 +4,7 @@
 --   Structs     The value of a struct, by what its fields are made of.
 --   Names       The texts of structs' names and of values are plain: identifiers are letters, digits and `_`.
 --   Characters  The lines of a show and of an audit are texts of characters.
---   Sends       What a report in JSON sends, and which text is written for it.
---   Objects     That text is the line of JSON, since its texts are plain.
+--   Objects     The text that is written for an entry is its object in JSON, since its texts are plain.
 --   Pieces      A line of JSON, piece by piece.
 --   Parted      The texts of a stored value, one behind the other.
 --   Audits      The counts of an audit, module by module.
@@ -14,7 +13,6 @@ pub mod Fields
 pub mod Structs
 pub mod Names
 pub mod Characters
-pub mod Sends
 pub mod Objects
 pub mod Pieces
 pub mod Parted

@@ -1,14 +1,10 @@
--- What a report in JSON sends to a serializer.
---   members_of, items_of         texts under their keys, and the items of a list, as data that is sent
+-- What an entry of a report in JSON sends to a serializer (why an entry at a time: decision 33).
+--   members_of                   texts under their keys, as data that is sent
 --   texts_of, texts_data         three texts by the keys of a stored value's, and the object that they make
 --   entry_texts, entry_data      a stored value: its texts by key, and the object that they make
 --   count_texts, count_data      the same of a struct's counts
---   SendsReport key ds old new   what a report sends: an object with one key, under which a list stands (why: decision 33)
-use Rattle.std.specs.Prelude.{ℕ, List, [], ◌∷◌, Some, None, codes, decimal}
-use Rattle.serde.specs.Event.{Log, Logs, map_begins, map_ends, seq_begins, field_key}
-use Rattle.serde.specs.declared.name.Case.TheVariants.{AsIs}
-use Rattle.serde_json.specs.Data.{Data, string, object, Items, no_items, item, Members, no_members, member}
-use Rattle.serde_json.specs.Events.{SendsItems}
+use Rattle.std.specs.Prelude.{ℕ, List, [], ◌∷◌, codes, decimal}
+use Rattle.serde_json.specs.Data.{Data, string, object, Members, no_members, member}
 use Rattle.mv_move_types.specs.Module.{Module}
 use Rattle.mv_machine.specs.State.{Entry}
 use Rattle.mv_machine.specs.Lines.{Tallied, address_text, key_text, struct_text, value_text}
@@ -18,11 +14,6 @@ use Rattle.mv_lines.specs.Auditing.{stored_of}
 abbrev pub members_of : List (List ℕ × List ℕ) → Members
 members_of [] = no_members
 members_of (m ∷ ms) = member m.0 (string m.1) (members_of ms)
-
--- a list's items
-abbrev pub items_of : List Data → Items
-items_of [] = no_items
-items_of (d ∷ ds) = item d (items_of ds)
 
 -- texts of an address, of a struct and of a value, under their keys
 abbrev pub texts_of : List ℕ → List ℕ → List ℕ → List (List ℕ × List ℕ)
@@ -46,8 +37,3 @@ count_texts t =
 
 abbrev pub count_data : Tallied → Data
 count_data t = object (members_of (count_texts t))
-
--- An object with one key and a list. How long the list is isn't said before its end.
-abbrev pub SendsReport : List ℕ → List Data → Log → Log → Type 0
-SendsReport key ds old new = (began named listed ended : Log) × Logs old began (map_begins (Some 1)) × Logs began named (field_key key AsIs)
-    × Logs named listed (seq_begins None) × SendsItems (items_of ds) listed ended × Logs ended new map_ends

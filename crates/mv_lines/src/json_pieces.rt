@@ -11,8 +11,8 @@ ghost use Rattle.mv_machine.specs.Tallies.{all_of, lists_of, tallied};
 
 use crate::ahead::Ahead;
 use crate::audit::{Counted, Counts};
+use crate::json_counts::{NO_MEMORY, send_counts};
 use crate::json_entries::{parted, put_texts};
-use crate::json_lines::{NO_MEMORY, send_counts};
 use crate::pieces::Piece;
 use mv_linker::Store;
 use mv_machine::Tally;

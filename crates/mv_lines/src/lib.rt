@@ -2,28 +2,27 @@
 //! is asked for.
 //!
 //! ```
-//! use mv_lines::json_of_storage;
+//! use mv_lines::{Lines, Piece};
 //! use mv_linker::Store;
 //! use mv_storage::Storage;
 //! use std::alloc::{AllocError, Global};
 //!
-//! /// A show of all that is stored, as JSON.
-//! fn example(alloc: Global, store: &Store, storage: &Storage) -> Result<Vec<u8>, AllocError> {
-//!     json_of_storage(alloc, store, storage)
+//! /// How the line of a show of all that is stored begins, as JSON.
+//! fn example(alloc: Global, store: &Store, storage: &Storage) -> Result<Option<Piece>, AllocError> {
+//!     Lines::json_of_storage(alloc, store, storage).next_piece()
 //! }
 //! ```
 #![tactic(auto)]
 
 mod ahead;
 mod audit;
+mod json_counts;
 mod json_entries;
-mod json_lines;
 mod json_pieces;
 mod lines;
 mod pieces;
 mod texts;
 mod values;
 
-pub use json_lines::{json_of_storage, json_of_tallies};
 pub use lines::Lines;
 pub use pieces::Piece;

@@ -1,11 +1,10 @@
--- The compact text of a report is the line of JSON, since its texts are plain.
-use Rattle.mv_lines.proofs.Common.{[], ◌++◌, ◌∙◌, ◌∷◌, ◌≡◌, AllByRecursion, IsPlain, List, ap, ap₂, append-nil, append_assoc, arith, codes, false, first_so, is_plain, list_all, map, member, nat_tests, object}
+-- The compact text of an entry is its object in JSON, since its texts are plain.
+use Rattle.mv_lines.proofs.Common.{[], ◌++◌, ◌∙◌, ◌∷◌, ◌≡◌, AllByRecursion, IsPlain, List, ap, append-nil, append_assoc, arith, codes, false, first_so, is_plain, list_all, map, member, nat_tests, object}
 use Rattle.mv_lines.proofs.Common.{refl, second_so, sym, true, with_commas, ℕ}
 use Rattle.json.specs.Print.{escape, escape_byte, quoted}
 use Rattle.serde_json.specs.Data as values
-use Rattle.serde_json.specs.Data.{Data}
-use Rattle.serde_json.specs.Written.{compact_text, items_have_float, items_text, members_have_float, members_text}
-use Rattle.mv_lines.specs.Sending.{items_of, members_of}
+use Rattle.serde_json.specs.Written.{compact_text, members_have_float, members_text}
+use Rattle.mv_lines.specs.Sending.{members_of}
 
 -- ---- texts
 
@@ -13,7 +12,7 @@ byte_stays : (b : ℕ) → is_plain b ≡ true → escape_byte b ≡ b ∷ []
 unfolding escape_byte
 byte_stays b plain = grind (arith, nat_tests)
 
-pub escape_stays : (text : List ℕ) → IsPlain text → escape text ≡ text
+escape_stays : (text : List ℕ) → IsPlain text → escape text ≡ text
 escape_stays [] plain = refl
 escape_stays (b ∷ bs) plain =
     ap (λ (l : List ℕ). l ++ escape bs) (byte_stays b (first_so (is_plain b) (list_all is_plain bs) plain)) ∙ ap (λ (l : List ℕ). b ∷ l) (escape_stays bs (second_so (is_plain b) (list_all is_plain bs) plain))
@@ -21,7 +20,7 @@ escape_stays (b ∷ bs) plain =
 -- ---- one after the other
 
 -- texts, each after a comma
-abbrev pub each_after : List (List ℕ) → List ℕ
+abbrev each_after : List (List ℕ) → List ℕ
 each_after [] = []
 each_after (t ∷ ts) = 44 ∷ (t ++ each_after ts)
 
@@ -57,38 +56,7 @@ object_text (m ∷ ms) plain =
     ap (λ (l : List ℕ). 123 ∷ l) (quoted-member m.0 m.1 (members_text true (members_of ms)) plain.0.0 plain.0.1 ∙ ap (λ (l : List ℕ). member m.0 m.1 ++ l) (members-after ms plain.1)
     ∙ sym (append_assoc (member m.0 m.1) (each_after (member_texts ms)) (125 ∷ [])) ∙ ap (λ (l : List ℕ). l ++ 125 ∷ []) (sym (commas (member m.0 m.1) (member_texts ms))))
 
--- ---- a list of them
-
-items-after : (ds : List Data) → items_text true (items_of ds) ≡ each_after (map compact_text ds) ++ 93 ∷ []
-items-after [] = refl
-items-after (d ∷ ds) = ap (λ (l : List ℕ). 44 ∷ l) (ap (λ (l : List ℕ). compact_text d ++ l) (items-after ds) ∙ sym (append_assoc (compact_text d) (each_after (map compact_text ds)) (93 ∷ [])))
-
-items-first : (ds : List Data) → items_text false (items_of ds) ≡ with_commas (map compact_text ds) ++ 93 ∷ []
-items-first [] = refl
-items-first (d ∷ ds) =
-    ap (λ (l : List ℕ). compact_text d ++ l) (items-after ds) ∙ sym (append_assoc (compact_text d) (each_after (map compact_text ds)) (93 ∷ []))
-    ∙ ap (λ (l : List ℕ). l ++ 93 ∷ []) (sym (commas (compact_text d) (map compact_text ds)))
-
--- a report of them
-pub list_text : (key : List ℕ) (ds : List Data) → IsPlain key
-    → codes "json " ++ compact_text (values.object (values.member key (values.array (items_of ds)) values.no_members)) ≡ codes "json {\"" ++ key ++ codes "\":[" ++ with_commas (map compact_text ds) ++ codes "]}"
-list_text key ds plain =
-    let all : List ℕ = with_commas (map compact_text ds) in
-    ap (λ (l : List ℕ). codes "json {" ++ ((34 ∷ (l ++ 34 ∷ [])) ++ 58 ∷ ((91 ∷ items_text false (items_of ds)) ++ 125 ∷ []))) (escape_stays key plain)
-    ∙ ap (λ (l : List ℕ). codes "json {" ++ ((34 ∷ (key ++ 34 ∷ [])) ++ 58 ∷ ((91 ∷ l) ++ 125 ∷ []))) (items-first ds)
-    ∙ simp append_assoc
-
 -- texts are no floats
 pub members_whole : (ms : List (List ℕ × List ℕ)) → members_have_float (members_of ms) ≡ false
 members_whole [] = refl
 members_whole (m ∷ ms) = members_whole ms
-
--- what holds of each of a list of objects
-pub objects_whole : {A : Type 0} (of : A → List (List ℕ × List ℕ)) (xs : List A) → items_have_float (items_of (map (λ x. values.object (members_of (of x))) xs)) ≡ false
-objects_whole of [] = refl
-objects_whole of (x ∷ xs) = grind (arith, members_whole (of x), objects_whole of xs)
-
-pub objects_text : {A : Type 0} (of : A → List (List ℕ × List ℕ)) (xs : List A) → AllByRecursion (λ x. AllByRecursion IsPlainMember (of x)) xs
-    → map compact_text (map (λ x. values.object (members_of (of x))) xs) ≡ map (λ x. object (member_texts (of x))) xs
-objects_text of [] plain = refl
-objects_text of (x ∷ xs) plain = ap₂ (λ (t : List ℕ) (ts : List (List ℕ)). t ∷ ts) (object_text (of x) plain.0) (objects_text of xs plain.1)

@@ -1,7 +1,7 @@
 use Rattle.mv_lines.proofs.Common.{◌++◌, ◌∙◌, ◌≡◌, IsPlain, List, OnOk, ap, subst, sym, ℕ}
 use Rattle.mv_machine.specs.Lines.{struct_text}
 use Rattle.serde.specs.Event.{Logs, text}
-use Rattle.mv_lines.proofs.json_lines.send_name.Goals as goal
+use Rattle.mv_lines.proofs.json_counts.send_name.Goals as goal
 
 pub as_str-requires : goal.as_str-requires
 as_str-requires g c = subst IsPlain (sym (c.deref.ensures.value ∙ c.in-Ok.ensures ∙ ap (λ l. l ++ struct_text c.args.name.now) c.clear.ensures.items)) c.requires

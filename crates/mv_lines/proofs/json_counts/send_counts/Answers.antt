@@ -1,6 +1,6 @@
 use Rattle.mv_lines.proofs.Common.{IfOk-weaker, decimal, subst, ℕ}
 use Rattle.serde.specs.Event.{Logs, text}
-use Rattle.mv_lines.proofs.json_lines.send_counts.Goals as goal
+use Rattle.mv_lines.proofs.json_counts.send_counts.Goals as goal
 
 pub returns : goal.returns
 returns g c =
