@@ -85,7 +85,8 @@ Reports n old [] text new = (text ≡ []) × (new ≡ old)
 Reports n old (r ∷ rs) text new = (lines : List (List ℕ)) × (mid : LedgerView) × (more : List ℕ) × Step old r lines mid
     × (text ≡ flat_map (numbered n) lines ++ more) × Reports (n + 1) mid rs more new
 
--- a reader gives this input, where it tells its bytes
+-- the reader's bytes, if the proof can see them, are this input. It sees those of a reader over memory, and not those of a file, of
+-- which this says nothing
 abbrev pub Tells : Option (List ℕ) → List ℕ → Type 0
 Tells None input = ⊤
 Tells (Some xs) input = xs ≡ input
