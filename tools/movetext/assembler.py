@@ -347,7 +347,7 @@ class Assembler:
         return unknown("function", path_text(path), self.meant_names(module, path, self.function_places))
 
     def called(self, called: Union[syntax.Path, syntax.Called]) -> int:
-        """The index of the handle of a function that is called. TextError where other types stand behind it than it has."""
+        """The index of the handle of a function that is called. TextError where other types stand after it than it has."""
         if isinstance(called, syntax.Path):
             return self.function(called)
         place = self.function(called.path)

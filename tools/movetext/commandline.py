@@ -48,7 +48,7 @@ class Option(NamedTuple):
 HELP = Option("-h, --help", "", "Print help")
 TELL_VERSION = Option("--version", "", "Print the version")
 SECONDS = Option("--seconds", "SECONDS", "Stop after SECONDS with status 1, for use on untrusted input")
-MEGABYTES = Option("--megabytes", "MEGABYTES", "Stop with status 1 where more memory than MEGABYTES is needed")
+MEGABYTES = Option("--megabytes", "MEGABYTES", "Stop with status 1 if more memory than MEGABYTES is needed")
 
 
 class WordsError(Exception):

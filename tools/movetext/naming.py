@@ -99,7 +99,7 @@ class Names:
             self.modules.append(quoted(name) if self.is_module[index] else f"#{index}")
 
     def qualified(self, module_handle: int, name: int) -> str:
-        """A struct's or function's name, behind its module's where that isn't the own one."""
+        """A struct's or function's name, after its module's where that isn't the own one."""
         own = module_handle == self.module.own
         return self.identifiers[name] if own else f"{self.modules[module_handle]}::{self.identifiers[name]}"
 

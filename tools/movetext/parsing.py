@@ -241,7 +241,7 @@ class WordParser:
         return "function" if is_call and self.has_brace() else None
 
     def has_brace(self) -> bool:
-        """Whether a block begins on the next line, or behind its end."""
+        """Whether a block begins on the next line, or after its end."""
         at = self.at
         while self.kinds[at] not in (scanner.LINE_END, scanner.END):
             if self.texts[at] == "{" and self.kinds[at] == scanner.MARK:

@@ -50,7 +50,7 @@ class Type(NamedTuple):
 
 
 class Called(NamedTuple):
-    """A function that is called, with the types that stand behind it; its results may be left out."""
+    """A function that is called, with the types that stand after it; its results may be left out."""
 
     path: Path
     parameters: List["Type"]

@@ -13,7 +13,7 @@ from .verdict import explain_module
 
 class Forgiving:
     """A domain in which an instruction whose need isn't met takes away the edges at operands, or changes nothing, so that a
-    flow goes on behind it. `forgiven` has these needs, by the instructions."""
+    flow goes on after it. `forgiven` has these needs, by the instructions."""
 
     def __init__(self, domain: Domain):
         self.domain = domain

@@ -194,7 +194,7 @@ def of_need(step: "Step", token: Token, need: str) -> Advice:
         notes = ((Spot("struct", own), f"`{type_}` lacks {need} here"),)
     if need == "no reference":
         if name in ("Eq", "Neq"):
-            return Advice(f"`{name}` compares values, and `{type_}` is a reference", "read both, each by `ReadRef` behind it", spot)
+            return Advice(f"`{name}` compares values, and `{type_}` is a reference", "read both, each by `ReadRef` after it", spot)
         return Advice(f"`{local}` is a reference already, which isn't borrowed again", f"write `CopyLoc {local}` or `MoveLoc {local}`", spot)
     if need == "key":
         return Advice(f"`{type_}` lacks key, so that none is stored by itself", f"write `struct {type_} has key`, with store in its fields",
