@@ -129,7 +129,7 @@ class Clearing:
 def patient(etcd: Etcd, addresses: List[str]) -> Etcd:
     """A client of some nodes that waits for what takes a node long."""
     made = Etcd(addresses, etcd.patience, etcd.access)
-    made.answer_seconds = LONG_SECONDS
+    made.slow_seconds = LONG_SECONDS
     return made
 
 

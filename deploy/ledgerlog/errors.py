@@ -9,6 +9,14 @@ class Unreachable(LogError):
     """No node of the log answered for as long as was waited. What was asked may be done yet."""
 
 
+class Denied(LogError):
+    """The log doesn't let this user do what was asked, or doesn't take it for who it says it is."""
+
+
+class OtherRecord(LogError):
+    """The id of what is to be put stands in the log already, for another record."""
+
+
 class Full(LogError):
     """The log has no room left: etcd puts nothing any more."""
 

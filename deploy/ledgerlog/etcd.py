@@ -8,19 +8,23 @@ import ssl
 import time
 from typing import Dict, List, NamedTuple, Optional, Tuple
 
-from .errors import Full, LogError, Unreachable
+from .errors import Denied, Full, LogError, Unreachable
+from .nodes import FIRST_SECONDS, MOST_SECONDS, Answer, Nodes
 from .requests import Body, Entry, after, coded, entries_of, ranged, value_of
 
-# How long one node may take for one answer.
-ANSWER_SECONDS = 10.0
 # How long is waited after every node was asked and none had an answer.
 PAUSE_SECONDS = 0.1
-# What the nodes answer while they choose a leader or are busy, by gRPC's numbers: the deadline is over, no leader, unavailable.
-PASSING_CODES = (1, 4, 14)
+# The numbers of gRPC by which etcd refuses: it hasn't done what was asked, and won't. Whatever else comes in an answer's place leaves
+# it unknown whether it is done: it's asked again.
+REFUSALS = (3, 5, 6, 7, 8, 9, 11, 12)
+DENIED = 7
+DENIED_WORDS = ("authentication failed", "user name is empty")
 BUSY = "too many requests"
 # By gRPC's number, and by words: the user isn't known here any more, since it logged in long ago or users were changed.
 LOGGED_OUT, OLD_USERS = 16, "revision of auth store is old"
 NO_ROOM = "database space exceeded"
+# What is asked of all nodes at once: it changes nothing, and only a node that reaches a majority has an answer.
+FIRST_QUESTION = json.dumps({"key": coded(b"moveledger")})
 
 
 class Access(NamedTuple):
@@ -55,84 +59,108 @@ class Etcd:
 
     def __init__(self, addresses: List[str], patience: float, access: Access = Access()) -> None:
         """`addresses` are HOST:PORT; `patience` is for how many seconds a request is put again and again."""
-        self.addresses = addresses
         self.patience = patience
-        self.answer_seconds = ANSWER_SECONDS
+        # The time by which all that is asked has to be answered, beside the patience for each; and what an answer may take that takes
+        # a node long, whatever the patience is.
+        self.until = float("inf")
+        self.slow_seconds = 0.0
         self.access = access
-        self.context = access.context()
+        self.nodes = Nodes(addresses, access.context())
         self.token: Optional[str] = None
+        # Whether a node that answers is known.
+        self.is_found = False
         # Which cluster answered last, by the id that it gave itself when it was made or restored.
         self.cluster = ""
-        self.connection: Optional[http.client.HTTPConnection] = None
+
+    @property
+    def addresses(self) -> List[str]:
+        return self.nodes.addresses
 
     def close(self) -> None:
-        if self.connection is not None:
-            self.connection.close()
-        self.connection = None
+        self.nodes.close()
+
+    def give(self, seconds: float) -> None:
+        """All that is asked from now on has so many seconds, together."""
+        self.until = time.monotonic() + seconds
 
     def ask(self, path: str, body: Body) -> Body:
         """The answer of the first node that has one. Unreachable where none has for as long as `patience` lasts."""
         text = json.dumps(body)
-        ends = time.monotonic() + self.patience
-        why = ""
+        ends = min(time.monotonic() + self.patience, self.until)
+        seconds, why = FIRST_SECONDS, "none in the time that was given"
+        self.find(min(ends, time.monotonic() + seconds))
         while True:
             for _ in self.addresses:
+                now = time.monotonic()
+                if now >= ends:
+                    raise Unreachable(f"no node of the log answers ({why})")
                 try:
-                    return self.ask_as_user(path, text)
+                    told = self.ask_as_user(path, text, max(min(now + seconds, ends), now + self.slow_seconds))
+                    self.is_found = True
+                    return told
                 except (OSError, http.client.HTTPException) as error:
-                    why = f"{self.addresses[0]}: {error}"
-                    self.take_next()
-            if time.monotonic() > ends:
-                raise Unreachable(f"no node of the log answers ({why})")
-            time.sleep(PAUSE_SECONDS)
+                    why = f"{self.addresses[0]}: {error or type(error).__name__}"
+                    self.nodes.take_next()
+            seconds = min(2 * seconds, MOST_SECONDS)
+            time.sleep(max(0.0, min(PAUSE_SECONDS, ends - time.monotonic())))
 
-    def take_next(self) -> None:
-        """Asks the next node from now on."""
-        self.close()
-        self.addresses = self.addresses[1:] + self.addresses[:1]
+    def find(self, by: float) -> None:
+        """Finds a node that answers, where none has yet: one that hangs costs the others' time otherwise."""
+        if not self.is_found and len(self.addresses) > 1:
+            self.is_found = self.nodes.race("/v3/kv/range", FIRST_QUESTION, self.is_answer, by)
 
-    def connected(self, seconds: float) -> http.client.HTTPConnection:
-        """A connection to the node that is asked now."""
-        if self.context is None:
-            return http.client.HTTPConnection(self.addresses[0], timeout=seconds)
-        return http.client.HTTPSConnection(self.addresses[0], timeout=seconds, context=self.context)
+    def is_answer(self, answer: Answer) -> bool:
+        """Whether a node has answered, be it by a refusal."""
+        try:
+            self.understood(answer)
+        except OSError:
+            return False
+        except LogError:
+            pass
+        return True
 
     def headers(self) -> Dict[str, str]:
         return {"Authorization": self.token} if self.token else {}
 
-    def ask_as_user(self, path: str, text: str) -> Body:
+    def ask_as_user(self, path: str, text: str, by: float) -> Body:
         """The answer of the node that is asked now, to the user that was given, which logs in first."""
         if self.access.user is not None and self.token is None:
             words = {"name": self.access.user, "password": self.access.password or ""}
-            self.token = str(self.ask_node("/v3/auth/authenticate", json.dumps(words))["token"])
-        return self.ask_node(path, text)
+            token = self.ask_node("/v3/auth/authenticate", json.dumps(words), by).get("token")
+            if not token:
+                raise OSError("an answer without a token")
+            self.token = str(token)
+        return self.ask_node(path, text, by)
 
-    def ask_node(self, path: str, text: str) -> Body:
+    def ask_node(self, path: str, text: str, by: float) -> Body:
         """The answer of the node that is asked now. OSError where another one, or the same one later, may have one."""
-        if self.connection is None:
-            self.connection = self.connected(self.answer_seconds)
-            self.connection.connect()
-            self.connection.sock.setsockopt(socket.IPPROTO_TCP, socket.TCP_NODELAY, 1)
-        self.connection.request("POST", path, text, self.headers())
-        answer = self.connection.getresponse()
-        data = answer.read()
-        try:
-            told: Body = json.loads(data)
-        except ValueError:
-            raise OSError(f"an answer that is no JSON (status {answer.status})") from None
-        if answer.status != 200:
-            self.refused(told)
+        told = self.understood(self.nodes.ask(path, text, self.headers(), by))
         self.cluster = str(told.get("header", {}).get("cluster_id", self.cluster))
         return told
 
+    def understood(self, answer: Answer) -> Body:
+        """What an answer says. OSError where it is none, LogError where it's a refusal."""
+        status, data = answer
+        try:
+            told = json.loads(data)
+        except ValueError:
+            told = None
+        if not isinstance(told, dict):
+            raise OSError(f"an answer that is no JSON (status {status})")
+        if status != 200:
+            self.refused(told)
+        return told
+
     def refused(self, told: Body) -> None:
-        """OSError where another node, or the same one later, may have an answer; LogError otherwise."""
-        message = str(told.get("message", told.get("error", told)))
-        is_logged_out = self.token is not None and (told.get("code") == LOGGED_OUT or OLD_USERS in message)
-        if is_logged_out:
+        """LogError where etcd refuses; OSError where it isn't known what becomes of what was asked."""
+        code, message = told.get("code"), str(told.get("message", told.get("error", told)))
+        if self.token is not None and (code == LOGGED_OUT or OLD_USERS in message):
             self.token = None
-        if is_logged_out or told.get("code") in PASSING_CODES or BUSY in message:
             raise OSError(message)
+        if code not in REFUSALS or BUSY in message:
+            raise OSError(message)
+        if code == DENIED or any(words in message for words in DENIED_WORDS):
+            raise Denied(message)
         raise Full(message) if NO_ROOM in message else LogError(message)
 
     def range(self, first: bytes, end: bytes, limit: int, last_first: bool = False, keys_only: bool = False) -> Found:
@@ -175,7 +203,7 @@ class Etcd:
         """Waits until something of a range has changed after a revision, at most for so long. It may also come back sooner."""
         watched = {"key": coded(first), "range_end": coded(end), "start_revision": str(revision + 1)}
         ends = time.monotonic() + seconds
-        connection = self.connected(seconds)
+        connection = self.nodes.made(self.addresses[0], seconds)
         told: Body = {}
         try:
             connection.request("POST", "/v3/watch", json.dumps({"create_request": watched}), self.headers())

@@ -2,7 +2,7 @@
 
 from typing import Dict, Iterator, List, NamedTuple, Optional, Tuple
 
-from .errors import LogError, OtherHistory, Refused
+from .errors import LogError, OtherHistory, OtherRecord, Refused
 from .etcd import Etcd
 from .keys import Keys, number_in, numbered, size_in
 from .requests import Body, Entry, absent, after, equal, get, get_range, put, there, value_of
@@ -85,7 +85,7 @@ class Log:
 
     def append(self, offers: List[Offer], submitter: str, settings: Settings) -> Iterator[int]:
         """Puts records at the end, in this order, and gives their numbers, each when it is durable. A record whose id stands
-        in the log already keeps the number that it has there. LogError where another record has the id, Refused at a quota."""
+        in the log already keeps the number that it has there. OtherRecord where another record has the id, Refused at a quota."""
         last = self.last()
         for part in parts_of(offers):
             numbers = Appending(self, part, submitter, settings.quota_of(submitter)).put_after(last)
@@ -241,8 +241,8 @@ class Appending:
             self.put_pieces()
 
     def number_of(self, name: str, text: bytes, value: bytes) -> int:
-        """The number that an id has. LogError where that is another record's."""
+        """The number that an id has. OtherRecord where that is another record's."""
         number = number_in(text)
         if number is None or self.etcd.get(self.keys.record(number)) != value:
-            raise LogError(f"the id {name} is that of record {number}, which is another one or isn't kept any more")
+            raise OtherRecord(f"the id {name} is that of record {number}, which is another one or isn't kept any more")
         return number

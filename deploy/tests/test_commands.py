@@ -23,7 +23,7 @@ class Commands(unittest.TestCase):
             with self.subTest(command):
                 told = done([command, "--help"])
                 self.assertEqual(told.returncode, 2)
-                self.assertIn(b"Usage: deploy/" + command.encode(), told.stderr)
+                self.assertIn(b"Usage: deploy/" + command.encode(), told.stdout)
 
     def test_words_that_are_not_understood(self) -> None:
         for words in (["log", "unmake"], ["ask", "x", "why"], ["node", "4"], ["replica"], ["submit", "--seconds", "0", "-"],

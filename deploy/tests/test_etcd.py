@@ -1,10 +1,12 @@
 import json
+import socket
 import threading
+import time
 import unittest
-from http.server import BaseHTTPRequestHandler, HTTPServer
+from http.server import BaseHTTPRequestHandler, ThreadingHTTPServer
 from typing import Any, Dict, List, Tuple
 
-from ledgerlog.errors import Full, LogError, Unreachable
+from ledgerlog.errors import Denied, Full, LogError, Unreachable
 from ledgerlog.etcd import Access, Etcd
 
 Answer = Tuple[int, Dict[str, Any]]
@@ -14,28 +16,38 @@ GOOD: Answer = (200, {"header": {"revision": "7", "cluster_id": "42"}, "kvs": []
 class Node:
     """A node that answers what it is told to, one answer after the other, and the last one for ever."""
 
-    def __init__(self, *answers: Answer) -> None:
+    def __init__(self, *answers: Answer, seconds: float = 0.0) -> None:
+        """`seconds` is what each answer takes."""
         self.left = list(answers)
+        self.connections = 0
         self.asked: List[Tuple[str, Dict[str, Any], str]] = []
         node = self
 
         class Handler(BaseHTTPRequestHandler):
             protocol_version = "HTTP/1.1"
 
+            def setup(self) -> None:
+                node.connections += 1
+                super().setup()
+
             def do_POST(self) -> None:
                 body = json.loads(self.rfile.read(int(self.headers["Content-Length"])))
                 node.asked.append((self.path, body, self.headers.get("Authorization", "")))
                 status, told = node.left[0] if len(node.left) == 1 else node.left.pop(0)
                 data = json.dumps(told).encode()
-                self.send_response(status)
-                self.send_header("Content-Length", str(len(data)))
-                self.end_headers()
-                self.wfile.write(data)
+                time.sleep(seconds)
+                try:
+                    self.send_response(status)
+                    self.send_header("Content-Length", str(len(data)))
+                    self.end_headers()
+                    self.wfile.write(data)
+                except OSError:
+                    self.close_connection = True
 
             def log_message(self, *_: object) -> None:
                 pass
 
-        self.server = HTTPServer(("127.0.0.1", 0), Handler)
+        self.server = ThreadingHTTPServer(("127.0.0.1", 0), Handler)
         self.address = f"127.0.0.1:{self.server.server_port}"
         threading.Thread(target=self.server.serve_forever, daemon=True).start()
 
@@ -45,8 +57,8 @@ class Node:
 
 
 class Asking(unittest.TestCase):
-    def node(self, *answers: Answer) -> Node:
-        made = Node(*answers)
+    def node(self, *answers: Answer, seconds: float = 0.0) -> Node:
+        made = Node(*answers, seconds=seconds)
         self.addCleanup(made.close)
         return made
 
@@ -81,3 +93,91 @@ class Asking(unittest.TestCase):
                          [("/v3/auth/authenticate", ""), ("/v3/kv/range", "one"), ("/v3/auth/authenticate", ""),
                           ("/v3/kv/range", "two")])
         self.assertEqual(node.asked[0][1], {"name": "me", "password": "mine"})
+
+    def test_what_is_no_refusal_is_asked_again(self) -> None:
+        for code in (1, 2, 4, 10, 13, 14, 15, None):
+            with self.subTest(code):
+                node = self.node((500, {"code": code, "error": "context deadline exceeded"}), GOOD)
+                self.assertIsNone(self.client(node).get(b"x"))
+                self.assertEqual(len(node.asked), 2)
+
+    def test_a_refusal_is_told_at_once(self) -> None:
+        for code in (3, 5, 6, 8, 9, 11, 12):
+            with self.subTest(code), self.assertRaisesRegex(LogError, "no"):
+                self.client(self.node((400, {"code": code, "message": "no"}))).get(b"x")
+
+    def test_who_may_not_is_told_apart(self) -> None:
+        for code, message in (7, "etcdserver: permission denied"), (3, "etcdserver: user name is empty"), (
+                3, "etcdserver: authentication failed, invalid user ID or password"):
+            with self.subTest(message), self.assertRaises(Denied):
+                self.client(self.node((403, {"code": code, "message": message}))).get(b"x")
+
+    def test_what_is_no_answer_is_asked_again(self) -> None:
+        for told in ([], "x", None):
+            node = self.node((200, told), GOOD)  # type: ignore[arg-type]
+            self.assertIsNone(self.client(node).get(b"x"))
+
+
+class Hanging(Asking):
+    """Nodes that take what they are asked and don't answer in time."""
+
+    def silent(self) -> str:
+        """The address of one that takes connections and answers nothing."""
+        made = socket.create_server(("127.0.0.1", 0))
+        self.addCleanup(made.close)
+        return f"127.0.0.1:{made.getsockname()[1]}"
+
+    def dropping(self) -> str:
+        """The address of one that takes no connection and refuses none: its queue is full."""
+        made = socket.socket()
+        made.bind(("127.0.0.1", 0))
+        made.listen(0)
+        self.addCleanup(made.close)
+        for _ in range(2):
+            waiting = socket.socket()
+            waiting.setblocking(False)
+            waiting.connect_ex(made.getsockname())
+            self.addCleanup(waiting.close)
+        return f"127.0.0.1:{made.getsockname()[1]}"
+
+    def took(self, client: Etcd, most: float) -> None:
+        began = time.monotonic()
+        self.assertIsNone(client.get(b"x"))
+        self.assertLess(time.monotonic() - began, most)
+
+    def test_a_node_that_hangs_costs_a_first_question_nothing(self) -> None:
+        for address in self.silent(), self.dropping():
+            client = Etcd([address, self.node(GOOD).address], 20.0)
+            self.addCleanup(client.close)
+            self.took(client, 1.0)
+
+    def test_a_node_that_begins_to_hang_is_asked_once_and_then_the_next_one(self) -> None:
+        good = self.node(GOOD)
+        client = Etcd([good.address], 20.0)
+        self.addCleanup(client.close)
+        self.took(client, 5.0)
+        client.nodes.addresses = [self.silent(), good.address]
+        self.took(client, 4.0)
+        self.took(client, 1.0)
+
+    def test_patience_is_kept_to(self) -> None:
+        for address in self.silent(), self.dropping():
+            for patience, given in (1.0, 60.0), (60.0, 1.0):
+                client = Etcd([address] * 3, patience)
+                client.give(given)
+                began = time.monotonic()
+                with self.assertRaises(Unreachable):
+                    client.get(b"x")
+                self.assertLess(time.monotonic() - began, 2.0)
+
+    def test_an_answer_after_its_time_is_asked_for_again(self) -> None:
+        node = self.node(GOOD, seconds=2.5)
+        self.took(self.client(node, patience=20.0), 15.0)
+        self.assertGreater(len(node.asked), 1)
+
+    def test_connections_are_kept(self) -> None:
+        nodes = [self.node(GOOD) for _ in range(3)]
+        client = self.client(*nodes)
+        for _ in range(5):
+            client.get(b"x")
+        self.assertEqual(sum(node.connections for node in nodes), 3)
