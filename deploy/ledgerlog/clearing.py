@@ -46,7 +46,7 @@ class Clearing:
         if agreed is None:
             raise LogError("no majority of the replicas has put the digest of one save: nothing can be cleared")
         before = self.etcd.entry(self.keys.cleared)
-        upto = max(int(before.value) if before else 0, min(agreed.number, last - self.keep))
+        upto = max(self.log.cleared_of(before.value if before else None), min(agreed.number, last - self.keep))
         self.etcd.put(self.keys.cleared, str(upto).encode())
         behind = [name for name in self.votes.replicas if not self.has_answered(name, upto)]
         removed = 0

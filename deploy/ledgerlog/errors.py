@@ -13,6 +13,10 @@ class Denied(LogError):
     """The log doesn't let this user do what was asked, or doesn't take it for who it says it is."""
 
 
+class OtherProtocol(LogError):
+    """The log goes by newer rules than this code knows: nothing may be written."""
+
+
 class OtherRecord(LogError):
     """The id of what is to be put stands in the log already, for another record."""
 

@@ -90,6 +90,7 @@ class Replica:
         self.status.program = identity(self.plan.program).decode()
         if self.votes.own is None:
             self.tell(f"isn't in the log's set ({', '.join(self.settings.replicas)}): follows, and puts nothing")
+        self.tell_unknown(self.settings)
         last = self.patiently(self.log.last)
         for save in self.saves.all():
             if not self.settings.knows(save.log_id):
@@ -197,8 +198,14 @@ class Replica:
             self.votes.replicas = read.settings.replicas
             self.votes.own = self.plan.name if self.plan.name in read.settings.replicas else None
             self.status.is_counted = self.votes.own is not None
+        if read.settings.more.keys() - self.settings.more.keys():
+            self.tell_unknown(read.settings)
         self.settings = read.settings
         self.status.last = read.last
+
+    def tell_unknown(self, settings: Settings) -> None:
+        if settings.more:
+            self.tell(f"the log's settings have what this program doesn't know, and keeps: {', '.join(sorted(settings.more))}")
 
     def answer(self, running: Program, given: List[Taken]) -> None:
         """Answers what the log has, and puts the lines."""

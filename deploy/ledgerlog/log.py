@@ -56,13 +56,21 @@ class Log:
         self.keys = Keys(ledger)
 
     def settings(self) -> Settings:
-        """What the log says of itself. LogError where it says nothing."""
+        """What the log says of itself. LogError where it says nothing, OtherProtocol where it goes by rules that aren't known here."""
         return self.understood(self.etcd.get(self.keys.log))
 
-    def understood(self, text: Optional[bytes]) -> Settings:
+    def settings_at(self, is_read_only: bool = False) -> Tuple[Settings, int]:
+        """As `settings`, and the change that put it. Who only reads needn't know the rules."""
+        entry = self.etcd.entry(self.keys.log)
+        return self.understood(entry.value if entry else None, is_read_only), entry.changed if entry else 0
+
+    def understood(self, text: Optional[bytes], is_read_only: bool = False) -> Settings:
         if text is None:
             raise LogError(f"there is no log of the ledger {self.keys.ledger}: deploy/log make makes one")
-        return settings_of(text)
+        settings = settings_of(text)
+        if not is_read_only:
+            settings.check_protocol()
+        return settings
 
     def last(self) -> int:
         """The number of the last record; 0 where there is none."""
@@ -76,7 +84,11 @@ class Log:
 
     def cleared(self) -> int:
         """Up to which record the log was cleared."""
-        text = self.etcd.get(self.keys.cleared)
+        return self.cleared_of(self.etcd.get(self.keys.cleared))
+
+    def cleared_of(self, text: Optional[bytes]) -> int:
+        if text and not text.isdigit():
+            raise LogError(f"under {self.keys.cleared.decode()} stands no number: {text!r}; put the one there up to which it was cleared")
         return int(text) if text else 0
 
     def room(self, settings: Settings) -> Room:
@@ -103,7 +115,7 @@ class Log:
         last, told, cleared = (value_of(part) for part in found[:3])
         if told is None:
             raise OtherHistory(f"the log says nothing of the ledger {keys.ledger} any more: it was made anew, or lost")
-        self.check_behind(first, int(cleared or b"0"))
+        self.check_behind(first, self.cleared_of(cleared))
         entries = {entry.key: entry for entry in found[3]}
         end = min(self.last_of(last), first + MOST_READ - 1)
         made: List[Taken] = []

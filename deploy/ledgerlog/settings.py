@@ -2,12 +2,14 @@
 
 import json
 import secrets
-from typing import Any, Dict, NamedTuple, Tuple
+from typing import Any, Callable, Dict, NamedTuple, Tuple
 
-from .errors import LogError
+from .errors import LogError, OtherProtocol
 
-# The form of all that stands in the log.
+# The form of all that stands in the log, and the newest rules that this code knows: who writes has to know the log's. A log that names
+# none goes by the first ones.
 FORM = 2
+FIRST_PROTOCOL = PROTOCOL = 2
 
 
 class Past(NamedTuple):
@@ -18,7 +20,7 @@ class Past(NamedTuple):
 
 
 class Settings(NamedTuple):
-    """What stands under NAME/log. `room` and `quota` are bytes; 0 is no limit."""
+    """What stands under NAME/log. `room` and `quota` are bytes; 0 is no limit. `more` is what this code doesn't know: it is kept."""
 
     id: str
     replicas: Tuple[str, ...]
@@ -27,6 +29,8 @@ class Settings(NamedTuple):
     quota: int = 0
     quotas: Dict[str, int] = {}
     past: Tuple[Past, ...] = ()
+    protocol: int = FIRST_PROTOCOL
+    more: Dict[str, Any] = {}
 
     def quota_of(self, submitter: str) -> int:
         return self.quotas.get(submitter, self.quota)
@@ -38,13 +42,45 @@ class Settings(NamedTuple):
     def knows(self, log_id: str) -> bool:
         return log_id == self.id or any(one.id == log_id for one in self.past)
 
+    def check_protocol(self) -> None:
+        """OtherProtocol where the log goes by rules that this code doesn't know."""
+        if self.protocol > PROTOCOL:
+            raise OtherProtocol(f"the log goes by protocol {self.protocol}, and this program knows those up to {PROTOCOL}: take a newer one")
+
     def text(self) -> bytes:
-        told = {**self._asdict(), "form": FORM, "past": [[one.id, one.last] for one in self.past]}
+        """What stands in the log: what says no more than an older log does is left out, so that older programs go on."""
+        told = {**self.more, **self._asdict(), "form": FORM, "past": [[one.id, one.last] for one in self.past]}
+        del told["more"]
+        for name in LATER:
+            if told[name] == Settings._field_defaults[name]:
+                del told[name]
         return json.dumps(told, sort_keys=True).encode()
+
+
+# The fields that came later.
+LATER = ("protocol",)
 
 
 def new_id() -> str:
     return secrets.token_hex(16)
+
+
+def number(value: Any, least: int = 0) -> int:
+    """A number of at least so many. ValueError where it is none."""
+    if type(value) is not int or value < least:
+        raise ValueError(f"{value!r} is no number from {least} on")
+    return value
+
+
+READ: Dict[str, Callable[[Any], Any]] = {
+    "id": str,
+    "replicas": lambda value: tuple(map(str, value)),
+    "every": lambda value: number(value, 1),
+    "room": number,
+    "quota": number,
+    "quotas": lambda value: {str(who): number(amount) for who, amount in value.items()},
+    "past": lambda value: tuple(Past(str(name), number(last)) for name, last in value),
+    "protocol": lambda value: number(value, 1)}
 
 
 def settings_of(text: bytes) -> Settings:
@@ -53,8 +89,7 @@ def settings_of(text: bytes) -> Settings:
         told: Dict[str, Any] = json.loads(text)
         if told.pop("form") != FORM:
             raise ValueError("it is of another form")
-        told["replicas"] = tuple(map(str, told["replicas"]))
-        told["past"] = tuple(Past(str(name), int(last)) for name, last in told["past"])
-        return Settings(**told)
+        known = {name: read(told.pop(name)) for name, read in READ.items() if name in told}
+        return Settings(**known, more=told)
     except (ValueError, TypeError, KeyError, AttributeError) as why:
         raise LogError(f"what the log says of itself isn't understood: {why}") from None
