@@ -1,12 +1,14 @@
 """What removes from a log what is no longer needed, and gives its room back."""
 
+import time
 from typing import Dict, List, NamedTuple, Optional, Set
 
 from .errors import LogError, Unreachable
 from .etcd import Etcd
 from .keys import LINES, PROGRAM, SAVED, number_in, size_in
 from .log import Log
-from .requests import Body, Entry, absent, after, delete, delete_range, equal, get, put, value_of
+from .requests import Body, Entry, absent, after, delete, delete_range, equal, get, put, unchanged, value_of
+from .times import AHEAD_SECONDS, HOUR, marked, marks_in, newest_before, text_of
 from .votes import Votes
 from .written import Head, head_of
 
@@ -14,25 +16,29 @@ from .written import Head, head_of
 MOST_REMOVED = 30
 # So many of a replica's lines are removed at once.
 MOST_DELETED = 10_000
+# A node is defragmented where its file has so many times what it uses.
+LOOSE = 2
 # So long may a node take to compact or to defragment what it has.
 LONG_SECONDS = 1_800.0
 
 
 class Cleared(NamedTuple):
-    """Up to which record a log was cleared, how many of what were removed now, and which replicas haven't answered so far: they
-    need a save of another one."""
+    """Up to which record a log was cleared, how many of what were removed now, which replicas haven't answered so far: they need a save
+    of another one; and whether more is kept only since it isn't old enough."""
 
     upto: int
     records: int
     orphans: int
     behind: List[str]
+    is_young: bool
 
 
 class Clearing:
     """One clearing of a log, behind the newest save that a majority has put."""
 
-    def __init__(self, log: Log, keep: int) -> None:
+    def __init__(self, log: Log, keep: int, now: Optional[float] = None) -> None:
         self.log = log
+        self.now = int(time.time() if now is None else now)
         self.etcd = log.etcd
         self.keys = log.keys
         self.settings = log.settings()
@@ -46,7 +52,8 @@ class Clearing:
         if agreed is None:
             raise LogError("no majority of the replicas has put the digest of one save: nothing can be cleared")
         before = self.etcd.entry(self.keys.cleared)
-        upto = max(self.log.cleared_of(before.value if before else None), min(agreed.number, last - self.keep))
+        done, old, unneeded = self.log.cleared_of(before.value if before else None), self.old_enough(last), min(agreed.number, last - self.keep)
+        upto = max(done, min(unneeded, old))
         self.etcd.put(self.keys.cleared, str(upto).encode())
         behind = [name for name in self.votes.replicas if not self.has_answered(name, upto)]
         removed = 0
@@ -56,7 +63,23 @@ class Clearing:
             removed += len(entries)
             entries = self.oldest(upto)
         self.remove_votes(upto, agreed.number)
-        return Cleared(upto, removed, self.remove_orphans(before.changed if before else 0), behind)
+        return Cleared(upto, removed, self.remove_orphans(before.changed if before else 0), behind, upto < unneeded)
+
+    def old_enough(self, last: int) -> int:
+        """Up to which record all are older than the hours for which they are kept. Notes when the last record was there. LogError where
+        the clock was ahead when that was noted before, or is behind now."""
+        if self.settings.hours == 0:
+            return last
+        entry = self.etcd.entry(self.keys.times)
+        marks = marks_in(entry.value if entry else None)
+        if marks and marks[-1].seconds > self.now + AHEAD_SECONDS:
+            raise LogError(f"the log was cleared by a clock that was {marks[-1].seconds - self.now} seconds ahead of this one: set the clocks "
+                           f"right, and remove {self.keys.times.decode()} if it was that one")
+        new = marked(marks, self.now, last, self.settings.hours)
+        if new != marks:
+            self.etcd.transact([unchanged(self.keys.times, entry.changed if entry else 0)], [put(self.keys.times, text_of(new))], [])
+        mark = newest_before(marks, self.now - self.settings.hours * HOUR)
+        return mark.number if mark else 0
 
     def has_answered(self, name: str, number: int) -> bool:
         newest = [*self.votes.newest(name, LINES), *self.votes.newest(name, SAVED)]
@@ -142,13 +165,32 @@ def compact(etcd: Etcd, revision: int) -> None:
             raise
 
 
-def defragment(node: Etcd) -> str:
-    """Has one node give back the room of what it forgot. What became of it; a node that is down is left out."""
+class Size(NamedTuple):
+    """How many bytes a node's file has, and how many of them are in use."""
+
+    file: int
+    used: int
+
+    def is_loose(self) -> bool:
+        """Whether giving back what isn't used is worth that the node stands still meanwhile."""
+        return self.file >= LOOSE * max(self.used, 1)
+
+
+def size_of(node: Etcd) -> Size:
+    told = node.ask("/v3/maintenance/status", {})
+    return Size(int(told.get("dbSize", 0)), int(told.get("dbSizeInUse", 0)))
+
+
+def defragment(node: Etcd, is_full: bool) -> str:
+    """Has one node give back the room of what it forgot, where that is much or the log is full. What became of it; a node that is down is
+    left out."""
     address = node.addresses[0]
     try:
-        before = int(node.ask("/v3/maintenance/status", {}).get("dbSize", 0))
+        before = size_of(node)
+        if not (is_full or before.is_loose()):
+            return f"{address} keeps its {before.file} bytes, of which {before.used} are in use"
         node.ask("/v3/maintenance/defragment", {})
-        return f"{address} has {node.ask('/v3/maintenance/status', {}).get('dbSize', 0)} bytes, and had {before}"
+        return f"{address} has {size_of(node).file} bytes, and had {before.file}"
     except Unreachable:
         return f"{address} doesn't answer"
     finally:
@@ -156,11 +198,12 @@ def defragment(node: Etcd) -> str:
 
 
 def make_room(log: Log) -> str:
-    """Compacts the log, defragments one node after the other, and disarms the alarm that it is full. What it did."""
+    """Compacts the log, defragments the nodes that hold much more than they use, one after the other, and disarms the alarm that the log
+    is full. What it did."""
     etcd = log.etcd
     compact(patient(etcd, list(etcd.addresses)), etcd.range(log.keys.log, log.keys.log + b"\0", 1).revision)
-    told = [defragment(patient(etcd, [address])) for address in sorted(etcd.addresses)]
     alarms = etcd.ask("/v3/maintenance/alarm", {"action": "GET"}).get("alarms", [])
+    told = [defragment(patient(etcd, [address]), bool(alarms)) for address in sorted(etcd.addresses)]
     for one in alarms:
         etcd.ask("/v3/maintenance/alarm", {"action": "DEACTIVATE", "memberID": one.get("memberID", "0"), "alarm": one["alarm"]})
     return "; ".join(told) + (f"; {len(alarms)} alarms are disarmed" if alarms else "")

@@ -29,6 +29,10 @@ class Refused(LogError):
     """The log isn't given what was offered: a submitter's quota or the log's room would be exceeded."""
 
 
+class TooOld(Refused):
+    """An id is so old that its record may have been put and cleared."""
+
+
 class NotWhole(Exception):
     """Why bytes aren't one whole record, or aren't put into the log."""
 

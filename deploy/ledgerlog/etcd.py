@@ -14,6 +14,8 @@ from .requests import Body, Entry, after, coded, entries_of, ranged, value_of
 
 # How long is waited after every node was asked and none had an answer.
 PAUSE_SECONDS = 0.1
+# How long after etcd has a new password the file has it too.
+GRACE_SECONDS = 0.5
 # The numbers of gRPC by which etcd refuses: it hasn't done what was asked, and won't. Whatever else comes in an answer's place leaves
 # it unknown whether it is done: it's asked again.
 REFUSALS = (3, 5, 6, 7, 8, 9, 11, 12)
@@ -29,13 +31,21 @@ FIRST_QUESTION = json.dumps({"key": coded(b"moveledger")})
 
 class Access(NamedTuple):
     """How a log is reached: the authority that its nodes are vouched for by, this side's own certificate and key, a user and
-    its password; None for what isn't asked for."""
+    its password, or the file that has it; None for what isn't asked for."""
 
     authority: Optional[str] = None
     certificate: Optional[str] = None
     key: Optional[str] = None
     user: Optional[str] = None
     password: Optional[str] = None
+    password_file: Optional[str] = None
+
+    def secret(self) -> str:
+        """The password: the file's, where there is one, which may have another one by now. OSError where it can't be read."""
+        if self.password_file is None:
+            return self.password or ""
+        with open(self.password_file, encoding="utf-8") as file:
+            return file.read().rstrip("\n")
 
     def context(self) -> Optional[ssl.SSLContext]:
         """What TLS is spoken by; None for plain HTTP. OSError where a file isn't what it should be."""
@@ -125,12 +135,24 @@ class Etcd:
     def ask_as_user(self, path: str, text: str, by: float) -> Body:
         """The answer of the node that is asked now, to the user that was given, which logs in first."""
         if self.access.user is not None and self.token is None:
-            words = {"name": self.access.user, "password": self.access.password or ""}
-            token = self.ask_node("/v3/auth/authenticate", json.dumps(words), by).get("token")
-            if not token:
-                raise OSError("an answer without a token")
-            self.token = str(token)
+            self.log_in(self.access.user, by)
         return self.ask_node(path, text, by)
+
+    def log_in(self, user: str, by: float) -> None:
+        """Gets a token. Denied where the password is wrong; one that was just changed stands in its file a moment later."""
+        secret = self.access.secret()
+        try:
+            token = self.ask_node("/v3/auth/authenticate", json.dumps({"name": user, "password": secret}), by).get("token")
+        except Denied as why:
+            if self.access.password_file is None:
+                raise
+            time.sleep(GRACE_SECONDS)
+            if self.access.secret() == secret:
+                raise
+            raise OSError(str(why)) from None
+        if not token:
+            raise OSError("an answer without a token")
+        self.token = str(token)
 
     def ask_node(self, path: str, text: str, by: float) -> Body:
         """The answer of the node that is asked now. OSError where another one, or the same one later, may have one."""

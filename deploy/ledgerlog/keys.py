@@ -16,6 +16,7 @@ class Keys:
         self.all = f"{ledger}/".encode()
         self.log = self.all + b"log"
         self.cleared = self.all + b"cleared"
+        self.times = self.all + b"times"
         self.last = self.all + b"last"
         self.records = self.all + b"record/"
         self.ids = self.all + b"id/"

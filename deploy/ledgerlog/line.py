@@ -97,11 +97,9 @@ def file_in(given: Given, name: str) -> str:
 
 def access_of(given: Given) -> Access:
     """How the log is reached, by the words. OSError where a file can't be read."""
-    password = None
-    if given[PASSWORD.value] is not None:
-        with open(file_in(given, PASSWORD.value), encoding="utf-8") as file:
-            password = file.read().rstrip("\n")
-    return Access(given[CA.value], given[CERTIFICATE.value], given[KEY.value], given[USER.value], password)
+    access = Access(given[CA.value], given[CERTIFICATE.value], given[KEY.value], given[USER.value], password_file=given[PASSWORD.value])
+    access.secret()
+    return access
 
 
 def log_of(line: CommandLine, given: Given, patience: float) -> Log:

@@ -2,11 +2,12 @@
 
 from typing import Dict, Iterator, List, NamedTuple, Optional, Tuple
 
-from .errors import LogError, OtherHistory, OtherRecord, Refused
+from .errors import LogError, OtherHistory, OtherRecord, Refused, TooOld
 from .etcd import Etcd
 from .keys import Keys, number_in, numbered, size_in
 from .requests import Body, Entry, absent, after, equal, get, get_range, put, there, value_of
 from .settings import Settings, settings_of
+from .times import untimely
 from .written import MISSING, PIECES, Taken, count_of_pieces, counted_size, put_pieces, taken, written
 
 # A record takes two keys, and a transaction 128; 60 records with what stands under their keys are also within MOST_BYTES.
@@ -97,10 +98,11 @@ class Log:
 
     def append(self, offers: List[Offer], submitter: str, settings: Settings) -> Iterator[int]:
         """Puts records at the end, in this order, and gives their numbers, each when it is durable. A record whose id stands
-        in the log already keeps the number that it has there. OtherRecord where another record has the id, Refused at a quota."""
+        in the log already keeps the number that it has there. OtherRecord where another record has the id, Refused at a quota,
+        TooOld where a record that was put by this id may be cleared."""
         last = self.last()
         for part in parts_of(offers):
-            numbers = Appending(self, part, submitter, settings.quota_of(submitter)).put_after(last)
+            numbers = Appending(self, part, submitter, settings).put_after(last)
             last = max(last, *numbers)
             yield from numbers
 
@@ -168,12 +170,13 @@ def parts_of(offers: List[Offer]) -> Iterator[List[Offer]]:
 class Appending:
     """A few records on their way into the log, put in one transaction."""
 
-    def __init__(self, log: Log, offers: List[Offer], submitter: str, quota: int) -> None:
+    def __init__(self, log: Log, offers: List[Offer], submitter: str, settings: Settings) -> None:
         self.log = log
         self.etcd = log.etcd
         self.keys = log.keys
         self.submitter = submitter
-        self.quota = quota
+        self.quota = settings.quota_of(submitter)
+        self.hours = settings.hours
         self.numbers: Dict[str, int] = {}
         self.left = [(offer, written(offer.id, submitter, offer.record)) for offer in offers]
         self.ids = [offer.id for offer in offers]
@@ -184,6 +187,7 @@ class Appending:
         """Puts them after the record that is taken for the last, or after the one that is."""
         self.last = last
         self.used = self.etcd.get(self.keys.used(self.submitter))
+        self.check_times()
         self.put_pieces()
         while self.left:
             self.put_left()
@@ -195,6 +199,13 @@ class Appending:
             if count_of_pieces(offer.record) and self.etcd.get(self.keys.id(offer.id)) is None:
                 self.check_quota()
                 put_pieces(self.etcd, self.keys, offer.id, offer.record)
+
+    def check_times(self) -> None:
+        """TooOld where an id is so old that its record may have been put and cleared."""
+        for offer, _ in self.left:
+            why = untimely(offer.id, self.hours)
+            if why is not None and self.etcd.get(self.keys.id(offer.id)) is None:
+                raise TooOld(why)
 
     def used_then(self) -> int:
         """How many bytes the submitter has in the log with these."""

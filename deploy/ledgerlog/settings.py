@@ -20,7 +20,7 @@ class Past(NamedTuple):
 
 
 class Settings(NamedTuple):
-    """What stands under NAME/log. `room` and `quota` are bytes; 0 is no limit. `more` is what this code doesn't know: it is kept."""
+    """What stands under NAME/log. `room` and `quota` are bytes; 0 is no limit. Records and ids are kept for so many `hours`. `more` is what this code doesn't know: it is kept."""
 
     id: str
     replicas: Tuple[str, ...]
@@ -30,6 +30,7 @@ class Settings(NamedTuple):
     quotas: Dict[str, int] = {}
     past: Tuple[Past, ...] = ()
     protocol: int = FIRST_PROTOCOL
+    hours: int = 24
     more: Dict[str, Any] = {}
 
     def quota_of(self, submitter: str) -> int:
@@ -58,7 +59,7 @@ class Settings(NamedTuple):
 
 
 # The fields that came later.
-LATER = ("protocol",)
+LATER = ("protocol", "hours")
 
 
 def new_id() -> str:
@@ -80,7 +81,8 @@ READ: Dict[str, Callable[[Any], Any]] = {
     "quota": number,
     "quotas": lambda value: {str(who): number(amount) for who, amount in value.items()},
     "past": lambda value: tuple(Past(str(name), number(last)) for name, last in value),
-    "protocol": lambda value: number(value, 1)}
+    "protocol": lambda value: number(value, 1),
+    "hours": number}
 
 
 def settings_of(text: bytes) -> Settings:

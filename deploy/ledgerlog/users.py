@@ -8,8 +8,10 @@ from .errors import LogError
 from .etcd import Etcd
 from .keys import Keys
 from .requests import after, coded
+from .saves import sync_folder
 
 ROOT = "root"
+NEW = ".new"
 READ, WRITE = "READ", "READWRITE"
 Grant = Tuple[str, bytes, bytes]
 
@@ -48,15 +50,35 @@ def make_role(etcd: Etcd, role: str, grants: List[Grant]) -> None:
         etcd.ask("/v3/auth/role/grant", {"name": role, "perm": allowed})
 
 
-def new_password(folder: str, user: str) -> str:
+def new_password(path: str) -> str:
     """Makes a password, and writes it into a file that its owner alone may read. FileExistsError where there is one."""
     password = secrets.token_urlsafe(24)
-    number = os.open(os.path.join(folder, f"{user}.password"), os.O_WRONLY | os.O_CREAT | os.O_EXCL, 0o600)
+    number = os.open(path, os.O_WRONLY | os.O_CREAT | os.O_EXCL, 0o600)
     with os.fdopen(number, "w", encoding="ascii") as file:
         file.write(password + "\n")
         file.flush()
         os.fsync(file.fileno())
     return password
+
+
+def change_passwords(etcd: Etcd, keys: Keys, replicas: List[str], folder: str) -> List[str]:
+    """Gives each user whose password is in the folder another one, root last. Those that were changed. The new one stands in a file of its
+    own until etcd has it, so it isn't lost if this is ended halfway, and is taken again the next time."""
+    changed: List[str] = []
+    for user in [*roles_of(keys, replicas), ROOT]:
+        path = os.path.join(folder, f"{user}.password")
+        if not os.path.exists(path):
+            continue
+        if os.path.exists(path + NEW):
+            with open(path + NEW, encoding="ascii") as file:
+                password = file.read().rstrip("\n")
+        else:
+            password = new_password(path + NEW)
+        etcd.ask("/v3/auth/user/changepw", {"name": user, "password": password})
+        os.rename(path + NEW, path)
+        sync_folder(folder)
+        changed.append(user)
+    return changed
 
 
 def make_users(etcd: Etcd, keys: Keys, replicas: List[str], folder: str) -> List[str]:
@@ -69,7 +91,7 @@ def make_users(etcd: Etcd, keys: Keys, replicas: List[str], folder: str) -> List
         make_role(etcd, role, grants)
         if os.path.exists(os.path.join(folder, f"{role}.password")):
             continue
-        password = new_password(folder, role)
+        password = new_password(os.path.join(folder, f"{role}.password"))
         etcd.ask("/v3/auth/user/add", {"name": role, "password": password})
         etcd.ask("/v3/auth/user/grant", {"user": role, "role": role})
         made.append(role)

@@ -119,7 +119,7 @@ class Store(Etcd):
 def made_log(store: Store, **given: Any) -> Log:
     """A log with a set of three."""
     log = Log(store, "L")
-    store.put(log.keys.log, Settings(LOG_ID, SET, 4)._replace(**given).text())
+    store.put(log.keys.log, Settings(LOG_ID, SET, 4, hours=0)._replace(**given).text())
     return log
 
 

@@ -7,14 +7,14 @@ import unittest
 from typing import List
 
 DEPLOY = os.path.dirname(os.path.dirname(os.path.realpath(__file__)))
-COMMANDS = ("ask", "log", "node", "replica", "snapshot", "submit")
+COMMANDS = ("ask", "backup", "log", "node", "replica", "snapshot", "submit")
 # Nothing listens there.
 NOWHERE = ["--log", "127.0.0.1:9"]
 
 
 def done(words: List[str], given: bytes = b"") -> "subprocess.CompletedProcess[bytes]":
     asked = [os.path.join(DEPLOY, words[0]), *words[1:]]
-    return subprocess.run(asked, input=given, stdout=subprocess.PIPE, stderr=subprocess.PIPE)
+    return subprocess.run(asked, input=given, stdout=subprocess.PIPE, stderr=subprocess.PIPE, timeout=120)
 
 
 class Commands(unittest.TestCase):
@@ -58,10 +58,10 @@ class Commands(unittest.TestCase):
                     # A node that never answers: it is interrupted when it asks.
                     connection, _ = node.accept()
                     process.send_signal(number)
-                    _, errors = process.communicate(timeout=20)
+                    _, errors = process.communicate(timeout=120)
                 connection.close()
                 self.assertEqual(process.returncode, 1)
-                self.assertRegex(errors, rb"interrupted; it isn't known what was put: try again with --id [0-9a-f]{32}\n")
+                self.assertRegex(errors, rb"interrupted; it isn't known what was put: try again with --id t[0-9a-f]{8}-[0-9a-f]{32}\n")
 
     def test_no_command_builds_a_program(self) -> None:
         told = done(["replica", *NOWHERE, "--moveledger", "/nowhere", "/tmp/nowhere"])

@@ -6,6 +6,7 @@ import unittest
 from http.server import BaseHTTPRequestHandler, ThreadingHTTPServer
 from typing import Any, Dict, List, Tuple
 
+from ledgerlog import etcd
 from ledgerlog.errors import Denied, Full, LogError, Unreachable
 from ledgerlog.etcd import Access, Etcd
 
@@ -56,7 +57,7 @@ class Node:
         self.server.server_close()
 
 
-class Asking(unittest.TestCase):
+class OverNodes(unittest.TestCase):
     def node(self, *answers: Answer, seconds: float = 0.0) -> Node:
         made = Node(*answers, seconds=seconds)
         self.addCleanup(made.close)
@@ -67,6 +68,8 @@ class Asking(unittest.TestCase):
         self.addCleanup(made.close)
         return made
 
+
+class Asking(OverNodes):
     def test_the_next_node_is_asked_where_one_is_busy_or_has_no_leader(self) -> None:
         first = self.node((503, {"code": 14, "message": "etcdserver: no leader"}))
         client = self.client(first, self.node(GOOD))
@@ -118,7 +121,7 @@ class Asking(unittest.TestCase):
             self.assertIsNone(self.client(node).get(b"x"))
 
 
-class Hanging(Asking):
+class Hanging(OverNodes):
     """Nodes that take what they are asked and don't answer in time."""
 
     def silent(self) -> str:
@@ -140,25 +143,31 @@ class Hanging(Asking):
             self.addCleanup(waiting.close)
         return f"127.0.0.1:{made.getsockname()[1]}"
 
+    def patient(self) -> None:
+        """Has a node that hangs cost more than a busy machine takes."""
+        self.addCleanup(setattr, etcd, "FIRST_SECONDS", etcd.FIRST_SECONDS)
+        setattr(etcd, "FIRST_SECONDS", 30.0)
+
     def took(self, client: Etcd, most: float) -> None:
         began = time.monotonic()
         self.assertIsNone(client.get(b"x"))
         self.assertLess(time.monotonic() - began, most)
 
     def test_a_node_that_hangs_costs_a_first_question_nothing(self) -> None:
+        self.patient()
         for address in self.silent(), self.dropping():
-            client = Etcd([address, self.node(GOOD).address], 20.0)
+            client = Etcd([address, self.node(GOOD).address], 60.0)
             self.addCleanup(client.close)
-            self.took(client, 1.0)
+            self.took(client, 10.0)
 
     def test_a_node_that_begins_to_hang_is_asked_once_and_then_the_next_one(self) -> None:
         good = self.node(GOOD)
-        client = Etcd([good.address], 20.0)
+        client = Etcd([good.address], 60.0)
         self.addCleanup(client.close)
-        self.took(client, 5.0)
+        self.took(client, 60.0)
         client.nodes.addresses = [self.silent(), good.address]
-        self.took(client, 4.0)
-        self.took(client, 1.0)
+        self.took(client, 60.0)
+        self.assertEqual(client.addresses[0], good.address)
 
     def test_patience_is_kept_to(self) -> None:
         for address in self.silent(), self.dropping():
@@ -168,11 +177,11 @@ class Hanging(Asking):
                 began = time.monotonic()
                 with self.assertRaises(Unreachable):
                     client.get(b"x")
-                self.assertLess(time.monotonic() - began, 2.0)
+                self.assertLess(time.monotonic() - began, 10.0)
 
     def test_an_answer_after_its_time_is_asked_for_again(self) -> None:
         node = self.node(GOOD, seconds=2.5)
-        self.took(self.client(node, patience=20.0), 15.0)
+        self.took(self.client(node, patience=60.0), 60.0)
         self.assertGreater(len(node.asked), 1)
 
     def test_connections_are_kept(self) -> None:

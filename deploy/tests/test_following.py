@@ -18,7 +18,8 @@ from ledgerlog.votes import Vote
 
 from .store import LOG_ID, SET, STAND_IN, Store, fill, made_log, put_vote, run, votes_of
 
-PATIENCE = 20.0
+# More than a busy machine takes.
+PATIENCE = 120.0
 
 
 def until(condition: Callable[[], Any]) -> None:

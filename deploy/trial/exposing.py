@@ -88,7 +88,7 @@ def check_rights(stage: Stage, folder: Path) -> int:
 
 def refused_without(stage: Stage, folder: Path) -> None:
     """Failed where a client gets in without TLS, with another authority, or without or with a wrong password."""
-    address = ["--log", ",".join(stage.place.addresses), "--ledger", LEDGER, "--seconds", "1"]
+    address = ["--log", ",".join(stage.place.addresses), "--ledger", LEDGER, "--seconds", "5"]
     (folder / "wrong").write_text("wrong\n")
     right, other = client_words(folder), ["--ca", folder / "other.pem", *client_words(folder)[2:]]
     forged = [*right[:2], "--certificate", folder / "other.pem", "--key", folder / "other.key"]
@@ -116,6 +116,24 @@ def added_users(stage: Stage, folder: Path) -> None:
     done("log", *stage.words("keeper"), "set", "--replicas", ",".join(NAMES))
 
 
+def rotated(stage: Stage, folder: Path) -> str:
+    """Gives everyone another password while replicas run: they go on, and the old ones let nobody in."""
+    before = {path: path.read_text() for path in (folder / "passwords").glob("*.password")}
+    changed = done("log", *stage.words("root"), "passwords", folder / "passwords").split()
+    if len(changed) != len(before) or any(path.read_text() == text for path, text in before.items()):
+        raise Failed(f"of {len(before)} passwords those of {changed} were changed")
+    stage.log.etcd.access = client(folder, "root")
+    stage.all_answered(stage.feed(20))
+    stage.submit(stage.given.fresh_mint())
+    stage.check_running()
+    (folder / "old").write_text(before[folder / "passwords" / f"{LEDGER}-reader.password"])
+    old = [*client_words(folder), "--user", f"{LEDGER}-reader", "--password", folder / "old"]
+    done("log", "--log", ",".join(stage.place.addresses), "--ledger", LEDGER, *old, "show", status=1, says="invalid user ID or password")
+    done("backup", *stage.words("root"), folder / "backups")
+    done("backup", *stage.words("root"), "--drill", folder / "backups", says="with all records")
+    return f"{len(changed)} passwords changed while replicas ran: they went on, the old ones let nobody in; a backup taken by root and tried"
+
+
 def exposed(stage: Stage, folder: Path) -> List[str]:
     """A set over TLS with users and roles."""
     reached = dict(stage.reached)
@@ -135,6 +153,7 @@ def exposed(stage: Stage, folder: Path) -> List[str]:
     stage.all_answered(stage.feed(20))
     stage.check_running()
     stage.verify()
-    return [f"over TLS with a made certificate and {len(made)} users: records put, answered, verified, the log compacted",
+    told = rotated(stage, folder)
+    return [told, f"over TLS with a made certificate and {len(made)} users: records put, answered, verified, the log compacted",
             f"{tried} puts tried by five users: each may put its own keys and no others; nobody gets in without TLS, with "
             "another authority, without a certificate of this one, without a user or with a wrong password"]

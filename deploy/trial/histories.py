@@ -1,5 +1,6 @@
 """Scenes about which history a ledger is of: a log made anew, a lost node, a backup that is restored."""
 
+import secrets
 import shutil
 import subprocess
 import time
@@ -88,11 +89,28 @@ def restore(place: Place, backup: str) -> None:
     port = int(place.addresses[0].rpartition(":")[2])
     peers = {f"node{node.number}": f"http://127.0.0.1:{port + 2 + node.number}" for node in place.nodes}
     cluster = ",".join(f"{name}={url}" for name, url in peers.items())
+    # Nodes that are restored twice by one token are taken for the same ones.
+    token = secrets.token_hex(8)
     for node in place.nodes:
         shutil.move(str(node.folder), str(node.folder) + ".old")
         name = f"node{node.number}"
         etcdctl(place, "snapshot", "restore", backup, "--name", name, "--data-dir", node.folder, "--initial-cluster", cluster,
-                "--initial-cluster-token", "restored", "--initial-advertise-peer-urls", peers[name])
+                "--initial-cluster-token", token, "--initial-advertise-peer-urls", peers[name])
+
+
+def drilled(stage: Stage) -> str:
+    """Takes a backup, and restores it for a look; one that was damaged isn't taken for a good one. Where the good one is."""
+    folder = stage.folder / "backups"
+    done("backup", *stage.words("root"), "--keep", 2, folder)
+    path, = folder.glob("*.db")
+    done("backup", *stage.words("root"), "--drill", folder, says=f"with all records from 1 to {stage.log.last()}")
+    bad = folder / "log-99990101T000000Z.db"
+    data = bytearray(path.read_bytes())
+    data[len(data) // 2] ^= 1
+    bad.write_bytes(data)
+    done("backup", *stage.words("root"), "--drill", folder, status=1, says="backup: ")
+    bad.unlink()
+    return str(path)
 
 
 def restored(stage: Stage, place: Place) -> str:
@@ -101,9 +119,7 @@ def restored(stage: Stage, place: Place) -> str:
     backed_up = stage.feed(50)
     for name in stage.replicas:
         stage.saved(name, backed_up)
-    backup = str(stage.folder / "backup.db")
-    one = Place(place.folder, place.nodes, place.addresses[:1])
-    etcdctl(one, "snapshot", "save", backup)
+    backup = drilled(stage)
     lost = stage.feed(70) - backed_up
     for name in stage.replicas:
         stage.saved(name, backed_up + 1)
@@ -121,7 +137,7 @@ def restored(stage: Stage, place: Place) -> str:
     stage.all_answered(stage.feed(40))
     stage.check_running()
     check_whole(stage.log, stage.program, stage.folder, stage.log.last())
-    return (f"restored from a backup, {lost} records behind it lost: all three replicas stopped "
+    return (f"a backup taken and tried; restored from it, {lost} records behind it lost: all three replicas stopped "
             f"(`{said[0].split(': ', 1)[1][:90]}..`); after "
             "`log restored` they set aside what they saved since, and go on behind the backup's last record")
 

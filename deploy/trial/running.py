@@ -15,6 +15,8 @@ from .stage import NAMES, PATIENCE, Stage
 METRIC = re.compile(r'moveledger_[a-z_]+\{replica="[^"]*"(,[a-z]+="[^"]*")*\} [0-9.e+-]+')
 TYPE = re.compile(r"# TYPE moveledger_[a-z_]+ (gauge|counter)")
 LOOK = 4
+# Versions that no program has.
+OLD, NEW = "0.0.0-old", "0.0.0-new"
 
 
 def killed_program(stage: Stage) -> str:
@@ -75,7 +77,7 @@ def build(stage: Stage, version: str) -> str:
 
 def upgraded(stage: Stage) -> str:
     """Has each replica run another build, one after the other, while records come."""
-    old, new = build(stage, "1.0.0"), build(stage, "1.1.0")
+    old, new = build(stage, OLD), build(stage, NEW)
     mixed = 0
     for program in (old, new):
         for name in NAMES:
@@ -89,10 +91,10 @@ def upgraded(stage: Stage) -> str:
                   f"{name} is back")
             mixed += len({stage.replicas[one].status()["program"].split(" sha256")[0] for one in NAMES}) > 1
     told = done("log", *stage.words("reader"), "show")
-    if told.count("moveledger 1.1.0 sha256:") != 3 or mixed < 4:
+    if told.count(f"moveledger {NEW} sha256:") != 3 or mixed < 4:
         raise Failed(f"the log says of its programs: {told}")
     stage.check_running()
-    return "upgraded from 1.0.0 to 1.1.0 one by one while records came: nothing differs, the log names each replica's version"
+    return f"upgraded from {OLD} to {NEW} one by one while records came: nothing differs, the log names each replica's version"
 
 
 def badly_upgraded(stage: Stage) -> str:
@@ -123,7 +125,7 @@ def interrupted(stage: Stage) -> str:
         number = process.stdout.readline().strip()
         process.send_signal(stage.random.choice((signal.SIGINT, signal.SIGTERM)))
         said = process.stderr.read().decode()
-    found = re.search("try again with --id ([0-9a-f]+)", said)
+    found = re.search("try again with --id ([0-9a-f-t]+)", said)
     again = command("submit", *stage.words("submitter"), "--id", found.group(1), "-", given=record) if found else None
     if process.returncode != 1 or again is None or again.stdout.strip() != number:
         raise Failed(f"submit, interrupted at record {number!r}, ends with the status {process.returncode}: {said}")

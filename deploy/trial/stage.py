@@ -72,7 +72,7 @@ class Stage:
 
     def make(self, *options: object, names: Sequence[str] = NAMES) -> None:
         """Makes the log, with a set of replicas."""
-        done("log", *self.words("keeper"), "make", "--replicas", ",".join(names), "--every", self.every, *options)
+        done("log", *self.words("keeper"), "make", "--replicas", ",".join(names), "--every", self.every, "--hours", 0, *options)
 
     def replica(self, name: str, *options: object, program: Optional[str] = None,
                 folder: Optional[Path] = None) -> ReplicaProcess:

@@ -1,0 +1,110 @@
+import os
+import tempfile
+import unittest
+from typing import Dict, List, Tuple
+
+from ledgerlog.backups import counted
+from ledgerlog.clearing import Size, defragment
+from ledgerlog.errors import LogError
+from ledgerlog.etcd import Access
+from ledgerlog.keys import Keys
+from ledgerlog.requests import Body
+from ledgerlog.users import change_passwords
+
+from .store import Store, fill, made_log
+from .test_etcd import GOOD, OverNodes
+
+
+class Asked(Store):
+    """A store that notes what else it is asked, and fails at one of these."""
+
+    def __init__(self, sizes: Tuple[int, int] = (0, 0), fails_at: int = -1) -> None:
+        super().__init__()
+        self.sizes = sizes
+        self.fails_at = fails_at
+        self.asked: List[Tuple[str, Body]] = []
+
+    def ask(self, path: str, body: Body) -> Body:
+        if path == "/v3/maintenance/status":
+            return {"dbSize": str(self.sizes[0]), "dbSizeInUse": str(self.sizes[1])}
+        if len(self.asked) == self.fails_at:
+            raise LogError("no")
+        self.asked.append((path, body))
+        return {}
+
+
+class Room(unittest.TestCase):
+    def test_a_node_stands_still_only_for_what_is_worth_it(self) -> None:
+        self.assertTrue(Size(200, 100).is_loose())
+        self.assertFalse(Size(199, 100).is_loose())
+        for sizes, is_full, count in (((300, 100), False, 1), ((150, 100), False, 0), ((150, 100), True, 1)):
+            node = Asked(sizes)
+            defragment(node, is_full)
+            self.assertEqual([path for path, _ in node.asked], ["/v3/maintenance/defragment"] * count)
+
+
+class Passwords(OverNodes):
+    def setUp(self) -> None:
+        holder = tempfile.TemporaryDirectory()
+        self.addCleanup(holder.cleanup)
+        self.folder = holder.name
+
+    def path(self, user: str) -> str:
+        return os.path.join(self.folder, f"{user}.password")
+
+    def write(self, user: str, text: str) -> str:
+        with open(self.path(user), "w", encoding="ascii") as file:
+            file.write(text + "\n")
+        return self.path(user)
+
+    def read(self, user: str) -> str:
+        with open(self.path(user), encoding="ascii") as file:
+            return file.read().strip()
+
+    def test_those_in_the_folder_are_changed_and_root_is_the_last(self) -> None:
+        for user in ("root", "L-keeper", "L-by-a"):
+            self.write(user, "old")
+        etcd = Asked()
+        self.assertEqual(change_passwords(etcd, Keys("L"), ["a", "b"], self.folder), ["L-keeper", "L-by-a", "root"])
+        told: Dict[str, str] = {body["name"]: body["password"] for _, body in etcd.asked}
+        self.assertEqual(told, {user: self.read(user) for user in ("root", "L-keeper", "L-by-a")})
+        self.assertEqual(len(set(told.values()) | {"old"}), 4)
+
+    def test_one_that_etcd_does_not_take_is_kept_and_tried_again(self) -> None:
+        self.write("L-keeper", "old")
+        with self.assertRaises(LogError):
+            change_passwords(Asked(fails_at=0), Keys("L"), [], self.folder)
+        self.assertEqual(self.read("L-keeper"), "old")
+        with open(self.path("L-keeper") + ".new", encoding="ascii") as file:
+            new = file.read().strip()
+        change_passwords(Asked(), Keys("L"), [], self.folder)
+        self.assertEqual(self.read("L-keeper"), new)
+
+    def test_a_password_that_changes_is_read_again(self) -> None:
+        path = self.write("me", "old")
+        node = self.node((400, {"code": 3, "message": "etcdserver: authentication failed, invalid user ID or password"}),
+                         (200, {"token": "one"}), GOOD)
+        client = self.client(node, access=Access(user="me", password_file=path))
+        ask_node = client.ask_node
+
+        def and_change(*given: object) -> Body:
+            try:
+                return ask_node(*given)  # type: ignore[arg-type]
+            finally:
+                self.write("me", "new")
+
+        setattr(client, "ask_node", and_change)
+        self.assertIsNone(client.get(b"x"))
+        self.assertEqual([body.get("password") for path, body, _ in node.asked if "authenticate" in path], ["old", "new"])
+
+
+class Counted(unittest.TestCase):
+    def test_a_backup_without_a_record_is_none(self) -> None:
+        log = made_log(Store())
+        fill(log, 30)
+        log.etcd.put(log.keys.cleared, b"4")
+        log.etcd.delete(log.keys.record(1), log.keys.record(5))
+        self.assertIn("all records from 5 to 30", counted(log))
+        log.etcd.delete(log.keys.record(20), log.keys.record(21))
+        with self.assertRaisesRegex(LogError, "has no record 20"):
+            counted(log)
