@@ -12,7 +12,7 @@ from .log import Log, Read
 from .program import Program, identity
 from .saves import Save, Saves, vote_on
 from .settings import Settings
-from .status import Asked, Status
+from .status import Asked, LogValues, Status
 from .votes import Vote, Votes, form_of, majority
 from .written import Taken
 
@@ -20,6 +20,8 @@ from .written import Taken
 WAIT_SECONDS = 0.5
 LEAST_SECONDS = 0.01
 FULL_SECONDS = 5.0
+# So often the values of the log are read that the metrics tell.
+LOOK_SECONDS = 15.0
 # After saves that failed the next one is up to so many times as late.
 MOST_PATIENCE = 64
 # A program that is killed is started again, later and later, and so often without getting any further.
@@ -55,6 +57,7 @@ class Replica:
         self.own_saves: Dict[str, bytes] = {}
         self.is_stopping = False
         self.has_caught_up = False
+        self.looks_at = 0.0
         # The nodes that answered last, and the number of their last change then.
         self.seen: Optional[Tuple[str, int]] = None
         self.settings: Settings
@@ -171,6 +174,7 @@ class Replica:
             self.answer_questions(running)
             read = self.patiently(self.log.read, running.number + 1)
             self.check_history(read, running.number)
+            self.look_at_log(read.last)
             if read.taken:
                 due_time = due_time or time.monotonic() + self.patience * self.plan.seconds
                 self.answer(running, read.taken[:due_at - running.number])
@@ -201,11 +205,22 @@ class Replica:
         if read.settings.more.keys() - self.settings.more.keys():
             self.tell_unknown(read.settings)
         self.settings = read.settings
-        self.status.last = read.last
+        self.status.last, self.status.read_at = read.last, time.time()
 
     def tell_unknown(self, settings: Settings) -> None:
         if settings.more:
             self.tell(f"the log's settings have what this program doesn't know, and keeps: {', '.join(sorted(settings.more))}")
+
+    def look_at_log(self, last: int) -> None:
+        """Reads now and then what the metrics tell of the log."""
+        if time.monotonic() < self.looks_at:
+            return
+        self.looks_at = time.monotonic() + LOOK_SECONDS
+        try:
+            agreed, room = self.votes.newest_agreed_save(last), self.log.room(self.settings)
+            self.status.log_values = LogValues(self.log.cleared(), agreed.number if agreed else 0, room.used, room.most)
+        except (Unreachable, Full) as why:
+            self.tell(f"{why}: the metrics have the log's values of before")
 
     def answer(self, running: Program, given: List[Taken]) -> None:
         """Answers what the log has, and puts the lines."""

@@ -6,7 +6,7 @@ import socket
 import threading
 import time
 from dataclasses import dataclass, field
-from typing import Callable, Dict, List, Optional, Tuple
+from typing import Callable, Dict, List, NamedTuple, Optional, Tuple
 
 from .errors import LogError
 from .records import ASKED
@@ -14,7 +14,18 @@ from .records import ASKED
 # A question is answered between two records, and one record takes seconds at most.
 ANSWER_SECONDS = 600.0
 MOST_WAITING = 16
+# A log that was read so long ago may have gone on.
+FRESH_SECONDS = 30.0
 PART = 1 << 16
+
+
+class LogValues(NamedTuple):
+    """What the log has: up to which record it was cleared, the newest save of which a majority has put the digest, and its bytes."""
+
+    cleared: int = 0
+    agreed: int = 0
+    room_used: int = 0
+    room_most: int = 0
 
 
 @dataclass
@@ -33,8 +44,13 @@ class Status:
     skipped: int = 0
     restarts: int = 0
     program_id: int = 0
+    # The record at which the program ended last and hasn't got further since; 0 where there is none.
+    stuck: int = 0
     is_counted: bool = False
     held: int = 0
+    # When the log was read last, and its values then; 0 where it never was.
+    read_at: float = 0.0
+    log_values: LogValues = LogValues()
     began: float = field(default_factory=time.time)
     differing: Dict[str, int] = field(default_factory=dict)
 
@@ -44,14 +60,23 @@ class Status:
         return [
             ("replica", self.name), ("log", self.log_id), ("program", self.program),
             ("counted", "yes" if self.is_counted else "no, it isn't in the log's set"),
-            ("answered", str(self.answered)), ("behind", str(self.behind())), ("skipped", str(self.skipped)),
+            ("answered", str(self.answered)), ("behind", self.behind_words()),
+            ("log read", f"{self.unread_seconds():.1f} s ago" if self.read_at else "never"), ("skipped", str(self.skipped)),
             ("saved", str(self.saved)), ("saved ago", f"{time.time() - self.saved_at:.1f} s" if self.saved_at else "never"),
             ("save took", f"{self.save_seconds:.3f} s"), ("save size", f"{self.save_bytes} bytes"),
             ("memory", f"{memory_of(os.getpid())} bytes"), ("program's memory", f"{memory_of(self.program_id)} bytes"),
-            ("program restarts", str(self.restarts)), ("votes held", str(self.held)), ("differs", differs or "none")]
+            ("program restarts", str(self.restarts)), ("votes held", str(self.held)), ("stuck at record", str(self.stuck) if self.stuck else "none"), ("differs", differs or "none")]
 
     def behind(self) -> int:
         return max(0, self.last - self.answered)
+
+    def unread_seconds(self) -> float:
+        """For how long the log hasn't been read; since the start, where it never was."""
+        return max(0.0, time.time() - (self.read_at or self.began))
+
+    def behind_words(self) -> str:
+        """By how many records it is behind; unknown where the log hasn't been read for long, and may have gone on."""
+        return str(self.behind()) if self.read_at and self.unread_seconds() <= FRESH_SECONDS else "unknown"
 
     def metrics(self) -> str:
         """The same in the text form that Prometheus reads."""
@@ -62,7 +87,11 @@ class Status:
             ("save_time_seconds", gauge, "", self.saved_at), ("save_duration_seconds", gauge, "", self.save_seconds),
             ("save_bytes", gauge, "", self.save_bytes), ("replicas_differing", gauge, "", len(self.differing)),
             ("votes_held", gauge, "", self.held), ("program_restarts_total", counter, "", self.restarts),
-            ("start_time_seconds", gauge, "", self.began),
+            ("record_stuck", gauge, "", self.stuck),
+            ("start_time_seconds", gauge, "", self.began), ("log_unread_seconds", gauge, "", self.unread_seconds()),
+            ("log_last", gauge, "", self.last), ("log_cleared", gauge, "", self.log_values.cleared),
+            ("log_agreed_save", gauge, "", self.log_values.agreed), ("log_room_bytes", gauge, "", self.log_values.room_most),
+            ("log_used_bytes", gauge, "", self.log_values.room_used),
             ("memory_bytes", gauge, 'process="replica"', memory_of(os.getpid())),
             ("memory_bytes", gauge, 'process="program"', memory_of(self.program_id)),
             ("info", gauge, f'log="{self.log_id}",program="{escaped(self.program)}"', 1)]

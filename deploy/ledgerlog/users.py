@@ -11,7 +11,7 @@ from .requests import after, coded
 from .saves import sync_folder
 
 ROOT = "root"
-NEW = ".new"
+END, NEW = ".password", ".new"
 READ, WRITE = "READ", "READWRITE"
 Grant = Tuple[str, bytes, bytes]
 
@@ -61,14 +61,13 @@ def new_password(path: str) -> str:
     return password
 
 
-def change_passwords(etcd: Etcd, keys: Keys, replicas: List[str], folder: str) -> List[str]:
-    """Gives each user whose password is in the folder another one, root last. Those that were changed. The new one stands in a file of its
+def change_passwords(etcd: Etcd, keys: Keys, folder: str) -> List[str]:
+    """Gives each user of the ledger whose password is in the folder another one, and root, the last. Those that were changed. The new one stands in a file of its
     own until etcd has it, so it isn't lost if this is ended halfway, and is taken again the next time."""
     changed: List[str] = []
-    for user in [*roles_of(keys, replicas), ROOT]:
-        path = os.path.join(folder, f"{user}.password")
-        if not os.path.exists(path):
-            continue
+    users = [name[:-len(END)] for name in sorted(os.listdir(folder)) if name.endswith(END)]
+    for user in [one for one in users if one.startswith(f"{keys.ledger}-")] + [one for one in users if one == ROOT]:
+        path = os.path.join(folder, user + END)
         if os.path.exists(path + NEW):
             with open(path + NEW, encoding="ascii") as file:
                 password = file.read().rstrip("\n")

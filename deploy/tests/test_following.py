@@ -65,7 +65,9 @@ class Running:
         return any(text in one for one in self.told)
 
 
-class Following(unittest.TestCase):
+class OverStandIn(unittest.TestCase):
+    """Replicas over a store in memory."""
+
     def setUp(self) -> None:
         holder = tempfile.TemporaryDirectory()
         self.addCleanup(holder.cleanup)
@@ -110,6 +112,8 @@ class Following(unittest.TestCase):
     def saved_at(self, number: int, *names: str) -> None:
         until(lambda: all(any(save.number == number for save in self.running[name].saves.all()) for name in names))
 
+
+class Following(OverStandIn):
     def test_three_answer_alike_and_save_at_the_same_numbers(self) -> None:
         self.three(9)
         self.assertEqual(len({self.lines(9, name) for name in SET}), 1)

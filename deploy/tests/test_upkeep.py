@@ -62,10 +62,10 @@ class Passwords(OverNodes):
             return file.read().strip()
 
     def test_those_in_the_folder_are_changed_and_root_is_the_last(self) -> None:
-        for user in ("root", "L-keeper", "L-by-a"):
+        for user in ("root", "L-keeper", "L-by-a", "M-keeper"):
             self.write(user, "old")
         etcd = Asked()
-        self.assertEqual(change_passwords(etcd, Keys("L"), ["a", "b"], self.folder), ["L-keeper", "L-by-a", "root"])
+        self.assertEqual(change_passwords(etcd, Keys("L"), self.folder), ["L-by-a", "L-keeper", "root"])
         told: Dict[str, str] = {body["name"]: body["password"] for _, body in etcd.asked}
         self.assertEqual(told, {user: self.read(user) for user in ("root", "L-keeper", "L-by-a")})
         self.assertEqual(len(set(told.values()) | {"old"}), 4)
@@ -73,11 +73,11 @@ class Passwords(OverNodes):
     def test_one_that_etcd_does_not_take_is_kept_and_tried_again(self) -> None:
         self.write("L-keeper", "old")
         with self.assertRaises(LogError):
-            change_passwords(Asked(fails_at=0), Keys("L"), [], self.folder)
+            change_passwords(Asked(fails_at=0), Keys("L"), self.folder)
         self.assertEqual(self.read("L-keeper"), "old")
         with open(self.path("L-keeper") + ".new", encoding="ascii") as file:
             new = file.read().strip()
-        change_passwords(Asked(), Keys("L"), [], self.folder)
+        change_passwords(Asked(), Keys("L"), self.folder)
         self.assertEqual(self.read("L-keeper"), new)
 
     def test_a_password_that_changes_is_read_again(self) -> None:

@@ -1,0 +1,163 @@
+import http.client
+import os
+import re
+import signal
+import socket
+import subprocess
+import tempfile
+import time
+import unittest
+from typing import Dict, Tuple
+
+from ledgerlog import asking, status
+from ledgerlog.asking import Asking
+from ledgerlog.errors import LogError, Unreachable
+from ledgerlog.requests import Body
+from ledgerlog.serving import Metrics
+from ledgerlog.status import Status
+
+from .served import Served
+from .store import SET, STAND_IN, Store, fill, made_log
+from .test_commands import DEPLOY
+from .test_following import OverStandIn, until
+
+
+def got(port: int, path: str = "/metrics") -> Tuple[int, str]:
+    connection = http.client.HTTPConnection("127.0.0.1", port, timeout=60)
+    connection.request("GET", path)
+    answer = connection.getresponse()
+    found = answer.status, answer.read().decode()
+    connection.close()
+    return found
+
+
+def free_port() -> int:
+    with socket.socket() as one:
+        one.bind(("127.0.0.1", 0))
+        return int(one.getsockname()[1])
+
+
+class Telling(OverStandIn):
+    def test_one_that_has_not_read_the_log_does_not_know_how_far_it_is_behind(self) -> None:
+        one = Status("a")
+        self.assertEqual(dict(one.rows())["behind"], "unknown")
+        one.read_at = time.time()
+        self.assertEqual(dict(one.rows())["behind"], "0")
+        one.read_at = time.time() - status.FRESH_SECONDS - 1
+        self.assertEqual(dict(one.rows())["behind"], "unknown")
+        self.assertRegex(dict(one.rows())["log read"], r"3\d\.\d s ago")
+
+    def test_a_replica_whose_nodes_hang_says_for_how_long(self) -> None:
+        self.addCleanup(setattr, status, "FRESH_SECONDS", status.FRESH_SECONDS)
+        running = self.start()
+        fill(self.log, 3)
+        self.answered(3)
+        until(lambda: running.status.behind_words() == "0")
+        setattr(status, "FRESH_SECONDS", 0.2)
+        real = self.store.ask
+
+        def hangs(path: str, body: Body) -> Body:
+            time.sleep(0.05)
+            raise Unreachable("no node of the log answers")
+
+        setattr(self.store, "ask", hangs)
+        until(lambda: running.status.behind_words() == "unknown" and running.status.unread_seconds() > 0.5)
+        setattr(self.store, "ask", real)
+        setattr(status, "FRESH_SECONDS", 30.0)
+        until(lambda: running.status.behind_words() == "0")
+
+    def test_the_metrics_have_the_logs_values(self) -> None:
+        self.store.put(self.log.keys.log, self.log.settings()._replace(room=1000).text())
+        self.store.used = 300
+        self.three(9)
+        self.saved_at(8, *SET)
+        for one in self.running.values():
+            one.replica.looks_at = 0.0
+        until(lambda: all(one.status.log_values.agreed == 8 for one in self.running.values()))
+        told = self.running["a"].status.metrics()
+        for name, value in ("log_last", 9), ("log_agreed_save", 8), ("log_room_bytes", 1000), ("log_used_bytes", 300), ("log_cleared", 0):
+            self.assertIn(f'moveledger_{name}{{replica="a"}} {value}\n', told)
+
+    def test_metrics_are_served_and_nothing_else(self) -> None:
+        served = Metrics(0, Status("a"))
+        self.assertIn('moveledger_records_answered{replica="a"} 0\n', got(served.port)[1])
+        self.assertEqual(got(served.port, "/x")[0], 404)
+        served.close()
+        with self.assertRaises(OSError):
+            got(served.port)
+
+    def test_each_alert_is_of_a_metric_that_is_there_and_says_what_to_do(self) -> None:
+        with open(os.path.join(DEPLOY, "units", "alerts.yml"), encoding="utf-8") as file:
+            rules = file.read().split("- alert: ")[1:]
+        names = set(re.findall(r"# TYPE (\w+)", Status("a").metrics()))
+        self.assertGreater(len(rules), 10)
+        for rule in rules:
+            with self.subTest(rule.split("\n")[0]):
+                self.assertRegex(rule, r'summary: ".+"\n +action: ".+"')
+                self.assertLessEqual(set(re.findall(r"moveledger_\w+", rule)), names)
+
+    def test_one_is_asked_when_it_is_far_enough(self) -> None:
+        self.start()
+        fill(self.log, 3)
+        self.answered(3)
+        self.assertTrue(Asking([self.path("a")], "show", 3, 60.0).of_one().startswith(b"3 "))
+        with self.assertRaisesRegex(LogError, "hasn't answered record 4 yet: it is at 3"):
+            Asking([self.path("a")], "show", 4, 0.1).of_one()
+
+    def test_an_old_answer_is_said_to_be_one(self) -> None:
+        running = self.start()
+        fill(self.log, 3)
+        self.answered(3)
+        until(lambda: running.status.behind_words() == "0" and running.status.answered == 3)
+        one = Asking([self.path("a")], "show", 0, 60.0)
+        one.of_one()
+        self.assertEqual(one.doubts, [])
+        self.addCleanup(setattr, status, "FRESH_SECONDS", status.FRESH_SECONDS)
+        setattr(status, "FRESH_SECONDS", -1.0)
+        one.of_one()
+        self.assertRegex(one.doubts[0], "has answered record 3, is behind the log by unknown, and has read it .* s ago")
+
+    def test_a_majority_is_asked(self) -> None:
+        self.three(5)
+        folders = [self.path(name) for name in SET]
+        answers: Dict[str, bytes] = {folder: b"5 end 0\n" for folder in folders}
+        self.addCleanup(setattr, asking, "ask", asking.ask)
+        real = asking.ask
+        self.assertIn(b"5 end 1\n", Asking(folders, "show", 5, 60.0).by_majority())
+
+        def told(path: str, words: str) -> bytes:
+            return real(path, words) if words == "status" else answers[os.path.dirname(path)]
+
+        setattr(asking, "ask", told)
+        answers[folders[0]] = b"5 end 7\n"
+        one = Asking(folders, "show", 0, 60.0)
+        self.assertEqual(one.by_majority(), b"5 end 0\n")
+        self.assertEqual(one.doubts, [f"{folders[0]} answers otherwise"])
+        self.running["b"].stop()
+        with self.assertRaisesRegex(LogError, "no 2 of 3 replicas answer alike"):
+            Asking(folders, "show", 0, 0.1).by_majority()
+
+
+class ByCommand(unittest.TestCase):
+    def test_a_replica_that_is_killed_answers_no_more(self) -> None:
+        store = Store()
+        fill(made_log(store), 3)
+        node = Served(store)
+        self.addCleanup(node.close)
+        port = free_port()
+        with tempfile.TemporaryDirectory() as folder:
+            words = [os.path.join(DEPLOY, "replica"), *node.words(), "--moveledger", STAND_IN, "--name", "a", "--metrics-port", str(port), folder]
+            with subprocess.Popen(words, stderr=subprocess.DEVNULL) as process:
+
+                def is_told() -> bool:
+                    try:
+                        return 'moveledger_records_answered{replica="a"} 3\n' in got(port)[1]
+                    except OSError:
+                        return False
+
+                until(is_told)
+                process.send_signal(signal.SIGKILL)
+            with self.assertRaises(OSError):
+                got(port)
+
+
