@@ -1,14 +1,16 @@
 """The mutants of a file of Python: its text with one span replaced, so that all lines keep their numbers. For plant-python.
 
-What is turned: comparisons, `and` and `or`, `not`, conditions (made true, and false), numbers (one more, one fewer), True and False, `break`
-and `continue`, what is returned, statements that are a call or a `yield` (left out), and strings where they are compared or are a default.
+What is turned: comparisons, `and` and `or`, `not`, conditions (made true, and false), numbers (one more, one fewer), True and False,
+`break` and `continue`, what is returned, statements that are a call or a `yield` (left out), and strings where they are compared or are a
+default.
 Left as they are: annotations, decorators, documentation, assertions, what stands in an f-string, and blocks for `__main__` or for types."""
 
 import ast
 import re
 from typing import List, NamedTuple, Optional, Sequence, Tuple, Union
 
-OPERATORS = {"<": "<=", "<=": "<", ">": ">=", ">=": ">", "==": "!=", "!=": "==", "in": "not in", "not in": "in", "is": "is not", "is not": "is"}
+OPERATORS = {"<": "<=", "<=": "<", ">": ">=", ">=": ">", "==": "!=", "!=": "==", "in": "not in", "not in": "in", "is": "is not",
+             "is not": "is"}
 OPERATOR = re.compile(rb"not\s+in\b|is\s+not\b|[<>=!]=|[<>]|\b(?:in|is|and|or)\b")
 # Calls that compare what they are given.
 COMPARING = "startswith", "endswith", "removeprefix", "partition", "rpartition"
