@@ -4,7 +4,7 @@ import unittest
 from typing import Callable, List, Tuple
 
 from movetext import model
-from movetext.cursor import Cursor, Fault, Stop
+from movetext.cursor import Cursor, Fault, Stop, loose_number
 
 # What is read of bytes, what comes of it, where the cursor then stands, and the faults that it notes and goes on after.
 Row = Tuple[str, Callable[[Cursor], object], object, int, List[Fault]]
@@ -67,3 +67,12 @@ class Reading(unittest.TestCase):
         for at in (0, 1):
             Cursor(b"\1\2", at, faults=faults).fault(at, "no")
         self.assertEqual(faults, [Fault(0, "no"), Fault(1, "no")])
+
+    def test_a_number_in_any_spelling(self) -> None:
+        rows = [("07", 7, 1), ("7f", 127, 1), ("8001", 128, 2), ("ff7f", 16_383, 2), ("8100", 1, 2), ("80" * 9 + "00", 0, 10),
+                ("80" * 9 + "01", 1 << 63, 10), ("80" * 10, None, 10), ("80" * 11, None, 10), ("80", None, 1), ("", None, 0)]
+        for digits, value, at in rows:
+            with self.subTest(digits):
+                data = bytes.fromhex(digits)
+                self.assertEqual(loose_number(data, 0, len(data)), (value, at))
+                self.assertEqual(loose_number(b"\1\2" + data + b"\5", 2, 2 + len(data)), (value, at + 2))

@@ -14,7 +14,7 @@ from typing import Iterator, List, Tuple
 from movetext import scanner
 from movetext.disassembler import MODULE, disassemble
 from movetext.errors import TextError
-from movetext.formatting import COMMENT, formatted, given_out, items_of, kept_of
+from movetext.formatting import COMMENT, first_other, formatted, given_out, items_of, kept_of
 from movetext.proving import Prover
 from movetext.random_code import random_typed_module
 from movetext.random_modules import random_module
@@ -210,6 +210,16 @@ class Formatting(unittest.TestCase):
     def test_comments_after_code_stand_in_one_column(self) -> None:
         text = "show // a\naudit json // b\n\nshow // c\n"
         self.assertEqual(formatted(text), "show        // a\naudit json  // b\n\nshow  // c\n")
+
+
+    def test_comments_stay_apart_where_a_line_is_long(self) -> None:
+        long = "record 9 x\"" + 60 * "00" + "\""
+        text = f"show // a\naudit // b\n{long} // c\nshow // d\n"
+        self.assertEqual(formatted(text), f"show  // a\naudit  // b\n{long}  // c\nshow  // d\n")
+
+    def test_the_first_line_that_differs(self) -> None:
+        rows = [(b"a\nb\n", b"a\nc\n", 2), (b"x", b"y", 1), (b"a", b"a\n", 2), (b"a\n\n\n", b"a\n", 3), (b"", b"a", 1)]
+        self.assertEqual([first_other(one, other) for one, other, _ in rows], [line for _, _, line in rows])
 
 
 class Files(unittest.TestCase):

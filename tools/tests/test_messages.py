@@ -7,7 +7,7 @@ from pathlib import Path
 from typing import Iterator, List, Optional, Set, Tuple
 
 from movetext import VERSION
-from movetext.errors import SHOWN, WIDTH, Source, TextErrors
+from movetext.errors import SHOWN, WIDTH, Source, TextErrors, distance, folded, nearest, wrapped
 from movetext.explain.failures import Failure, Place
 from movetext.explain.pages import RULES, rule_of
 from movetext.explain.verdict import Trial, explain_module
@@ -111,6 +111,35 @@ class Messages(unittest.TestCase):
                 at = marks.index("^")
                 self.assertLessEqual(max(len(shown), len(marks)), SHOWN)
                 self.assertTrue(shown[at:].startswith(word[:len(marks) - at - 2]), (before, after))
+
+    def test_a_line_that_just_fits_is_shown_whole(self) -> None:
+        for length, shown in (SHOWN - 1, "x" * (SHOWN - 1)), (SHOWN, "x" * SHOWN), (SHOWN + 1, "x" * (SHOWN - 2) + ".."):
+            self.assertEqual(Source("t", "x" * length).marked(0), [shown, "^" * min(length, SHOWN)])
+        half = SHOWN // 2
+        self.assertEqual(Source("t", " " * half + "x" * (SHOWN - half)).marked(half)[0], " " * half + "x" * (SHOWN - half))
+        self.assertEqual(Source("t", " " * (half + 1) + "x" * (SHOWN - half)).marked(half + 1)[0][:4], "..  ")
+
+    def test_words_are_not_broken_between_lines(self) -> None:
+        long = "n" * (2 * WIDTH)
+        self.assertEqual(wrapped(f"one {long} {'two ' * 3}well-known"), ["one", long, "two two two well-known"])
+        self.assertEqual(folded("help: ", f"one {long} well-known"), ["    help: one", " " * 10 + long, " " * 10 + "well-known"])
+        self.assertEqual(folded("help: ", ""), [])
+
+    def test_a_line_and_a_column_have_an_offset(self) -> None:
+        source = Source("t", "ab\ncd\n\ne")
+        for at in range(9):
+            self.assertEqual(source.offset(*source.place(at)), at)
+
+    def test_what_was_meant_is_near(self) -> None:
+        rows = [
+            ("MovLoc", "MoveLoc"), ("Movloc", "MoveLoc"), ("moveloc", "MoveLoc"), ("LocMove", "MoveLoc"), ("MvoeLoc", "MoveLoc"), ("Mv", None),
+            ("Mxxxloc", None), ("Po", "Pop"), ("P", None), ("Ppo", "Pop"), ("Pops", "Pop"), ("Popsy", None), ("N::Coin", "M::Coin"), ("", None),
+        ]
+        for name, wanted in rows:
+            self.assertEqual(nearest(name, ["Pop", "MoveLoc", "M::Coin"]), wanted, name)
+        self.assertEqual([distance("abcd", it, 3) for it in ("abcd", "abc", "abdc", "bacd", "xbcd", "abxcd", "wxyz", "abcdwxyz")],
+                         [0, 1, 1, 1, 1, 1, 4, 4])
+        self.assertEqual(distance("ab", "ba", 0), 1)
 
     def test_tabs_and_wide_letters_stay_before_the_marks(self) -> None:
         source = Source("t", "\t\u00e9 MoveLoc x")

@@ -15,6 +15,7 @@ from movetext.coverage import Counts, listing, merged, short_lines, summary, who
 from movetext.coverage_page import coverage_page
 from movetext.errors import Source, TextErrors
 from movetext.explain.answers import Answer
+from movetext.streaming import assemble
 from movetext.trials import Program, Result, Trial, are_wanted, full, is_wanted, told
 
 from . import TOP
@@ -80,6 +81,12 @@ class Language(unittest.TestCase):
     def test_errors_of_a_test_file_are_told_at_their_places(self) -> None:
         for text, wanted in (
                 ("show\n", "my.test:2:1: error: a test file has a case: `case \"what it shows\"`"),
+                ('cas "a"\n', "my.test:1:1: error: wanted `case`, `then`, `records`, `load`, `publish`, `run`, `show`, `audit` or `record`, found "
+                 "`cas`"),
+                ('load "/no/such"\ncase "a"', "my.test:1:1: error: `/no/such` can't be read: No such file or directory"),
+                ('show\nload "x"\ncase "a"', "my.test:2:1: error: a ledger is loaded where a case begins, before any record"),
+                ('show\ncase "a"\nload "x"', "my.test:3:1: error: a ledger is loaded where a case begins, before any record"),
+                ('case "a"\nthen "b"\nload "x"', "my.test:3:1: error: a ledger is loaded where a case begins, before any record"),
                 ('then "a"\n', "my.test:1:1: error: `then` goes on from a case, and there is none before it"),
                 ('case a\n', 'my.test:1:6: error: wanted what the case shows, as `"who mints"`, found `a`'),
                 ('case "a"\ncase "a"\n', 'my.test:2:1: error: a second case "a"'),
@@ -238,7 +245,34 @@ class Coverage(unittest.TestCase):
         (module,) = merged(counts)
         self.assertEqual(list(short_lines([module])), ["0x1::Coin: 5 of 61 instructions (8 %)",
                                                        "    never run: check, add, take, mint, pay, burn"])
-        self.assertIn(("1", "4", [], "    Ret"), list(listing(module, None)))
+        rows = list(listing(module, None))
+        self.assertIn(("1", "4", [], "    Ret"), rows)
+        self.assertEqual([row for row in rows if not row[0]][:2],
+                         [("", "", [], "check(p0: &signer, p1: address) acquires Marker"), ("", "", [], "public entry open(p0: signer)")])
+
+    def test_a_module_without_a_text_of_which_all_is_run(self) -> None:
+        counts = Counts()
+        data = assemble("publish by 0x1 { module 0x1::M { entry f() { Ret } } }")
+        with tempfile.TemporaryDirectory() as folder:
+            stream = Path(folder, "my.stream")
+            stream.write_bytes(data)
+            results(f'publish "{stream}"\ncase "a"\nrun 0x1::M::f() by 0x2 budget 9\n', counts=counts)
+        (module,) = merged(counts)
+        self.assertEqual(list(short_lines([module])), ["0x1::M: 1 of 1 instructions (100 %)"])
+        page = coverage_page([(module, None)], "all")
+        self.assertNotIn("None", page)
+        self.assertIn("<td>1 of 1, 100 %</td><td>none</td>", page)
+        self.assertIn('<tr class="yes"><td class="n">1</td><td class="n">0</td><td>    Ret</td></tr>', page)
+
+    def test_a_page_tells_lines_that_were_done_from_others(self) -> None:
+        counts = Counts()
+        results(COIN + 'case "a"\nrun 0x1::M::mint(7u64) by 0x1 budget 100\n', counts=counts)
+        (module,) = merged(counts)
+        found = dict(re.findall(r'<tr class="(\w*)"><td class="n">([^<]*)</td>', coverage_page([(module, COIN.split("\n"))], "it")))
+        self.assertEqual(found, {"": "", "yes": "1", "part": "1", "no": "0"})
+        kinds = re.findall(r'<tr class="(\w*)"><td class="n">[^<]*</td><td class="n">(\d+)</td>', coverage_page([(module, COIN.split("\n"))], "it"))
+        self.assertEqual([int(line) for kind, line in kinds if kind == "no"], [10, 15])
+        self.assertEqual([int(line) for kind, line in kinds if kind == "part"], [9])
 
     def test_a_page_of_it_has_nothing_that_is_not_escaped(self) -> None:
         counts = Counts()
