@@ -1,0 +1,159 @@
+"""Which must-fail edits the gate tries each time (tests/edits/fixed), and on which text each edit was tried last (tests/edits/tried)."""
+
+import hashlib
+import re
+from pathlib import Path
+from typing import Dict, Iterator, List, NamedTuple, Set
+
+from asked import ASKED
+from common import CRATES, TOP
+from must_fail import MORE, Edit, edits_of
+
+FIXED, TRIED = TOP / "tests/edits/fixed", TOP / "tests/edits/tried"
+PARTS = "src", "specs", "proofs"
+# The gate tries so many at least each time.
+LEAST = 60
+# More edits than so many that weren't tried on the text of today are for who changed it, before the landing.
+MOST_UNTRIED = 150
+# Each clause of these files needs an edit, or a word on why it has none.
+PAGES = "crates/moveledger/specs/Headline.antt", "crates/moveledger/specs/Outcome.antt"
+# A definition, a field of a record, and a case; then what a field is that only names something.
+CLAUSE = re.compile(r"^(abbrev|record|data) pub (\w+)|^pub (abbrev|record|data) (\w+)|^  (?:pub )?([a-z]\w*) : (.*)")
+ONLY_NAMED = re.compile(r"(?:List .*|LedgerView|Request)$")
+ABOUT = """# On which text the must-fail edits were tried last, when a goal refused each: a line for each crate, with the checksum of its src, specs and
+# proofs then, and below it each of its edits, with the checksum of the edit's own text. scripts/try-edits CRATE writes it.
+"""
+
+
+def name_of(edit: Edit) -> str:
+    """An edit's name, wherever it stands in its folder."""
+    return edit.name[len(MORE):] if edit.name.startswith(MORE) else edit.name
+
+
+def sum_of_code(crate: str) -> str:
+    """The checksum of a crate's code, definitions and proofs, by their names and bytes."""
+    told = hashlib.sha256()
+    for part in PARTS:
+        for file in sorted(it for it in (CRATES / crate / part).rglob("*") if it.suffix in (".rt", ".antt")):
+            told.update(f"{hashlib.sha256(file.read_bytes()).hexdigest()} {file.relative_to(CRATES / crate).as_posix()}\n".encode())
+    return told.hexdigest()
+
+
+def sum_of(edit: Edit) -> str:
+    return hashlib.sha256("\0".join(text for change in edit.changes for text in change).encode()).hexdigest()
+
+
+class Fixed(NamedTuple):
+    """An edit that is tried each time, with what it stands for; or words that have no edit, with why they have none."""
+
+    crate: str
+    name: str
+    words: str
+
+
+def fixed() -> List[Fixed]:
+    """The lines of the list: `CRATE/EDIT: words`, or `none: words`."""
+    lines = [it for it in FIXED.read_text(encoding="utf-8").splitlines() if it and not it.startswith("#")]
+    parted = [it.partition(": ") for it in lines]
+    return [Fixed(*(("", "none") if name == "none" else name.split("/", 1)), words) for name, _, words in parted]
+
+
+def clauses(page: str) -> Iterator[str]:
+    """The clauses of a page: each of its definitions, and of a record or a list of cases each field that states something, and each case."""
+    inside = ""
+    for line in (TOP / page).read_text(encoding="utf-8").splitlines():
+        found = CLAUSE.match(line)
+        if not found:
+            continue
+        kind, name, field, states = found[1] or found[3], found[2] or found[4], found[5], found[6]
+        if kind == "abbrev":
+            yield name
+        elif kind:
+            inside = name
+        elif not ONLY_NAMED.match(states):
+            yield f"{inside}.{field}"
+
+
+def asked() -> Iterator[str]:
+    """What a fixed edit has to stand for: each call that was asked for by name, and each clause of the headline's two pages."""
+    yield from (f"{row.crate}::{row.name}" for row in ASKED if row.form.startswith("fn"))
+    for page in PAGES:
+        yield from clauses(page)
+
+
+def faults_of_fixed() -> Iterator[str]:
+    """What is wrong with the list of those that are tried each time."""
+    lines = fixed()
+    there = {crate: {name_of(it) for it in edits_of(crate)} for crate in crates_with_edits()}
+    for line in lines:
+        if line.crate and line.name not in there.get(line.crate, set()):
+            yield f"tests/edits/fixed names {line.crate}/{line.name}, which isn't there"
+    named = {(it.crate, it.name) for it in lines if it.crate}
+    if len(named) != sum(bool(it.crate) for it in lines):
+        yield "tests/edits/fixed names an edit twice"
+    if len(named) < LEAST:
+        yield f"tests/edits/fixed has {len(named)} edits, and {LEAST} are wanted"
+    words = {word for line in lines for word in re.findall(r"`([^`]+)`", line.words)}
+    wanted = list(dict.fromkeys(asked()))
+    yield from (f"tests/edits/fixed has no edit for {it}" for it in wanted if it not in words)
+    yield from (f"tests/edits/fixed speaks of {it}, which isn't asked for" for it in sorted(words - set(wanted)))
+
+
+def crates_with_edits() -> List[str]:
+    return sorted(it.name for it in CRATES.iterdir() if (it / "must-fail").is_dir())
+
+
+class Tried(NamedTuple):
+    """The text of a crate on which its edits were tried, and the text of each of these."""
+
+    code: str
+    edits: Dict[str, str]
+
+
+def tried() -> Dict[str, Tried]:
+    found: Dict[str, Tried] = {}
+    for line in TRIED.read_text(encoding="utf-8").splitlines() if TRIED.exists() else []:
+        if line.startswith("    "):
+            name, told = line.split()
+            list(found.values())[-1].edits[name] = told
+        elif line and not line.startswith("#"):
+            name, told = line.split()
+            found[name] = Tried(told, {})
+    return found
+
+
+def note_tried(crate: str) -> None:
+    """Notes that all edits of a crate were tried on its text of today."""
+    all_tried = tried()
+    all_tried[crate] = Tried(sum_of_code(crate), {name_of(it): sum_of(it) for it in edits_of(crate)})
+    lines = [ABOUT]
+    for name in sorted(set(all_tried) & set(crates_with_edits())):
+        lines += [f"{name} {all_tried[name].code}\n", *(f"    {edit} {told}\n" for edit, told in sorted(all_tried[name].edits.items()))]
+    TRIED.parent.mkdir(exist_ok=True)
+    TRIED.write_text("".join(lines), encoding="utf-8")
+
+
+def faults_of_tried() -> Iterator[str]:
+    """Edits that the notes name and that are gone, and those that they lack."""
+    noted = tried()
+    there = {crate: {name_of(it) for it in edits_of(crate)} for crate in crates_with_edits()}
+    for crate in sorted({*noted, *there}):
+        names: Set[str] = set(noted[crate].edits) if crate in noted else set()
+        gone, new = sorted(names - there.get(crate, set())), sorted(there.get(crate, set()) - names)
+        if gone:
+            yield f"tests/edits/tried names edits of {crate} that are gone: {', '.join(gone)}"
+        if new:
+            yield f"tests/edits/tried lacks edits of {crate}: {', '.join(new)}: scripts/try-edits {crate} tries them"
+
+
+def untried() -> Dict[str, List[Edit]]:
+    """The edits of each crate that weren't tried on its text of today, or not with theirs."""
+    noted = tried()
+    found: Dict[str, List[Edit]] = {}
+    for crate in crates_with_edits():
+        last = noted.get(crate, Tried("", {}))
+        is_same = last.code == sum_of_code(crate)
+        edits = [it for it in edits_of(crate) if not is_same or last.edits.get(name_of(it)) != sum_of(it)]
+        if edits:
+            found[crate] = edits
+    return found

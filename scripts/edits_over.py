@@ -1,0 +1,176 @@
+"""Checks wrong bodies over the libraries that `rt ci` leaves: the toolchain's prover is called on a copy of one crate, for the functions that
+are changed and those that they call alone. So nothing below the crate is proved once more, and of the crate as little as can be."""
+
+import os
+import re
+import shutil
+import subprocess
+from pathlib import Path
+from typing import List, NamedTuple, Optional, Set, Tuple
+
+from common import CRATES, TOP, crates, processors
+from must_fail import Edit, Place, functions_of
+
+PARTS = "src", "specs", "proofs"
+# What a check of a few functions takes at most of those that were measured, in bytes.
+NEED = 2_500_000_000
+# What the prover says where it has no function of a name, or several.
+NO_NAME = re.compile(r"^rattle: error: `\w+` [^\n`]*`([^`]*)`", re.M)
+IMPL = re.compile(r"^( *)(?:unsafe )?impl\b(.*)")
+# A list of parameters in angle brackets, of which none is in another.
+PARAMETERS = re.compile(r"<[^<>]*>")
+
+
+# The checks that run.
+RUNNING: Set["subprocess.Popen[bytes]"] = set()
+
+
+class Ended(NamedTuple):
+    """How a check ended, what it printed, and how many seconds it took on the processors."""
+
+    status: int
+    printed: str
+    busy: float
+
+
+def kit() -> Optional[Path]:
+    """The toolchain's folder, if it is installed."""
+    found = shutil.which("rt")
+    return Path(found).resolve().parent.parent if found else None
+
+
+class Libraries:
+    """The libraries that `rt ci` left below the crates of a repository, and the toolchain."""
+
+    def __init__(self, top: Path, tools: Path) -> None:
+        self.folder, self.tools = top / "crates", tools
+        lines = [it for it in (TOP / "crates.txt").read_text(encoding="utf-8").splitlines() if not it.startswith("#")]
+        self.static = {it.split()[0] for it in lines if "staticlib" in it.partition(":")[0].split()}
+        self.uses = {name: uses for name, uses in crates().items()}
+
+    def below(self, crate: str) -> Set[str]:
+        """The repository's crates that this one stands on."""
+        found: Set[str] = set()
+        left = list(self.uses[crate])
+        while left:
+            name = left.pop()
+            if name in self.uses and name not in found:
+                found.add(name)
+                left += self.uses[name]
+        return found
+
+    def rlib(self, crate: str) -> Path:
+        return self.folder / crate / f"out/rlib/{crate}.rlib"
+
+    def lacking(self, names: Set[str]) -> List[str]:
+        """The crates of these names and below them whose library isn't there, or is one of other sources. `rt ci` leaves no stamp beside
+        a library; other commands do, and a source that is newer says that theirs is of other sources."""
+        found = []
+        for name in sorted({below for it in names for below in self.below(it)}):
+            stamp = self.rlib(name).parent / "stamp"
+            files = [it for part in PARTS for it in (self.folder / name / part).rglob("*") if it.is_file()]
+            is_old = stamp.exists() and any(it.stat().st_mtime > stamp.stat().st_mtime for it in files)
+            if is_old or not self.rlib(name).is_dir():
+                found.append(name)
+        return found
+
+    def words(self, crate: str) -> List[str]:
+        """What the prover is given for a crate."""
+        is_program = (CRATES / crate / "src/main.rt").exists()
+        words = ["--crate-name", crate, "src/main.rt" if is_program else "src/lib.rt"]
+        words += ["--extern", f"std={self.tools}/rlibs/std.rlib", "-L", f"dependency={self.tools}/rlibs"]
+        for name in self.uses[crate]:
+            words += ["--extern", f"{name}={self.rlib(name) if name in self.uses else self.tools / f'rlibs/{name}.rlib'}"]
+        for name in sorted(self.below(crate)):
+            words += ["-L", f"dependency={self.rlib(name).parent}"]
+        words += ["--antt-project", f"{self.tools}/rattle/logic/antt-project.json", "--logic-built", f"{self.tools}/logic_built"]
+        words += ["--jobs", "1", "--links", f"{crate}="]
+        return [*words, "--crate-type", "staticlib"] if crate in self.static else words
+
+
+def bare(text: str) -> str:
+    """A type without its parameters."""
+    while PARAMETERS.search(text):
+        text = PARAMETERS.sub("", text)
+    return text.strip()
+
+
+def owner_of(lines: List[str], first: int) -> Tuple[str, str]:
+    """What a method's name has before it, by its `impl`: its type, with the name of the trait behind it, if it is of one; and its type."""
+    indent = len(lines[first]) - len(lines[first].lstrip())
+    for at in range(first, -1, -1):
+        found = IMPL.match(lines[at])
+        if found and len(found[1]) < indent:
+            head = re.sub(r"^ *<(?:[^<>]|<[^<>]*>)*>|\bwhere\b.*|\{.*$|'\w+,? ?|&|\bmut ", "", found[2])
+            trait, is_of_trait, type_name = head.rpartition(" for ")
+            name = bare(type_name).split("::")[-1]
+            return name + ("".join(re.findall(r"(\w+)(?!\w|::)", trait)) if is_of_trait else ""), name
+    return "", ""
+
+
+def names_of(place: Place, crate: str) -> List[str]:
+    """How the prover may call the function of a place, the likeliest first; the last stands for all of the file's."""
+    parts = [it for it in place.file[len("src/"):-len(".rt")].split("/") if it not in ("lib", "main", "mod")]
+    if place.function is None:
+        return [""]
+    text = (CRATES / crate / place.file).read_text(encoding="utf-8")
+    lines, function = text.split("\n"), functions_of(text)[place.function]
+    head = next(at for at in range(function.first, function.last + 1) if re.search(rf"\bfn {function.name}\b", lines[at]))
+    owner, type_name = owner_of(lines, head) if lines[head].startswith(" ") else ("", "")
+    name = f"{owner}::{function.name}" if owner else function.name
+    # (a method has the path of its type, which may stand in another file)
+    is_here = not owner or re.search(rf"\b(?:struct|enum|trait) {type_name}\b", text)
+    full = "::".join([*parts, name])
+    found = [full, name] if is_here else [name, full]
+    return list(dict.fromkeys([*found, *(["::".join(parts)] if parts else [])]))
+
+
+class Copy:
+    """A copy of a crate's sources, which edits are applied to."""
+
+    def __init__(self, crate: str, folder: Path, libraries: Libraries) -> None:
+        self.crate, self.folder, self.libraries = crate, folder, libraries
+        self.own = folder / "crates" / crate
+        for part in PARTS:
+            if (CRATES / crate / part).is_dir():
+                shutil.copytree(CRATES / crate / part, self.own / part)
+
+    def run(self, names: List[str]) -> Ended:
+        """One check of the functions of these names; of all, where there is none. What it proves is kept for the next one in this copy."""
+        words = [str(self.libraries.tools / "bin/rattle"), "check", *self.libraries.words(self.crate), "--incremental", str(self.folder / "kept")]
+        words += [word for name in names for word in ("--only", name)]
+        with open(self.folder / "said", "w+", encoding="utf-8", errors="replace") as said:
+            run = subprocess.Popen(words, cwd=self.own, stdin=subprocess.DEVNULL, stdout=said, stderr=subprocess.STDOUT)
+            RUNNING.add(run)
+            _, status, used = os.wait4(run.pid, 0)
+            run.returncode = os.WEXITSTATUS(status) if os.WIFEXITED(status) else 128 + os.WTERMSIG(status)
+            RUNNING.discard(run)
+            said.seek(0)
+            return Ended(run.returncode, said.read(), used.ru_utime + used.ru_stime)
+
+    def check(self, edits: List[Edit]) -> Ended:
+        """Checks the functions that these edits change."""
+        places = {place: names_of(place, self.crate) for edit in edits for place in edit.places}
+        busy = 0.0
+        while True:
+            asked = sorted({it[0] for it in places.values()})
+            ended = self.run([] if "" in asked else asked)
+            busy += ended.busy
+            unknown = NO_NAME.findall(ended.printed) if ended.status == 2 else []
+            hit = [it for it in places.values() if it[0] in unknown]
+            if not hit:
+                return Ended(ended.status, ended.printed, busy)
+            for it in hit:
+                it[:] = it[1:] or [""]
+
+
+def end_all() -> None:
+    """Ends the checks that run."""
+    for run in list(RUNNING):
+        run.kill()
+
+
+def lanes() -> int:
+    """How many checks may run at a time, by processors and memory."""
+    free = re.search(r"^MemAvailable:\s+(\d+)", Path("/proc/meminfo").read_text(encoding="utf-8"), re.M)
+    return max(1, min(4, processors(), int(free[1]) * 1024 // NEED if free else 1))
