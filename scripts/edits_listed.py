@@ -3,7 +3,7 @@
 import hashlib
 import re
 from pathlib import Path
-from typing import Dict, Iterator, List, NamedTuple, Set
+from typing import Dict, Iterable, Iterator, List, NamedTuple
 
 from asked import ASKED
 from common import CRATES, TOP
@@ -133,17 +133,20 @@ def note_tried(crate: str) -> None:
     TRIED.write_text("".join(lines), encoding="utf-8")
 
 
+def some(names: Iterable[str]) -> str:
+    """A few of these names, and how many more there are."""
+    told = sorted(names)
+    return ", ".join(told[:5]) + (f" and {len(told) - 5} more" if told[5:] else "")
+
+
 def faults_of_tried() -> Iterator[str]:
-    """Edits that the notes name and that are gone, and those that they lack."""
-    noted = tried()
-    there = {crate: {name_of(it) for it in edits_of(crate)} for crate in crates_with_edits()}
-    for crate in sorted({*noted, *there}):
-        names: Set[str] = set(noted[crate].edits) if crate in noted else set()
-        gone, new = sorted(names - there.get(crate, set())), sorted(there.get(crate, set()) - names)
-        if gone:
-            yield f"tests/edits/tried names edits of {crate} that are gone: {', '.join(gone)}"
-        if new:
-            yield f"tests/edits/tried lacks edits of {crate}: {', '.join(new)}: scripts/try-edits {crate} tries them"
+    """Edits that the notes name and that are gone, and those that they lack of a crate that they have."""
+    for crate, last in sorted(tried().items()):
+        there = {name_of(it) for it in edits_of(crate)}
+        if set(last.edits) - there:
+            yield f"tests/edits/tried names edits of {crate} that are gone: {some(set(last.edits) - there)}"
+        if there - set(last.edits):
+            yield f"tests/edits/tried lacks edits of {crate}: {some(there - set(last.edits))}: scripts/try-edits --new {crate} tries them"
 
 
 def untried() -> Dict[str, List[Edit]]:
