@@ -2,7 +2,6 @@
 
 import hashlib
 import re
-from pathlib import Path
 from typing import Dict, Iterable, Iterator, List, NamedTuple
 
 from asked import ASKED
@@ -44,7 +43,7 @@ def sum_of(edit: Edit) -> str:
 
 
 class Fixed(NamedTuple):
-    """An edit that is tried each time, with what it stands for; or words that have no edit, with why they have none."""
+    """An edit that is tried each time, with what it stands for; or, without a name, clauses that have none, and why."""
 
     crate: str
     name: str
@@ -55,7 +54,8 @@ def fixed() -> List[Fixed]:
     """The lines of the list: `CRATE/EDIT: words`, or `none: words`."""
     lines = [it for it in FIXED.read_text(encoding="utf-8").splitlines() if it and not it.startswith("#")]
     parted = [it.partition(": ") for it in lines]
-    return [Fixed(*(("", "none") if name == "none" else name.split("/", 1)), words) for name, _, words in parted]
+    halves = [(*name.partition("/"), words) for name, _, words in parted]
+    return [Fixed(crate if name else "", name, words) for crate, _, name, words in halves]
 
 
 def clauses(page: str) -> Iterator[str]:

@@ -95,16 +95,25 @@ def bare(text: str) -> str:
     return text.strip()
 
 
+def joined(trait: str, variables: Set[str]) -> str:
+    """How a trait stands in a name: with what it is given, but for variables, as `FromIoError` for `From<io::Error>`."""
+    paths = [it.split("::") for it in re.findall(r"\w+(?:::\w+)*", trait)]
+    kept = [paths[0][-1:], *(it for it in paths[1:] if not set(it) & variables)] if paths else []
+    return "".join(part[0].upper() + part[1:] for it in kept for part in it)
+
+
 def owner_of(lines: List[str], first: int) -> Tuple[str, str]:
     """What a method's name has before it, by its `impl`: its type, with the name of the trait behind it, if it is of one; and its type."""
     indent = len(lines[first]) - len(lines[first].lstrip())
     for at in range(first, -1, -1):
         found = IMPL.match(lines[at])
         if found and len(found[1]) < indent:
-            head = re.sub(r"^ *<(?:[^<>]|<[^<>]*>)*>|\bwhere\b.*|\{.*$|'\w+,? ?|&|\bmut ", "", found[2])
+            given = re.match(r" *<((?:[^<>]|<[^<>]*>)*)>", found[2])
+            variables = set(re.findall(r"(?:^|, *)(\w+)", given[1])) if given else set()
+            head = re.sub(r"\bwhere\b.*|\{.*$|'\w+,? ?|&|\bmut ", "", found[2][given.end() if given else 0:])
             trait, is_of_trait, type_name = head.rpartition(" for ")
             name = bare(type_name).split("::")[-1]
-            return name + ("".join(re.findall(r"(\w+)(?!\w|::)", trait)) if is_of_trait else ""), name
+            return name + (joined(trait, variables) if is_of_trait else ""), name
     return "", ""
 
 
@@ -122,7 +131,8 @@ def names_of(place: Place, crate: str) -> List[str]:
     is_here = not owner or re.search(rf"\b(?:struct|enum|trait) {type_name}\b", text)
     full = "::".join([*parts, name])
     found = [full, name] if is_here else [name, full]
-    return list(dict.fromkeys([*found, *(["::".join(parts)] if parts else [])]))
+    whole = ["::".join([*parts, type_name])] if type_name else []
+    return list(dict.fromkeys([*found, *whole, *(["::".join(parts)] if parts else [])]))
 
 
 class Copy:

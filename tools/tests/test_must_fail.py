@@ -7,6 +7,8 @@ from . import TOP
 
 sys.path.insert(0, str(TOP / "scripts"))
 
+from edits_listed import clauses  # noqa: E402
+from edits_over import owner_of  # noqa: E402
 from must_fail import complaints, functions_of  # noqa: E402
 
 TRAIT = """/// What is known.
@@ -116,6 +118,43 @@ class Complaints(unittest.TestCase):
 
     def test_another_functions_proof_says_nothing_of_it(self) -> None:
         self.assertEqual(complaints("extend", OTHER), ([], ""))
+
+
+class Owners(unittest.TestCase):
+    """What a method's name has before it, as the prover prints it."""
+
+    def owner(self, line: str) -> str:
+        return owner_of([line, "    fn call(&self) {}"], 1)[0]
+
+    def test_of_a_type(self) -> None:
+        self.assertEqual(self.owner("impl Overlay<'_> {"), "Overlay")
+        self.assertEqual(self.owner("impl<'a, W: Write> super::Report<'a, W> {"), "Report")
+
+    def test_of_a_trait(self) -> None:
+        self.assertEqual(self.owner("impl<W: Write> Write for Report<'_, W> {"), "ReportWrite")
+        self.assertEqual(self.owner("impl<D: Domain> Passage for Stepwise<'_, D> {"), "StepwisePassage")
+
+    def test_of_a_trait_that_is_given_types(self) -> None:
+        self.assertEqual(self.owner("impl From<io::Error> for KeepError {"), "KeepErrorFromIoError")
+        self.assertEqual(self.owner("impl<R: Read, W: Write> AfterRecord<R, BufWriter<W>> for Prompt {"), "PromptAfterRecordBufWriter")
+
+    def test_a_function_of_no_type(self) -> None:
+        self.assertEqual(owner_of(["fn call() {}"], 0), ("", ""))
+
+
+class Clauses(unittest.TestCase):
+    """What a page states, each of which is to have an edit."""
+
+    def test_names_alone_are_no_clauses(self) -> None:
+        found = list(clauses("crates/moveledger/specs/Headline.antt"))
+        self.assertIn("Headline.written", found)
+        self.assertIn("AnswersWhole.no_fault", found)
+        self.assertIn("KeysAscend", found)
+        self.assertNotIn("Headline.records", found)
+        self.assertNotIn("AnswersWhole.request", found)
+
+    def test_cases_are_clauses(self) -> None:
+        self.assertIn("EndsReading.at_a_cut_record", list(clauses("crates/moveledger/specs/Outcome.antt")))
 
 
 if __name__ == "__main__":
