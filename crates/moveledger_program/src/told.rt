@@ -98,7 +98,10 @@ impl Display for Line<'_> {
                 "{path}: what an earlier program couldn't put in place is kept as {name}"
             ),
             Notice::Unsaved(name) => {
-                write!(f, "the ledger is whole in {name}: move or copy it to {path}")
+                write!(
+                    f,
+                    "the ledger is whole in {name}: move or copy it to {path}"
+                )
             }
             Notice::Unconfirmed(number) => {
                 let words = Words(number);
