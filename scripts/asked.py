@@ -144,5 +144,5 @@ OPEN: Dict[str, str] = {
     "mv_storage::Overlay::put": "a run goes by `put_new`; loading goes by it",
     "mv_storage::Overlay::edit": "a run goes by `write`",
     "mv_storage::Overlay::discard": "a run that didn't return ends by the overlay's `Drop`",
-    "moveledger::engine": "the program goes by `answer_all` and the library by `answer_on`, which carry the same clause; tests call it",
+    "moveledger::engine": "the program goes by `report` and the library by `answer_on`, which run the same loop, `answer_from`, and carry the same clause; tests call it",
 }

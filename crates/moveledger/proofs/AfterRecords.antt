@@ -1,46 +1,57 @@
 -- What is wanted after each record, from one to the next.
-use Rattle.std.proofs.Common.{◌≡◌, ℕ, suc, ◌+◌, List, [], length, Option, Result, Ok, Err, Bool, true, false, IfOk, IfErr, inl, inr, refl, subst, ◌-◌, ◌^◌, arith}
+use Rattle.std.proofs.Common.{◌≡◌, ◌⊎◌, ℕ, suc, ◌+◌, List, length, Option, Result, Ok, Err, Bool, true, false, OnOk, IfErr, inl, inr, refl, subst, arith}
 use Rattle.std.specs.Io.KnownBytes.{Consumes}
 use Rattle.std.proofs.KnownBytes.{Consumes-trans}
 use Rattle.mv_ledger_state.specs.View.{LedgerView}
-use Rattle.moveledger.specs.Outcome.{left_of}
-use Rattle.moveledger.specs.Reading.{IsCutAt}
+use Rattle.moveledger.specs.Outcome.{EndsReading, left_of}
 use Rattle.moveledger.specs.Progress.{Progress}
-use Rattle.moveledger.specs.Pacing.{EndsBy, IsDoneAt, IsDoneFor, IsDoneForAll, IsDoneUntil, IsUnanswered}
+use Rattle.moveledger.specs.Pacing.{EndsBy, IsDoneAt, IsDoneFor, IsDoneForAll, IsDoneUntil, IsFailed, IsUnanswered}
 use Rattle.moveledger.specs.Status.{end_after}
 use Rattle.moveledger.specs.declared.streaming.EngineError.{EngineError}
 use Rattle.moveledger.specs.declared.streaming.EngineError.TheVariants.{Read, Write, Memory}
-use Rattle.moveledger.proofs.Steps.{Progress-reads, Progress-reads_cut, Progress-reads_full}
+use Rattle.moveledger.proofs.Steps.{Progress-reads}
+
+-- it was done after each record so far, the last of which has this number
+abbrev pub IsDoneSoFar : {R W A : Type 0} (left : R → Option (List ℕ)) (held_by : W → Option (List ℕ)) (does : ℕ → R → A → W → Result (Unit {0}) EngineError → A → W → Type 0)
+    (before : ℕ) (given held : Option (List ℕ)) (ledger : LedgerView) (n : ℕ) (old new : A) → Type 0
+IsDoneSoFar left held_by does before given held ledger n old new = (k : ℕ) × (n ≡ before + k) × IsDoneFor left held_by does before given held ledger k old new
 
 module _ {R W A : Type 0} (left : R → Option (List ℕ)) (held_by : W → Option (List ℕ)) (does : ℕ → R → A → W → Result (Unit {0}) EngineError → A → W → Type 0)
-    (given held : Option (List ℕ)) (ledger : LedgerView) where
+    (before : ℕ) (given held : Option (List ℕ)) (ledger : LedgerView) where
   -- it is done where all up to its record is answered
-  pub done-at : (n : ℕ) (old : A) (end : Result (Unit {0}) EngineError) (new : A) (reader : R) (before after : W) (now : LedgerView)
-      → Progress given (left reader) held (held_by before) ledger now n → does n reader old before end new after → IsDoneAt left held_by does given held ledger n old end new
-  done-at n old end new reader before after now answered done = record {
+  pub done-at : (n : ℕ) (old : A) (end : Result (Unit {0}) EngineError) (new : A) (reader : R) (writer leaves : W) (now : LedgerView)
+      → Progress before given (left reader) held (held_by writer) ledger now n → does n reader old writer end new leaves
+      → IsDoneAt left held_by does before given held ledger n old end new
+  done-at n old end new reader writer leaves now answered done = record {
     reader = reader;
-    before = before;
-    after = after;
+    writer = writer;
+    leaves = leaves;
     now = now;
     answered = answered;
     done = done;
   }
 
   -- it is done after one more
-  pub done-next : (n : ℕ) (old mid new : A) → IsDoneFor left held_by does given held ledger n old mid → IsDoneAt left held_by does given held ledger (n + 1) mid (Ok tt) new
-      → IsDoneFor left held_by does given held ledger (n + 1) old new
-  done-next n old mid new before now =
-      let same : suc n ≡ n + 1 = omega arith in
-      let P : ℕ → Type 0 = λ m. IsDoneFor left held_by does given held ledger m old new in
-      subst P same (mid, before, now)
+  pub done-next : (n : ℕ) (old mid new : A) → IsDoneSoFar left held_by does before given held ledger n old mid
+      → IsDoneAt left held_by does before given held ledger (n + 1) mid (Ok tt) new → IsDoneSoFar left held_by does before given held ledger (n + 1) old new
+  done-next n old mid new h now =
+      let number : n + 1 ≡ before + (h.0 + 1) = omega (arith, h.1) in
+      let same : suc h.0 ≡ h.0 + 1 = omega arith in
+      let P : ℕ → Type 0 = λ m. IsDoneFor left held_by does before given held ledger m old new in
+      let Q : ℕ → Type 0 = λ m. IsDoneAt left held_by does before given held ledger m mid (Ok tt) new in
+      (h.0 + 1, number, subst P same (mid, h.2, subst Q number now))
 
-  module _ (gives gives2 holds : Option (List ℕ)) (now : LedgerView) (n : ℕ) (old mid : A) (p : Progress given gives held holds ledger now n)
-      (before : IsDoneFor left held_by does given held ledger n old mid) where
-    counted : IsDoneFor left held_by does given held ledger (length p.records) old mid
-    counted = let P : ℕ → Type 0 = λ m. IsDoneFor left held_by does given held ledger m old mid in subst P p.count before
+  module _ (gives gives2 holds : Option (List ℕ)) (now : LedgerView) (n : ℕ) (old mid : A) (p : Progress before given gives held holds ledger now n)
+      (h : IsDoneSoFar left held_by does before given held ledger n old mid) where
+    counted : IsDoneFor left held_by does before given held ledger (length p.records) old mid
+    counted =
+        let same : h.0 ≡ length p.records = omega (arith, h.1, p.count) in
+        let P : ℕ → Type 0 = λ m. IsDoneFor left held_by does before given held ledger m old mid in
+        subst P same h.2
 
     -- nothing more was answered
-    pub done-until : (e : EngineError) (took : List ℕ) → Consumes gives gives2 took → IsUnanswered e took (left_of gives2) → IsDoneUntil left held_by does given held ledger gives2 e old mid
+    pub done-until : (e : EngineError) (took : List ℕ) → Consumes gives gives2 took → IsUnanswered e took (left_of gives2)
+        → IsDoneUntil left held_by does before given held ledger gives2 e old mid
     done-until e took taken unanswered = record {
       whole = p.whole;
       took = took;
@@ -53,11 +64,11 @@ module _ {R W A : Type 0} (left : R → Option (List ℕ)) (held_by : W → Opti
     }
 
     -- or what is wanted failed
-    pub done-failed : (e : EngineError) (took : List ℕ) (new : A) → Consumes gives gives2 took → IsDoneAt left held_by does given held ledger (n + 1) mid (Err e) new
-        → IsDoneUntil left held_by does given held ledger gives2 e old new
+    pub done-failed : (e : EngineError) (took : List ℕ) (new : A) → Consumes gives gives2 took
+        → IsDoneAt left held_by does before given held ledger (n + 1) mid (Err e) new → IsDoneUntil left held_by does before given held ledger gives2 e old new
     done-failed e took new taken failed =
-        let number : n + 1 ≡ length p.records + 1 = omega (arith, p.count) in
-        let P : ℕ → Type 0 = λ m. IsDoneAt left held_by does given held ledger m mid (Err e) new in
+        let number : n + 1 ≡ before + (length p.records + 1) = omega (arith, p.count) in
+        let P : ℕ → Type 0 = λ m. IsDoneAt left held_by does before given held ledger m mid (Err e) new in
         record {
           whole = p.whole;
           took = took;
@@ -69,27 +80,24 @@ module _ {R W A : Type 0} (left : R → Option (List ℕ)) (held_by : W → Opti
           last = inr (subst P number failed);
         }
 
-    -- the input ended
-    pub done-ends : (took : List ℕ) → Consumes gives gives2 took → took ≡ [] → left_of gives2 ≡ [] → IsDoneForAll left held_by does given held ledger gives2 n old mid
+    -- or all were
+    pub done-all : (m : ℕ) (took : List ℕ) → Consumes gives gives2 took → EndsReading m (before + length p.records) took (left_of gives2)
+        → IsDoneForAll left held_by does before given held ledger gives2 m old mid
     unfolding Progress-reads
-    done-ends took taken none end = (Progress-reads given gives gives2 held holds ledger now n took p taken none end, counted)
+    done-all m took taken end = (Progress-reads p gives2 took taken m end, counted)
 
-    -- by a cut record
-    pub done-cut : (took : List ℕ) → Consumes gives gives2 took → IsCutAt took (left_of gives2) → IsDoneForAll left held_by does given held ledger gives2 (n + 1) old mid
-    unfolding Progress-reads_cut
-    done-cut took taken cut = (Progress-reads_cut given gives gives2 held holds ledger now n took p taken cut, counted)
-
-    -- or the numbers did
-    pub done-full : (m : ℕ) → m ≡ n → m ≡ 2 ^ 64 - 1 → IsDoneForAll left held_by does given held ledger gives m old mid
-    unfolding Progress-reads_full
-    done-full m same full = (Progress-reads_full given gives held holds ledger now n m p same full, counted)
+-- where nothing is wanted, it doesn't fail
+pub never-failed : {R W A : Type 0} {left : R → Option (List ℕ)} {held_by : W → Option (List ℕ)} {before : ℕ} {given held : Option (List ℕ)} {ledger : LedgerView} {e : EngineError} {new : A} {P Q : Type 0}
+    → P ⊎ (Q × IsFailed left held_by (λ number reader old writer end new leaves. end ≡ Ok tt) before given held ledger e new) → P
+never-failed (inl h) = h
+never-failed (inr h) = let bad = h.1.2.done in cc
 
 -- the end of what was answered, after what the writer held was written out or wasn't
-pub ends_by : (All : ℕ → Type 0) (Until : EngineError → Type 0) (answered : Result ℕ EngineError) (is_flushed : Bool) → IfOk answered All → IfErr answered Until
-    → EndsBy All Until (end_after answered is_flushed)
-ends_by All Until (Ok n) false ok err = inr (n, ok)
-ends_by All Until (Err e) false ok err = inl (e, err)
-ends_by All Until (Ok n) true ok err = (n, ok)
-ends_by All Until (Err Read) true ok err = err
-ends_by All Until (Err Write) true ok err = inl (Write, err)
-ends_by All Until (Err Memory) true ok err = err
+pub ends_by : (All : ℕ → Type 0) (Until : EngineError → Type 0) (n : ℕ) (answered : Result (Unit {0}) EngineError) (is_flushed : Bool) → OnOk answered (All n)
+    → IfErr answered Until → EndsBy All Until (end_after answered is_flushed)
+ends_by All Until n (Ok done) false ok err = inr (n, ok)
+ends_by All Until n (Err e) false ok err = inl (e, err)
+ends_by All Until n (Ok done) true ok err = (n, ok)
+ends_by All Until n (Err Read) true ok err = err
+ends_by All Until n (Err Write) true ok err = inl (Write, err)
+ends_by All Until n (Err Memory) true ok err = err

@@ -4,7 +4,6 @@ pub mod Whole
 pub mod Unfinished
 pub mod Steps
 pub mod AfterRecords
-pub mod Onward
 pub mod One
 pub mod OneRequest
 pub mod OneRefusal

@@ -15,4 +15,3 @@ pub mod Checking
 pub mod Proving
 pub mod Printing
 pub mod Authoring
-pub mod Continuing

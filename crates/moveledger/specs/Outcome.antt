@@ -1,16 +1,17 @@
--- What stands where the engine ends: what was read, what was written, and the ledger.
--- In all of these `given` and `gives` are what of the input was left before and after, `held` and `holds` what the writer had taken,
--- and `old` and `new` the ledger.
---   ReadsAll given gives n           all of the input was read, which is n records
+-- What stands where the answering of an input ends: what was read, what was written, and the ledger.
+-- In all of these `before` is how many records were answered before the input, and `n` how many are now, by numbers that go on; `given`
+-- and `gives` are what of the input was left before and after, `held` and `holds` what the writer had taken, and `old` and `new` the
+-- ledger.
+--   GoesOn before ..                 all records of the input were answered: the headline, by numbers that go on
+--   ReadsOn before given gives n     all of the input was read, up to record n; ReadsAll: the same of a first input
 --   StopsAt Within n took left ..    where it stopped behind whole records: at a part of a record, before one was answered, or within
---   Begun n took left old new part   it was answered, and a prefix of its lines was written
+--   Unread n took left old new part  a part of it was read
+--   Begun                            it was read and answered, and a prefix of its lines was written
 --   BegunByLines                     the same, and whole lines were; or the record asks for JSON
 --   BrokenOff, Finished              the same, and not all of its lines were written, or all of them
---   StopsWith Last ..                whole records were read and answered, and Last says what became of the bytes after them
---   Stops                            the same, where the last record is as StopsAt says, at most as Begun
---   StopsByLines                     the same, at most as BegunByLines
---   StopsReading                     whole records were read and answered, and a part of one was read
---   StopsWriting, StopsBehind        the same as Stops, where the last record is as BrokenOff or Finished says
+--   StopsAfter Last before ..        whole records were read and answered, and Last says what became of the bytes after them
+--   StopsWith Last ..                the same of a first input. Where that is at most Begun, it is Stops, and where it is at most
+--                                    BegunByLines, StopsByLines; where it is Unread, StopsReading, and where BrokenOff, StopsWriting
 --   AnswersAll                       the headline holds, and all was read
 --   Ends end                         what each end says of what was read and written, and of the ledger
 -- The others are parts of these.
@@ -18,10 +19,10 @@ use Rattle.std.specs.Prelude.{◌≡◌, ℕ, ◌+◌, ◌<◌, List, [], ◌++�
 use Rattle.std.specs.Io.{StartsWith}
 use Rattle.std.specs.Io.KnownBytes.{Appends, Consumes}
 use Rattle.mv_ledger_state.specs.View.{LedgerView}
-use Rattle.moveledger.specs.Records.{Record, AreWhole, most_records}
+use Rattle.moveledger.specs.Records.{Record, AreRecords, AreWhole, most_records}
 use Rattle.moveledger.specs.Reading.{IsCutAt, IsTaken, IsUnfinished}
 use Rattle.mv_machine.specs.Lines.{numbered}
-use Rattle.moveledger.specs.Headline.{Headline, Step, Reports}
+use Rattle.moveledger.specs.Headline.{Headline, Step, Reports, Tells}
 use Rattle.moveledger.specs.Writing.{IsByLines}
 use Rattle.moveledger.specs.declared.ending.End.{End}
 use Rattle.moveledger.specs.declared.ending.End.TheVariants.{Done, Read, Write, Memory, Words, Refused, LoadRefused, TooComplex}
@@ -31,21 +32,43 @@ abbrev pub left_of : Option (List ℕ) → List ℕ
 left_of None = []
 left_of (Some xs) = xs
 
--- Where reading ended, after n records were answered, of which so many are whole. Behind the whole ones these bytes were read, and
--- those are left: the input ends there, or the numbers do; or one more record was answered, which is cut and the last.
+-- Of an input before which so many were answered, all records that it begins with were, up to its end or to the last number. Their
+-- report, by numbers that go on, is written.
+pub record GoesOn (before : ℕ) (given held holds : Option (List ℕ)) (old new : LedgerView) (n : ℕ) : Type 0 where
+  pub input : List ℕ
+  pub records : List Record
+  pub rest : List ℕ
+  pub text : List ℕ
+  pub told : Tells given input
+  pub read : AreRecords input records rest
+  pub all : (rest ≡ []) ⊎ (n ≡ most_records)
+  pub answered : n ≡ before + length records
+  pub report : Reports (before + 1) old records text new
+  pub written : Appends held holds text
+
+-- Where reading ended, after n records were answered. Behind the first ones, which are so many, these bytes were read, and those are
+-- left: the input ends there, or the numbers do; or one more record was answered, which is cut and the last.
 pub data EndsReading (n wholes : ℕ) (took left : List ℕ) : Type 0 where
   at_the_end : n ≡ wholes → took ≡ [] → left ≡ [] → EndsReading n wholes took left
   at_the_last_number : n ≡ wholes → took ≡ [] → n ≡ most_records → EndsReading n wholes took left
   at_a_cut_record : n ≡ wholes + 1 → IsCutAt took left → EndsReading n wholes took left
 
 -- What was read is as many records as were answered, and no byte behind them: whole ones, and one that is cut if it is the last.
-pub record ReadsAll (given gives : Option (List ℕ)) (n : ℕ) : Type 0 where
+pub record ReadsOn (before : ℕ) (given gives : Option (List ℕ)) (n : ℕ) : Type 0 where
   pub whole : List ℕ
   pub part : List ℕ
   pub records : List Record
   pub taken : Consumes given gives (whole ++ part)
   pub read : AreWhole whole records
-  pub end : EndsReading n (length records) part (left_of gives)
+  pub end : EndsReading n (before + length records) part (left_of gives)
+
+-- the same of a first input, before which none were answered
+abbrev pub ReadsAll : (given gives : Option (List ℕ)) → (n : ℕ) → Type 0
+ReadsAll = ReadsOn 0
+
+-- a part of a record was read, and nothing done
+abbrev pub Unread : ℕ → List ℕ → List ℕ → LedgerView → LedgerView → List ℕ → Type 0
+Unread n took left old new part = IsUnfinished took × (new ≡ old) × (part ≡ [])
 
 -- a record was read, which has this number, and answered, and a prefix of its lines was written
 abbrev pub Begun : ℕ → List ℕ → List ℕ → LedgerView → LedgerView → List ℕ → Type 0
@@ -76,9 +99,10 @@ pub data StopsAt (Within : ℕ → List ℕ → List ℕ → LedgerView → Ledg
   being_answered : Within n took left old new part → StopsAt Within n took left old new part
 
 -- What was read is whole records, and some bytes behind them of which there is this to say. All lines of the whole records
--- were written, and what is said of the others. The ledger is as the whole records left it, and then as is said.
-pub record StopsWith (Last : ℕ → List ℕ → List ℕ → LedgerView → LedgerView → List ℕ → Type 0)
-    (given gives held holds : Option (List ℕ)) (old new : LedgerView) : Type 0 where
+-- were written, and what is said of the others. The ledger is as the whole records left it, and then as is said. So many records
+-- were answered before these, and n with them.
+pub record StopsAfter (Last : ℕ → List ℕ → List ℕ → LedgerView → LedgerView → List ℕ → Type 0)
+    (before : ℕ) (given gives held holds : Option (List ℕ)) (old new : LedgerView) (n : ℕ) : Type 0 where
   pub whole : List ℕ
   pub took : List ℕ
   pub records : List Record
@@ -87,9 +111,15 @@ pub record StopsWith (Last : ℕ → List ℕ → List ℕ → LedgerView → Le
   pub mid : LedgerView
   pub taken : Consumes given gives (whole ++ took)
   pub read : AreWhole whole records
-  pub report : Reports 1 old records text mid
-  pub last : Last (1 + length records) took (left_of gives) mid new part
+  pub answered : n ≡ before + length records
+  pub report : Reports (before + 1) old records text mid
+  pub last : Last (n + 1) took (left_of gives) mid new part
   pub written : Appends held holds (text ++ part)
+
+-- the same of a first input
+abbrev pub StopsWith : (Last : ℕ → List ℕ → List ℕ → LedgerView → LedgerView → List ℕ → Type 0)
+    → (given gives held holds : Option (List ℕ)) → (old new : LedgerView) → Type 0
+StopsWith Last given gives held holds old new = (n : ℕ) × StopsAfter Last 0 given gives held holds old new n
 
 -- All lines of some whole records of the input were written, and a prefix of those of at most one more record. The ledger is as
 -- these records left it. No byte was read behind the last record of which anything was read.
@@ -102,25 +132,13 @@ StopsByLines = StopsWith (StopsAt BegunByLines)
 
 -- What was read is whole records and a part of one. The ledger is as the whole ones left it, and what was
 -- written is exactly their report.
-pub record StopsReading (given gives : Option (List ℕ)) (held holds : Option (List ℕ)) (old new : LedgerView) : Type 0 where
-  pub whole : List ℕ
-  pub part : List ℕ
-  pub records : List Record
-  pub text : List ℕ
-  pub taken : Consumes given gives (whole ++ part)
-  pub read : AreWhole whole records
-  pub cut : IsUnfinished part
-  pub written : Appends held holds text
-  pub report : Reports 1 old records text new
+abbrev pub StopsReading : (given gives held holds : Option (List ℕ)) → (old new : LedgerView) → Type 0
+StopsReading = StopsWith Unread
 
 -- What was read is whole records and the one that was being answered, and no byte behind it. What was written is the report on the
 -- whole ones and a prefix of the lines of that one, without its last byte at least. The ledger is as that one left it.
 abbrev pub StopsWriting : (given gives held holds : Option (List ℕ)) → (old new : LedgerView) → Type 0
 StopsWriting = StopsWith BrokenOff
-
--- The same, but all lines of that one were written.
-abbrev pub StopsBehind : (given gives held holds : Option (List ℕ)) → (old new : LedgerView) → Type 0
-StopsBehind = StopsWith Finished
 
 -- so many records were read and answered, and all there were
 abbrev pub AnswersAll : (given gives held holds : Option (List ℕ)) → (old new : LedgerView) → Type 0

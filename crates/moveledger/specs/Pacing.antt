@@ -4,7 +4,7 @@ use Rattle.std.specs.Io.KnownBytes.{Consumes}
 use Rattle.mv_ledger_state.specs.View.{LedgerView}
 use Rattle.moveledger.specs.Records.{Record, AreWhole}
 use Rattle.moveledger.specs.Reading.{IsTaken, IsUnfinished}
-use Rattle.moveledger.specs.Outcome.{left_of, ReadsAll}
+use Rattle.moveledger.specs.Outcome.{left_of, ReadsOn}
 use Rattle.moveledger.specs.Progress.{Progress}
 use Rattle.moveledger.specs.declared.streaming.EngineError.{EngineError}
 use Rattle.moveledger.specs.declared.streaming.EngineError.TheVariants as error
@@ -16,18 +16,19 @@ abbrev pub IsUnanswered : EngineError → List ℕ → List ℕ → Type 0
 IsUnanswered e took left = IsUnfinished took ⊎ ((e ≢ error.Read) × (r : Record) × IsTaken took left r)
 
 -- Of a reader the bytes that are left, of a writer those that it holds, and what is wanted after a record: its number, the reader, what
--- does it and the writer before, how that ended, and both after it. Then what there was to read, what the writer held, and the ledger.
+-- does it and the writer before, how that ended, and both after it. Then how many records were answered before the input, what there was
+-- to read, what the writer held, and the ledger.
 module _ {R W A : Type 0} (left : R → Option (List ℕ)) (held_by : W → Option (List ℕ)) (does : ℕ → R → A → W → Result (Unit {0}) EngineError → A → W → Type 0)
-    (given held : Option (List ℕ)) (ledger : LedgerView) where
+    (before : ℕ) (given held : Option (List ℕ)) (ledger : LedgerView) where
   -- It was done after the record of this number, and ended so. This record and those before it were read then, and no byte behind them;
   -- the writer had all their lines.
   pub record IsDoneAt (n : ℕ) (old : A) (end : Result (Unit {0}) EngineError) (new : A) : Type 0 where
     pub reader : R
-    pub before : W
-    pub after : W
+    pub writer : W
+    pub leaves : W
     pub now : LedgerView
-    pub answered : Progress given (left reader) held (held_by before) ledger now n
-    pub done : does n reader old before end new after
+    pub answered : Progress before given (left reader) held (held_by writer) ledger now n
+    pub done : does n reader old writer end new leaves
 
   -- what is wanted after some record failed with this error
   abbrev pub IsFailed : EngineError → A → Type 0
@@ -36,11 +37,11 @@ module _ {R W A : Type 0} (left : R → Option (List ℕ)) (held_by : W → Opti
   -- it was done after each of so many records, in their order
   abbrev pub IsDoneFor : ℕ → A → A → Type 0
   IsDoneFor zero old new = new ≡ old
-  IsDoneFor (suc n) old new = (mid : A) × IsDoneFor n old mid × IsDoneAt (n + 1) mid (Ok tt) new
+  IsDoneFor (suc n) old new = (mid : A) × IsDoneFor n old mid × IsDoneAt (before + (n + 1)) mid (Ok tt) new
 
-  -- all records were answered, as many as this, and it was done after each that is whole
+  -- all records were answered, up to this one, and it was done after each that is whole
   abbrev pub IsDoneForAll : Option (List ℕ) → ℕ → A → A → Type 0
-  IsDoneForAll gives n old new = (all : ReadsAll given gives n) × IsDoneFor (length all.records) old new
+  IsDoneForAll gives n old new = (all : ReadsOn before given gives n) × IsDoneFor (length all.records) old new
 
   -- It was done after each of some whole records, in their order. Then an error came: of the bytes behind them nothing was answered to
   -- the end; or one more record was, and what is wanted after it failed.
@@ -52,7 +53,7 @@ module _ {R W A : Type 0} (left : R → Option (List ℕ)) (held_by : W → Opti
     pub taken : Consumes given gives (whole ++ took)
     pub read : AreWhole whole records
     pub done : IsDoneFor (length records) old mid
-    pub last : (IsUnanswered e took (left_of gives) × (new ≡ mid)) ⊎ IsDoneAt (length records + 1) mid (Err e) new
+    pub last : (IsUnanswered e took (left_of gives) × (new ≡ mid)) ⊎ IsDoneAt (before + (length records + 1)) mid (Err e) new
 
 -- An end after so many records were answered, and all of them are accounted for; or after an error. A failed write may be either: the
 -- report was made, and couldn't be written out.

@@ -23,9 +23,9 @@ use Rattle.moveledger.specs.declared.ending.End.{End}
 use Rattle.moveledger.specs.declared.ending.End.TheVariants.{Done, Read, Write, Memory, Words, Refused, LoadRefused, TooComplex}
 
 -- the end after the engine's, whose report was written out to the last byte or wasn't
-abbrev pub end_after : Result ℕ EngineError → Bool → End
+abbrev pub end_after : {A : Type 0} → Result A EngineError → Bool → End
 end_after answered false = Write
-end_after (Ok count) true = Done
+end_after (Ok done) true = Done
 end_after (Err error.Read) true = Read
 end_after (Err error.Write) true = Write
 end_after (Err error.Memory) true = Memory

@@ -1,11 +1,10 @@
 // An input whose records are numbered on from those of the inputs before it.
 ghost use Rattle.std.specs.Prelude.{◌≡◌, Err, OnOk, OnErr};
-ghost use Rattle.moveledger.specs.Continuing.{GoesOn, StopsAfter, StopsAfterByLines};
+ghost use Rattle.moveledger.specs.Outcome.{Begun, BegunByLines, BrokenOff, GoesOn, ReadsOn, StopsAfter, StopsAt, Unread};
 
-use crate::answering::{answer, write_reply};
-use crate::reading::{Next, next_record};
-use crate::streaming::EngineError;
-use mv_ledger::{Ledger, Reply};
+use crate::pacing::Gathering;
+use crate::streaming::{EngineError, answer_from};
+use mv_ledger::Ledger;
 use std::io::{Read, Write};
 
 /// Answers the records of an input as `engine` does, but numbers the first one `answered + 1`, and counts each there as
@@ -23,28 +22,19 @@ pub fn answer_on<R: Read, W: Write>(
 ) -> Result<(), EngineError>
     ensures ok { OnOk result (GoesOn answered.old (R.remaining reader.old)
         (W.contents writer.old) (W.contents writer.new) ledger.old ledger.new answered.new) }
-    ensures err { OnErr result (StopsAfter answered.old (R.remaining reader.old)
+    // What was read of it: all there was, up to the end of a cut record.
+    ensures taken { OnOk result (ReadsOn answered.old (R.remaining reader.old) (R.remaining reader.new) answered.new) }
+    ensures err { OnErr result (StopsAfter (StopsAt Begun) answered.old (R.remaining reader.old)
         (R.remaining reader.new) (W.contents writer.old) (W.contents writer.new) ledger.old ledger.new answered.new) }
+    // A failed read: exactly the lines of the records that were read whole.
+    ensures read { result ≡ Err EngineError.Read → StopsAfter Unread answered.old (R.remaining reader.old)
+        (R.remaining reader.new) (W.contents writer.old) (W.contents writer.new) ledger.old ledger.new answered.new }
+    // A failed write: a prefix of the lines of the record that was being answered, and not all of them, and nothing read behind it.
+    ensures write { result ≡ Err EngineError.Write → StopsAfter BrokenOff answered.old (R.remaining reader.old)
+        (R.remaining reader.new) (W.contents writer.old) (W.contents writer.new) ledger.old ledger.new answered.new }
     // Want of memory: whole lines, unless the last record asks for JSON.
-    ensures memory { result ≡ Err EngineError.Memory → StopsAfterByLines answered.old (R.remaining reader.old)
+    ensures memory { result ≡ Err EngineError.Memory → StopsAfter (StopsAt BegunByLines) answered.old (R.remaining reader.old)
         (R.remaining reader.new) (W.contents writer.old) (W.contents writer.new) ledger.old ledger.new answered.new }
 {
-    let alloc = ledger.allocator();
-    // The line of each reply is made in the memory of the one before it.
-    let mut line = Vec::new(alloc);
-    for n in *answered..u64::MAX {
-        match next_record(alloc, reader)? {
-            Next::End => return Ok(()),
-            Next::Cut => {
-                write_reply(alloc, writer, n + 1, Reply::Refused(1), &mut line)?;
-                *answered = n + 1;
-                return Ok(());
-            }
-            Next::Record(kind, payload) => {
-                answer(alloc, writer, ledger, n + 1, kind, &payload, &mut line)?;
-                *answered = n + 1;
-            }
-        }
-    }
-    Ok(())
+    answer_from(reader, writer, ledger, answered, &mut Gathering)
 }

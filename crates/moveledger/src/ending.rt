@@ -33,14 +33,14 @@ pub enum End {
 }
 
 /// How the program ends after the engine. If the report couldn't be flushed, the end is `Write`, whatever the engine returned.
-pub fn end_of(answered: Result<u64, EngineError>, is_flushed: bool) -> End
+pub fn end_of(answered: Result<(), EngineError>, is_flushed: bool) -> End
     ensures { result ≡ end_after answered is_flushed }
 {
     if !is_flushed {
         return End::Write;
     }
     match answered {
-        Ok(_) => End::Done,
+        Ok(()) => End::Done,
         Err(EngineError::Read) => End::Read,
         Err(EngineError::Write) => End::Write,
         Err(EngineError::Memory) => End::Memory,

@@ -45,4 +45,4 @@ pub use pacing::{AfterRecord, Gathering, Prompt};
 pub use proving::prove_text;
 pub use reporting::report;
 pub use saved::{end_of_text, loaded, migrated, text_to_keep};
-pub use streaming::{EngineError, answer_all, engine, one_reading, one_report};
+pub use streaming::{EngineError, answer_from, engine, one_reading, one_report};

@@ -6,7 +6,7 @@ ghost use Rattle.moveledger.specs.Pacing.{EndsBy, IsDoneForAll, IsDoneUntil};
 
 use crate::ending::{End, end_of};
 use crate::pacing::AfterRecord;
-use crate::streaming::answer_all;
+use crate::streaming::answer_from;
 use mv_ledger::Ledger;
 use std::io::{BufWriter, Read, Write};
 
@@ -22,15 +22,16 @@ pub fn report<R: Read, W: Write + Drop, A: AfterRecord<R, BufWriter<W>>>(
         (writer_contents W.contents writer.old) (writer_contents W.contents writer.new) ledger.old ledger.new }
     // What is wanted was done after each whole record that was answered, before anything behind it was read.
     ensures done { EndsBy
-        (λ n. IsDoneForAll R.remaining (writer_contents W.contents) A.does (R.remaining reader.old) (writer_contents W.contents writer.old)
+        (λ n. IsDoneForAll R.remaining (writer_contents W.contents) A.does 0 (R.remaining reader.old) (writer_contents W.contents writer.old)
         ledger.old (R.remaining reader.new) n after.old after.new)
-        (λ e. IsDoneUntil R.remaining (writer_contents W.contents) A.does (R.remaining reader.old) (writer_contents W.contents writer.old)
+        (λ e. IsDoneUntil R.remaining (writer_contents W.contents) A.does 0 (R.remaining reader.old) (writer_contents W.contents writer.old)
         ledger.old (R.remaining reader.new) e after.old after.new)
         result }
     // Unless a write failed, nothing waits to be written.
     ensures flushed { result ≢ End.Write → writer_buffer writer.new ≡ [] }
 {
-    let answered = answer_all(reader, writer, ledger, after);
+    let mut count = 0;
+    let answered = answer_from(reader, writer, ledger, &mut count, after);
     let is_flushed = writer.flush().is_ok();
     end_of(answered, is_flushed)
 }

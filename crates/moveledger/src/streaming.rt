@@ -1,10 +1,11 @@
 // The engine: records in, lines out.
-ghost use Rattle.std.specs.Prelude.{◌≡◌, ◌⊎◌, ℕ, List, [], IfOk, IfErr, Err};
+ghost use Rattle.std.specs.Prelude.{◌≡◌, ◌⊎◌, ℕ, List, [], IfOk, IfErr, OnOk, OnErr, Err};
 ghost use Rattle.moveledger.specs.Records.{Record, AreRecords};
 ghost use Rattle.mv_ledger_state.specs.View.{state_of};
 ghost use Rattle.moveledger.specs.Headline.{Headline, IsAccounted};
 ghost use Rattle.moveledger.specs.OneReport.{OneReport};
-ghost use Rattle.moveledger.specs.Outcome.{ReadsAll, Stops, StopsBehind, StopsByLines, StopsReading, StopsWriting};
+ghost use Rattle.moveledger.specs.Outcome.{ReadsAll, Stops, StopsByLines, StopsReading, StopsWriting};
+ghost use Rattle.moveledger.specs.Outcome.{Begun, BegunByLines, BrokenOff, Finished, GoesOn, ReadsOn, StopsAfter, StopsAt, Unread};
 ghost use Rattle.moveledger.specs.Pacing.{IsDoneForAll, IsDoneUntil, IsFailed};
 
 use crate::answering::{answer, write_reply};
@@ -75,60 +76,71 @@ pub fn engine<R: Read, W: Write>(
 {
     // For the prover: the ledger is sound, before as after.
     ledger.is_sound();
-    let answered = answer_all(reader, writer, ledger, &mut Gathering);
+    let mut answered = 0;
+    let end = answer_from(reader, writer, ledger, &mut answered, &mut Gathering);
     ledger.is_sound();
-    answered
+    match end {
+        Ok(()) => Ok(answered),
+        Err(error) => Err(error),
+    }
 }
 
-/// As `engine`, and calls `after` after each whole record, before the next is read.
+/// Answers the records of an input, each before the next is read, and numbers the first one `answered + 1`: the one loop of
+/// `engine`, `report` and `answer_on`. A record's lines are handed to the writer, and then `after` is called, before the next
+/// record is read. A whole record counts in `answered` once `after` went well, and a cut one at the end once its line is written.
 ///
 /// # Errors
 ///
 /// As `engine`; and `Write` if `after` fails.
-pub fn answer_all<R: Read, W: Write, A: AfterRecord<R, W>>(
+pub fn answer_from<R: Read, W: Write, A: AfterRecord<R, W>>(
     reader: &mut R,
     writer: &mut W,
     ledger: &mut Ledger,
+    answered: &mut u64,
     after: &mut A,
-) -> Result<u64, EngineError>
-    ensures ok { IfOk result (λ n. Headline (R.remaining reader.old)
-        (W.contents writer.old) (W.contents writer.new) ledger.old ledger.new n) }
-    ensures taken { IfOk result (λ n. ReadsAll (R.remaining reader.old) (R.remaining reader.new) n) }
-    ensures err { IfErr result (λ _. Stops (R.remaining reader.old)
-        (R.remaining reader.new) (W.contents writer.old) (W.contents writer.new) ledger.old ledger.new) }
-    ensures read { result ≡ Err EngineError.Read → StopsReading (R.remaining reader.old)
-        (R.remaining reader.new) (W.contents writer.old) (W.contents writer.new) ledger.old ledger.new }
-    // A failed write: as with `engine`; or all lines were written, and what is wanted after them failed.
-    ensures write { result ≡ Err EngineError.Write → StopsWriting (R.remaining reader.old)
-        (R.remaining reader.new) (W.contents writer.old) (W.contents writer.new) ledger.old ledger.new
-        ⊎ (StopsBehind (R.remaining reader.old) (R.remaining reader.new) (W.contents writer.old) (W.contents writer.new) ledger.old ledger.new
-        × IsFailed R.remaining W.contents A.does (R.remaining reader.old) (W.contents writer.old) ledger.old EngineError.Write after.new) }
-    ensures memory { result ≡ Err EngineError.Memory → StopsByLines (R.remaining reader.old)
-        (R.remaining reader.new) (W.contents writer.old) (W.contents writer.new) ledger.old ledger.new }
+) -> Result<(), EngineError>
+    // As the clauses of `engine`, by numbers that go on.
+    ensures ok { OnOk result (GoesOn answered.old (R.remaining reader.old)
+        (W.contents writer.old) (W.contents writer.new) ledger.old ledger.new answered.new) }
+    ensures taken { OnOk result (ReadsOn answered.old (R.remaining reader.old) (R.remaining reader.new) answered.new) }
+    ensures err { OnErr result (StopsAfter (StopsAt Begun) answered.old (R.remaining reader.old)
+        (R.remaining reader.new) (W.contents writer.old) (W.contents writer.new) ledger.old ledger.new answered.new) }
+    ensures read { result ≡ Err EngineError.Read → StopsAfter Unread answered.old (R.remaining reader.old)
+        (R.remaining reader.new) (W.contents writer.old) (W.contents writer.new) ledger.old ledger.new answered.new }
+    // A failed write: a prefix of a record's lines, and not all of them; or all were written, and what is wanted after them failed.
+    ensures write { result ≡ Err EngineError.Write → StopsAfter BrokenOff answered.old (R.remaining reader.old)
+        (R.remaining reader.new) (W.contents writer.old) (W.contents writer.new) ledger.old ledger.new answered.new
+        ⊎ (StopsAfter Finished answered.old (R.remaining reader.old)
+        (R.remaining reader.new) (W.contents writer.old) (W.contents writer.new) ledger.old ledger.new answered.new
+        × IsFailed R.remaining W.contents A.does answered.old (R.remaining reader.old) (W.contents writer.old) ledger.old EngineError.Write after.new) }
+    ensures memory { result ≡ Err EngineError.Memory → StopsAfter (StopsAt BegunByLines) answered.old (R.remaining reader.old)
+        (R.remaining reader.new) (W.contents writer.old) (W.contents writer.new) ledger.old ledger.new answered.new }
     // What is wanted was done after each whole record, before anything behind it was read, and with all lines up to its own written.
-    ensures done { IfOk result (λ n. IsDoneForAll R.remaining W.contents A.does (R.remaining reader.old) (W.contents writer.old)
-        ledger.old (R.remaining reader.new) n after.old after.new) }
+    ensures done { OnOk result (IsDoneForAll R.remaining W.contents A.does answered.old (R.remaining reader.old) (W.contents writer.old)
+        ledger.old (R.remaining reader.new) answered.new after.old after.new) }
     // Whatever the error: it was done after each record before it.
-    ensures until { IfErr result (λ e. IsDoneUntil R.remaining W.contents A.does (R.remaining reader.old) (W.contents writer.old)
+    ensures until { IfErr result (λ e. IsDoneUntil R.remaining W.contents A.does answered.old (R.remaining reader.old) (W.contents writer.old)
         ledger.old (R.remaining reader.new) e after.old after.new) }
 {
     let alloc = ledger.allocator();
     // The line of each reply is made in the memory of the one before it.
     let mut line = Vec::new(alloc);
-    for n in 0..u64::MAX {
+    for n in *answered..u64::MAX {
         match next_record(alloc, reader)? {
-            Next::End => return Ok(n),
+            Next::End => return Ok(()),
             Next::Cut => {
                 write_reply(alloc, writer, n + 1, Reply::Refused(1), &mut line)?;
-                return Ok(n + 1);
+                *answered = n + 1;
+                return Ok(());
             }
             Next::Record(kind, payload) => {
                 answer(alloc, writer, ledger, n + 1, kind, &payload, &mut line)?;
                 after.answered(n + 1, reader, writer)?;
+                *answered = n + 1;
             }
         }
     }
-    Ok(u64::MAX)
+    Ok(())
 }
 
 /// An input is one list of records.

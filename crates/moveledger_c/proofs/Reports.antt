@@ -4,8 +4,7 @@ use Rattle.std.proofs.KnownBytes.{Consumes-nil, Appends-nil}
 use Rattle.std.specs.Io.KnownBytes.{Appends}
 use Rattle.std.specs.Global.{Vec}
 use Rattle.mv_ledger_state.specs.View.{LedgerView}
-use Rattle.moveledger.specs.Continuing.{StopsAfter}
-use Rattle.moveledger.specs.Outcome.{part_of_a_record}
+use Rattle.moveledger.specs.Outcome.{Begun, StopsAfter, StopsAt, part_of_a_record}
 use Rattle.moveledger.specs.Proving.{IsAcceptedBack, IsProvedBy}
 use Rattle.moveledger.specs.Reading.{at_kind}
 use Rattle.moveledger_c.specs.Calls.{payload_of, IsProved}
@@ -20,7 +19,7 @@ payload_of-none (suc (suc n)) a b = refl
 
 -- no record was answered
 
-pub StopsAfter-none : (before : ℕ) (records had has : List ℕ) (l : LedgerView) → had ≡ [] → has ≡ [] → StopsAfter before (Some records) (Some records) (Some had) (Some has) l l before
+pub StopsAfter-none : (before : ℕ) (records had has : List ℕ) (l : LedgerView) → had ≡ [] → has ≡ [] → StopsAfter (StopsAt Begun) before (Some records) (Some records) (Some had) (Some has) l l before
 StopsAfter-none before records had has l a b = record {
   whole = [];
   took = [];

@@ -16,7 +16,7 @@ use Rattle.mv_lines.specs.LinesView.{ended}
 use Rattle.mv_ledger_state.specs.Loading.{FailsLoad, IsLoaded}
 use Rattle.mv_ledger_state.specs.View.{LedgerView, empty_view, state_of}
 use Rattle.moveledger.specs.Checking.{IsAccepted, IsRefusedText}
-use Rattle.moveledger.specs.Continuing.{GoesOn, StopsAfter}
+use Rattle.moveledger.specs.Outcome.{Begun, GoesOn, StopsAfter, StopsAt}
 use Rattle.moveledger.specs.Proving.{FailsProof, IsAcceptedBack, IsComplexText, IsProvedBy}
 use Rattle.moveledger.specs.Saved.{IsMigrated}
 use Rattle.moveledger_c.specs.Statuses.{done, refused, load_refused, too_complex, memory, arguments}
@@ -36,7 +36,7 @@ abbrev pub IsApplied : List ℕ → ℤ → (before after : ℕ) → (old new : 
 IsApplied records status before after None new had has = (status ≡ arguments) × (after ≡ before) × (new ≡ None) × (has ≡ had)
 IsApplied records status before after (Some l) new had has = (m : LedgerView) × (new ≡ Some m)
     × (((status ≡ done) × GoesOn before (Some records) (Some had) (Some has) l m after)
-    ⊎ ((status ≡ memory) × (left : List ℕ) × StopsAfter before (Some records) (Some left) (Some had) (Some has) l m after))
+    ⊎ ((status ≡ memory) × (left : List ℕ) × StopsAfter (StopsAt Begun) before (Some records) (Some left) (Some had) (Some has) l m after))
 
 -- a text of the ledger that is held is given, or memory ran out; with no ledger nothing is
 abbrev pub IsOfHeld : (LedgerView → List ℕ → Type 0) → Option LedgerView → ℤ → List ℕ → Type 0

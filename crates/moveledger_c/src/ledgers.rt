@@ -3,7 +3,7 @@ ghost use Rattle.std.specs.Prelude.{◌≡◌, ◌⊎◌, Some, None, Ok, MatchO
 ghost use Rattle.std.specs.Global.{Global};
 ghost use Rattle.mv_ledger_state.specs.SavedText.{IsSavedText, Second};
 ghost use Rattle.mv_ledger_state.specs.View.{state_of};
-ghost use Rattle.moveledger.specs.Continuing.{GoesOn, StopsAfter};
+ghost use Rattle.moveledger.specs.Outcome.{Begun, GoesOn, StopsAfter, StopsAt};
 ghost use Rattle.moveledger_c.specs.Calls.{IsNew, IsLoadedAs, IsApplied, IsOfHeld, IsReported, payload_of};
 ghost use Rattle.moveledger_c.specs.Statuses.{done, memory};
 
@@ -121,7 +121,7 @@ fn answer_into(
 ) -> Result<(), EngineError>
     ensures ok { OnOk result (GoesOn answered.old (Some left.old.now) (Some text.old.items) (Some text.new.items)
         ledger.old ledger.new answered.new) }
-    ensures err { OnErr result (StopsAfter answered.old (Some left.old.now) (Some left.new.now)
+    ensures err { OnErr result (StopsAfter (StopsAt Begun) answered.old (Some left.old.now) (Some left.new.now)
         (Some text.old.items) (Some text.new.items) ledger.old ledger.new answered.new) }
 {
     answer_on(left, text, ledger, answered)

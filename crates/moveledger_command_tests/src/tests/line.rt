@@ -117,7 +117,7 @@ fn ends_follow_what_a_command_made(rt: HostRuntime) {
 #[test]
 fn lost_reports_are_failed_writes(rt: HostRuntime) {
     for (answered, wanted) in [
-        (Ok(3), End::Done),
+        (Ok(()), End::Done),
         (Err(EngineError::Read), End::Read),
         (Err(EngineError::Write), End::Write),
         (Err(EngineError::Memory), End::Memory),

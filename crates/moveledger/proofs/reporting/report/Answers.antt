@@ -4,8 +4,8 @@ use Rattle.moveledger.proofs.reporting.report.Goals as goal
 
 pub returns-clause-ends : goal.returns-clause-ends
 returns-clause-ends g c =
-    rw (c.end_of.ensures) (ends_after c.answer_all-answered.result c.is_ok-is_flushed.result _ _ _ _ _ _ _ c.answer_all-answered.ensures.ok c.answer_all-answered.ensures.taken c.answer_all-answered.ensures.err c.answer_all-answered.ensures.read c.answer_all-answered.ensures.memory c.flush.ensures.bytes)
+    rw (c.end_of.ensures) (ends_after c.answer_from-answered.new.answered c.answer_from-answered.result c.is_ok-is_flushed.result _ _ _ _ _ _ _ c.answer_from-answered.ensures.ok c.answer_from-answered.ensures.taken c.answer_from-answered.ensures.err c.answer_from-answered.ensures.read c.answer_from-answered.ensures.memory c.flush.ensures.bytes)
 
 pub returns-clause-done : goal.returns-clause-done
 returns-clause-done g c =
-    rw (c.end_of.ensures) (ends_by _ _ c.answer_all-answered.result c.is_ok-is_flushed.result c.answer_all-answered.ensures.done c.answer_all-answered.ensures.until)
+    rw (c.end_of.ensures) (ends_by _ _ c.answer_from-answered.new.answered c.answer_from-answered.result c.is_ok-is_flushed.result c.answer_from-answered.ensures.done c.answer_from-answered.ensures.until)

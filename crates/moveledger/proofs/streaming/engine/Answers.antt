@@ -1,24 +1,41 @@
-use Rattle.std.proofs.Common.{◌≡◌, ◌⊎◌, Result, Err, Ok, inl, inr, refl}
+use Rattle.std.proofs.Common.{◌≡◌, Err, ap}
+use Rattle.std.proofs.KnownBytes.{Keeps-refl}
 use Rattle.mv_ledger_state.specs.View.{state_of}
-use Rattle.moveledger.specs.declared.streaming.EngineError.{EngineError}
-use Rattle.moveledger.specs.declared.streaming.EngineError.TheVariants.{Write}
+use Rattle.moveledger.specs.declared.streaming.EngineError.TheVariants.{Read, Write, Memory}
+use Rattle.moveledger.proofs.AfterRecords.{never-failed}
+use Rattle.moveledger.proofs.Endings.{Headline-kept}
 use Rattle.moveledger.proofs.HeadlineLemmas.{is_accounted}
 use Rattle.moveledger.proofs.streaming.engine.Goals as goal
 
--- of two things the first holds where the second can't
-only-first : {A B : Type 0} → (B → ⊥) → A ⊎ B → A
-only-first never (inl a) = a
-only-first never (inr b) = absurd (never b)
+pub returns-in-Ok-clause-ok : goal.returns-in-Ok-clause-ok
+returns-in-Ok-clause-ok g c = Headline-kept _ _ _ _ _ _ _ c.in-Ok.ensures.ok (Keeps-refl _)
 
--- what never fails has no error
-no-error : (e : EngineError) (end : Result (Unit {0}) EngineError) → end ≡ Err e → end ≡ Ok tt → ⊥
-no-error e end failed well = cc
+pub returns-in-Err-clause-err : goal.returns-in-Err-clause-err
+returns-in-Err-clause-err g c = (c.answer_from-end.new.answered, c.in-Err.ensures.err)
 
-pub returns-clause-write : goal.returns-clause-write
-returns-clause-write g c failed = only-first (λ behind. no-error Write (Err Write) refl behind.1.2.done) (c.answer_all-answered.ensures.write failed)
+pub returns-in-Err-clause-read : goal.returns-in-Err-clause-read
+returns-in-Err-clause-read g c failed =
+    let same : c.in-Err.error ≡ Read = cc in
+    (c.answer_from-end.new.answered, c.in-Err.ensures.read (ap (λ z. Err z) same))
 
-pub returns-clause-began : goal.returns-clause-began
-returns-clause-began g c = is_accounted (state_of c.args.ledger.now) c.is_sound.ensures
+pub returns-in-Err-clause-write : goal.returns-in-Err-clause-write
+returns-in-Err-clause-write g c failed =
+    let same : c.in-Err.error ≡ Write = cc in
+    (c.answer_from-end.new.answered, never-failed (c.in-Err.ensures.write (ap (λ z. Err z) same)))
 
-pub returns-clause-accounted : goal.returns-clause-accounted
-returns-clause-accounted g c = is_accounted (state_of c.answer_all-answered.new.ledger) c.is_sound-2.ensures
+pub returns-in-Err-clause-memory : goal.returns-in-Err-clause-memory
+returns-in-Err-clause-memory g c failed =
+    let same : c.in-Err.error ≡ Memory = cc in
+    (c.answer_from-end.new.answered, c.in-Err.ensures.memory (ap (λ z. Err z) same))
+
+pub returns-in-Ok-clause-began : goal.returns-in-Ok-clause-began
+returns-in-Ok-clause-began g c = is_accounted (state_of c.args.ledger.now) c.is_sound.ensures
+
+pub returns-in-Ok-clause-accounted : goal.returns-in-Ok-clause-accounted
+returns-in-Ok-clause-accounted g c = is_accounted (state_of c.answer_from-end.new.ledger) c.is_sound-2.ensures
+
+pub returns-in-Err-clause-began : goal.returns-in-Err-clause-began
+returns-in-Err-clause-began g c = is_accounted (state_of c.args.ledger.now) c.is_sound.ensures
+
+pub returns-in-Err-clause-accounted : goal.returns-in-Err-clause-accounted
+returns-in-Err-clause-accounted g c = is_accounted (state_of c.answer_from-end.new.ledger) c.is_sound-2.ensures
