@@ -1,13 +1,10 @@
 -- What an entry of a report in JSON sends to a serializer (why an entry at a time: decision 33).
 --   members_of                   texts under their keys, as data that is sent
 --   texts_of, texts_data         three texts by the keys of a stored value's, and the object that they make
---   entry_texts, entry_data      a stored value: its texts by key, and the object that they make
---   count_texts, count_data      the same of a struct's counts
+--   count_texts, count_data      a struct's counts: their texts by key, and the object that they make
 use Rattle.std.specs.Prelude.{ℕ, List, [], ◌∷◌, codes, decimal}
 use Rattle.serde_json.specs.Data.{Data, string, object, Members, no_members, member}
-use Rattle.mv_move_types.specs.Module.{Module}
-use Rattle.mv_machine.specs.State.{Entry}
-use Rattle.mv_machine.specs.Lines.{Tallied, address_text, key_text, struct_text, value_text}
+use Rattle.mv_machine.specs.Lines.{Tallied, struct_text}
 use Rattle.mv_lines.specs.Auditing.{stored_of}
 
 -- texts under their keys
@@ -21,13 +18,6 @@ texts_of address name value = (codes "address", address) ∷ (codes "struct", na
 
 abbrev pub texts_data : List ℕ → List ℕ → List ℕ → Data
 texts_data address name value = object (members_of (texts_of address name value))
-
--- the texts of a stored value
-abbrev pub entry_texts : List Module → Entry → List (List ℕ × List ℕ)
-entry_texts modules e = texts_of (address_text e.key.address) (key_text modules e.key) (value_text e.value)
-
-abbrev pub entry_data : List Module → Entry → Data
-entry_data modules e = object (members_of (entry_texts modules e))
 
 -- the texts of a struct's counts
 abbrev pub count_texts : Tallied → List (List ℕ × List ℕ)

@@ -3,8 +3,16 @@ use Rattle.std.specs.List.{slice_range}
 use Rattle.std.proofs.Math.Seq.{drop-append_seam, take-append_seam}
 use Rattle.mv_lines.proofs.Common.{◌++◌, ◌-◌, ◌∙◌, ◌≡◌, Entry, IsPlain, IsStore, List, Module, PublishedModule, ap, append_assoc, arith, drop, key_text, length, length-append, tables_in, take, value_text, ℕ}
 use Rattle.mv_machine.specs.Lines.{address_text}
-use Rattle.mv_lines.specs.Sending.{entry_data, texts_data}
+use Rattle.serde_json.specs.Data.{Data, object}
+use Rattle.mv_lines.specs.Sending.{members_of, texts_data, texts_of}
 use Rattle.mv_lines.proofs.Shows.Names.{plain-address, plain-append, plain-key, plain-value}
+
+-- by key, and the object that they make
+abbrev pub entry_texts : List Module → Entry → List (List ℕ × List ℕ)
+entry_texts modules e = texts_of (address_text e.key.address) (key_text modules e.key) (value_text e.value)
+
+abbrev pub entry_data : List Module → Entry → Data
+entry_data modules e = object (members_of (entry_texts modules e))
 
 -- they are plain
 pub plain-texts : (published : List PublishedModule) → IsStore published → (e : Entry) → IsPlain (address_text e.key.address ++ key_text (tables_in published) e.key ++ value_text e.value)

@@ -6,11 +6,12 @@ use Rattle.mv_lines.proofs.Common.{entry_object, false, false≢true, first_so, 
 use Rattle.mv_lines.specs.Pieces.{TakesPiece, json_left}
 use Rattle.mv_machine.specs.Lines.{address_text, struct_text}
 use Rattle.mv_lines.specs.Plain.{ArePlain}
-use Rattle.mv_lines.specs.Sending.{count_texts, entry_texts}
+use Rattle.mv_lines.specs.Sending.{count_texts}
 use Rattle.mv_lines.specs.declared.json_pieces.Place.{Place}
 use Rattle.mv_lines.specs.declared.json_pieces.Place.TheVariants.{Entries}
 use Rattle.mv_lines.proofs.Shows.Names.{IsPlainStruct, plain-address, plain-decimal, plain-key, plain-value}
 use Rattle.mv_lines.proofs.Shows.Objects.{IsPlainMember}
+use Rattle.mv_lines.proofs.Shows.Parted.{entry_texts}
 
 -- ---- the texts of an entry are plain
 

@@ -2,9 +2,9 @@ use Rattle.mv_lines.proofs.Common.{[], ◌∙◌, ◌≡◌, Entry, IsPlain, Lis
 use Rattle.serde_json.proofs.FreeTexts.{text_of_value}
 use Rattle.serde_json.specs.Data.{Data}
 use Rattle.serde_json.specs.Events.{SendsValue}
-use Rattle.mv_lines.specs.Sending.{entry_data, entry_texts, texts_data}
+use Rattle.mv_lines.specs.Sending.{texts_data}
 use Rattle.mv_lines.proofs.Shows.Objects.{members_whole, object_text}
-use Rattle.mv_lines.proofs.Shows.Parted.{plain-texts, same-entry}
+use Rattle.mv_lines.proofs.Shows.Parted.{entry_data, entry_texts, plain-texts, same-entry}
 use Rattle.mv_lines.proofs.Shows.Pieces.{plain-entry}
 use Rattle.mv_lines.proofs.json_pieces.entry_json.Goals as goal
 
