@@ -173,9 +173,7 @@ class Runs(unittest.TestCase):
     def signalled(self, run: "subprocess.Popen[bytes]", *numbers: int, apart: float = 0.3) -> Tuple[int, bytes, bytes]:
         """How it ends by signals while its input stays open."""
         self.send_once_begun(run, *numbers, apart=apart)
-        status = run.wait(30)
-        assert run.stdout is not None and run.stderr is not None
-        return status, run.stdout.read(), run.stderr.read()
+        return ended(run)
 
     def test_all_of_an_input_that_ends_is_handed_on(self) -> None:
         whole = b"".join(record(size) for size in (0, 5, 127, 128, 70_000, 3, 4_096, 300_000)) + 3_000 * record(40)
@@ -203,8 +201,8 @@ class Runs(unittest.TestCase):
                 self.assertEqual(self.ended(self.program(commands), *APPLY, data=100_000 * record(5)), (status, b"", b""))
 
     def test_a_program_that_ends_by_itself_ends_it_too(self) -> None:
-        run = self.started(self.program("sleep 0.3; exit 4"), *APPLY)
-        self.assertEqual(self.signalled(run), (4, b"", b""))
+        run = self.started(self.program("exit 4"), *APPLY)
+        self.assertEqual(ended(run), (4, b"", b""))
 
     def test_only_whole_records_are_handed_on_before_a_signal(self) -> None:
         rows = (signal.SIGTERM, b""), (signal.SIGINT, b"\2"), (signal.SIGHUP, b"\2\x05abc"), (signal.SIGTERM, b"\2\x80")
@@ -212,7 +210,10 @@ class Runs(unittest.TestCase):
             with self.subTest(f"{number.name} {rest.hex()}"):
                 run = self.started(self.program(COPIES), *APPLY)
                 send(run, record(5) + record(200) + rest)
-                self.assertEqual(self.signalled(run, number), (128 + number, record(5) + record(200), told(number)))
+                assert run.stdout is not None
+                self.assertEqual(run.stdout.read(209), record(5) + record(200))
+                run.send_signal(number)
+                self.assertEqual(ended(run), (128 + number, b"", told(number)))
 
     def test_the_record_that_is_being_handed_on_comes_whole(self) -> None:
         run = self.started(self.program("sleep 2; cat"), *APPLY)
@@ -242,7 +243,7 @@ class Runs(unittest.TestCase):
         self.assertEqual((status, printed, said), (137, b"", first + second))
 
     def test_a_second_signal_at_once_is_the_first(self) -> None:
-        run = self.started(self.program("cat > /dev/null; sleep 0.3"), *APPLY)
+        run = self.started(self.program("cat > /dev/null; sleep 0.1"), *APPLY)
         self.assertEqual(self.signalled(run, *3 * [signal.SIGTERM], apart=0), (143, b"", told(signal.SIGTERM)))
 
     def test_signals_to_the_program_alone_do_nothing(self) -> None:
@@ -265,7 +266,7 @@ class Runs(unittest.TestCase):
         for number in ENDS:
             with self.subTest(number.name):
                 run = self.started(self.program(COPIES), *APPLY, preexec_fn=lambda: pending(number))
-                self.assertEqual(self.signalled(run), (128 + number, b"", told(number)))
+                self.assertEqual(ended(run), (128 + number, b"", told(number)))
                 words = self.program("sleep 1"), "apply", "file"
                 self.assertEqual(self.ended(*words, preexec_fn=lambda: pending(number)), (-number, b"", b""))
 
@@ -313,6 +314,13 @@ class Runs(unittest.TestCase):
         self.assertEqual((run.communicate(timeout=20)[0], run.returncode), (record(5), 143))
         os.close(read)
         os.close(write)
+
+
+def ended(run: "subprocess.Popen[bytes]") -> Tuple[int, bytes, bytes]:
+    """How it ends while its input stays open: its status, and what more is printed and said."""
+    status = run.wait(30)
+    assert run.stdout is not None and run.stderr is not None
+    return status, run.stdout.read(), run.stderr.read()
 
 
 def send(run: "subprocess.Popen[bytes]", data: bytes) -> None:

@@ -96,9 +96,9 @@ class Ledgers(unittest.TestCase):
         self.assertEqual([Structs(every).leaves(len(every) - 1, 0) for every in ([other], [module, other])], [None, [2, 3]])
 
     def test_structs_without_end_have_no_leaves(self) -> None:
-        for text in ("struct A has drop { a: A }", "struct B has drop { a: A } struct A has drop { b: B }",
-                     " ".join(f"struct S{at} has drop {{ a: S{at + 1}, b: S{at + 1} }}" for at in range(14)) + " struct S14 has drop { v: u8 }"):
-            module = read_module(assemble(f"module 0x1::M {{ {text.replace(' struct', chr(10) + 'struct')} }}")).module
+        wide = "".join(f"struct S{at} has drop {{ a: S{at + 1}, b: S{at + 1} }}\n" for at in range(14)) + "struct S14 has drop { v: u8 }"
+        for text in "struct A has drop { a: A }", "struct B has drop { a: A }\nstruct A has drop { b: B }", wide:
+            module = read_module(assemble(f"module 0x1::M {{ {text} }}")).module
             self.assertIsNone(Structs([module]).leaves(0, 0), text)
         deep = "\n".join(f"struct S{at} has drop {{ a: S{at + 1} }}" for at in range(9)) + "\nstruct S9 has drop { v: u8 }"
         self.assertEqual(Structs([read_module(assemble(f"module 0x1::M {{ {deep} }}")).module]).leaves(0, 0), [2])
