@@ -211,7 +211,7 @@ class Runs(unittest.TestCase):
                 run = self.started(self.program(COPIES), *APPLY)
                 send(run, record(5) + record(200) + rest)
                 assert run.stdout is not None
-                self.assertEqual(run.stdout.read(209), record(5) + record(200))
+                self.assertEqual(run.stdout.read(210), record(5) + record(200))
                 run.send_signal(number)
                 self.assertEqual(ended(run), (128 + number, b"", told(number)))
 

@@ -50,7 +50,8 @@ class Mutants(unittest.TestCase):
             "12: and -> or", "13: not b -> b", "14: a in (1, 2) -> not (a in (1, 2))", "14: in -> not in", "14: 1 -> 0", "14: 1 -> 2",
             "14: 2 -> 1", "14: 2 -> 3", "15: a != LIMIT -> False", "15: a != LIMIT -> True", "15: != -> ==", "16: 1 -> 0", "16: 1 -> 2",
             '17: d.startswith("y") or d is None -> False', '17: d.startswith("y") or d is None -> True', "17: \"y\" -> 'y?'",
-            "17: or -> and", "17: is -> is not", "18: break -> continue", '19: say(f"{a + 1} of {c}", "3 more") -> None', "20: False -> True"])
+            "17: or -> and", "17: is -> is not", "18: break -> continue", '19: say(f"{a + 1} of {c}", "3 more") -> None',
+            "20: False -> True"])
 
     def test_a_test_reaches_the_lines_of_a_statement(self) -> None:
         lines = {it.line: it.lines for it in mutants_of("it.py", SOURCE.encode())}
