@@ -38,7 +38,7 @@ NAMES_ON_TOP: Dict[Optional[int], str] = {
     model.MUTABLE: "StLoc StLoc StLoc StLoc MutBorrowField MutBorrowField MutBorrowField ImmBorrowField ReadRef WriteRef "
                    "WriteRef FreezeRef Call Call Pop",
 }
-NAMES_ON_NUMBER = ("Add Sub Mul Mod Div BitOr BitAnd Xor Eq Neq Lt Gt Le Ge Shl Shr CastU8 CastU64 CastU32 Abort "
+NAMES_ON_NUMBER = ("Add Sub Mul Mod Div BitOr BitAnd Xor Eq Neq Lt Gt Le Ge Shl Shr CastU8 CastU16 CastU32 CastU64 CastU128 Abort "
                    "StLoc StLoc StLoc Pop Pop Pack Pack Pack Pack Pack Call Call Call")
 NAMES_CLEARING = "StLoc StLoc Pop Unpack WriteRef MoveTo"
 
