@@ -279,7 +279,7 @@ class Assembler:
         place = places.get(path.field.text)
         if place is None:
             raise Unknown(path.field.at, unknown("field", path.field.text, places, f" in `{entry_text(path.struct)}`"), [],
-                          f"its fields are {', '.join(f'`{one}`' for one in places)}" if places else "")
+                          f"its fields are {', '.join(f'`{one}`' for one in sorted(places, key=places.__getitem__))}" if places else "")
         return model.FieldHandle(struct, place)
 
     # Functions.

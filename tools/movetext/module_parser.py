@@ -312,12 +312,12 @@ class ModuleParser(TableParser):
 
     def outside(self, word: str) -> NoReturn:
         """Fails at an instruction or a label that stands in no function."""
-        notes = []
-        if self.closed and word:
+        notes, help = [], "write it within a function, as `f() { Ret }`"
+        if self.closed:
             notes = [Note(self.starts[self.closed[-1][1]], "the block before it ends here")]
+            help = "if a function is to go on here, take the `}` before it out"
         if self.whole_functions:
             # Its labels may stand behind the brace.
             self.whole_functions[-1].is_broken = True
         self.is_unbalanced = True
-        self.fail(f"`{word}` stands outside of a function", self.starts[self.at - 1],
-                  "if a function is to go on here, take the `}` before it out", notes)
+        self.fail(f"`{word}` stands outside of a function", self.starts[self.at - 1], help, notes)

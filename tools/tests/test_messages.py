@@ -65,9 +65,9 @@ class Rules(unittest.TestCase):
 
 class Failures(unittest.TestCase):
     def test_the_first_of_all_failures_is_the_verdict(self) -> None:
-        draw = random.Random("failures")
+        draw = random.Random("failures of functions")
         kinds: Set[Optional[int]] = set()
-        for number in range(120):
+        for number in range(160):
             module = random_typed_module(draw, (bytes(16), f"M{number}"), errors=0.15, needs=0.1) if number % 2 else random_module(draw, False)
             data = write_module(module)
             data = altered(draw, data) if number % 3 == 0 else data
