@@ -6,11 +6,13 @@ from collections import Counter
 from typing import Dict, List, Optional, Set
 
 from movetext import model
+from movetext.disassembler import MODULE, disassemble
 from movetext.explain.verdict import explain_module
 from movetext.ledgers import read_ledger
 from movetext.limits import INDEX
 from movetext.model import Audit, Module, Publish, RawRecord, Run, Show
 from movetext.opcodes import OPCODES
+from movetext.printer import OTHER_ORDER
 from movetext.random_borrows import CALLS, LOCALS, random_borrowing_text
 from movetext.random_code import BEGINNING, CLEARING, ON_NUMBER, ON_TOP, random_typed_module
 from movetext.random_modules import LEAVES, ODD_NAMES, random_ledger, random_module, random_name, random_stream, random_value
@@ -106,6 +108,22 @@ class Modules(unittest.TestCase):
         self.assertTrue({name for module in modules for name in module.identifiers} & set(ODD_NAMES))
         sizes = [sum(len(it.code) for it in random_module(draw, size=size).functions) for size in (1, 20)]
         self.assertGreater(sizes[1], sizes[0])
+
+
+    def test_what_is_printed_of_any_module_makes_its_bytes(self) -> None:
+        draw = random.Random("printed")
+        others = 0
+        for number in range(90):
+            data = write_module(random_module(draw, number % 3 > 0))
+            reading, text = read_module(data), disassemble(data, MODULE).text
+            again = assemble(text)
+            self.assertEqual(disassemble(again, MODULE).text.replace(OTHER_ORDER + "\n", ""), text.replace(OTHER_ORDER + "\n", ""))
+            self.assertEqual(text.startswith(OTHER_ORDER), reading.is_module and not reading.is_in_order)
+            if text.startswith(OTHER_ORDER):
+                others += 1
+            else:
+                self.assertEqual(again, data)
+        self.assertLess(others, 45)
 
 
 class Typed(unittest.TestCase):
