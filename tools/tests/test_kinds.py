@@ -30,8 +30,8 @@ class Kinds(unittest.TestCase):
     def test_texts(self) -> None:
         letter = "\u20ac".encode()
         rows: List[Tuple[bytes, bool]] = [
-            (b"show\n", True), (b"", False), (b" \n", False), (b"a\0", False), (b"a\x7f", False), (b"a\x1f", False), (b"a\tb\r\n\x0c", True),
-            (letter, True), (letter[:2], False), (b"\xff", False), (b"a" * FRONT + b"\xff", True), (b"a" * (FRONT - 1) + letter, True),
+            (b"show\n", True), (b"", False), (b" \n", False), (b"a\0", False), (b"a\x7f", False), (b"a\x1f", False),
+            (b"a\tb\r\n\x0c", True), (letter, True), (letter[:2], False), (b"\xff", False), (b"a" * FRONT + b"\xff", True), (b"a" * (FRONT - 1) + letter, True),
             (b"a" * (FRONT - 2) + letter, True), (b"a" * (FRONT - 2) + letter[:2], False), (b"a" * (FRONT - 4) + b"\xff" + b"a" * 9, False),
         ]
         for data, wanted in rows:
@@ -64,8 +64,10 @@ class Faults(unittest.TestCase):
 
 class Counts(unittest.TestCase):
     def test_percentages_and_ranges(self) -> None:
-        self.assertEqual([percent(*it) for it in ((0, 0), (0, 3), (1, 3), (199, 200), (200, 200))], ["none", "0 %", "33 %", "99 %", "100 %"])
-        rows = [([], ""), ([3], "3"), ([3, 4], "3-4"), ([1, 3, 4, 5, 7], "1, 3-5, 7"),
+        found = [percent(*it) for it in ((0, 0), (0, 3), (1, 3), (199, 200), (200, 200))]
+        self.assertEqual(found, ["none", "0 %", "33 %", "99 %", "100 %"])
+        rows: List[Tuple[List[int], str]] = [
+            ([], ""), ([3], "3"), ([3, 4], "3-4"), ([1, 3, 4, 5, 7], "1, 3-5, 7"),
                 (list(range(1, 40, 2)), "1, 3, 5, 7, 9, 11, 13, 15, 17, 19, 21, 23 and 8 more")]
         self.assertEqual([ranges(numbers) for numbers, _ in rows], [told for _, told in rows])
 
