@@ -31,8 +31,8 @@ class Kinds(unittest.TestCase):
         letter = "\u20ac".encode()
         rows: List[Tuple[bytes, bool]] = [
             (b"show\n", True), (b"", False), (b" \n", False), (b"a\0", False), (b"a\x7f", False), (b"a\x1f", False),
-            (b"a\tb\r\n\x0c", True), (letter, True), (letter[:2], False), (b"\xff", False), (b"a" * FRONT + b"\xff", True), (b"a" * (FRONT - 1) + letter, True),
-            (b"a" * (FRONT - 2) + letter, True), (b"a" * (FRONT - 2) + letter[:2], False), (b"a" * (FRONT - 4) + b"\xff" + b"a" * 9, False),
+            (b"a\tb\r\n\x0c", True), (letter, True), (letter[:2], False), (b"\xff", False), (b"a" * FRONT + b"\xff", True),
+            (b"a" * (FRONT - 1) + letter, True), (b"a" * (FRONT - 2) + letter, True), (b"a" * (FRONT - 2) + letter[:2], False), (b"a" * (FRONT - 4) + b"\xff" + b"a" * 9, False),
         ]
         for data, wanted in rows:
             self.assertEqual(is_text(data), wanted, (len(data), data[-9:]))
@@ -68,7 +68,7 @@ class Counts(unittest.TestCase):
         self.assertEqual(found, ["none", "0 %", "33 %", "99 %", "100 %"])
         rows: List[Tuple[List[int], str]] = [
             ([], ""), ([3], "3"), ([3, 4], "3-4"), ([1, 3, 4, 5, 7], "1, 3-5, 7"),
-                (list(range(1, 40, 2)), "1, 3, 5, 7, 9, 11, 13, 15, 17, 19, 21, 23 and 8 more")]
+            (list(range(1, 40, 2)), "1, 3, 5, 7, 9, 11, 13, 15, 17, 19, 21, 23 and 8 more")]
         self.assertEqual([ranges(numbers) for numbers, _ in rows], [told for _, told in rows])
 
 
