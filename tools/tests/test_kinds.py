@@ -32,7 +32,8 @@ class Kinds(unittest.TestCase):
         rows: List[Tuple[bytes, bool]] = [
             (b"show\n", True), (b"", False), (b" \n", False), (b"a\0", False), (b"a\x7f", False), (b"a\x1f", False),
             (b"a\tb\r\n\x0c", True), (letter, True), (letter[:2], False), (b"\xff", False), (b"a" * FRONT + b"\xff", True),
-            (b"a" * (FRONT - 1) + letter, True), (b"a" * (FRONT - 2) + letter, True), (b"a" * (FRONT - 2) + letter[:2], False), (b"a" * (FRONT - 4) + b"\xff" + b"a" * 9, False),
+            (b"a" * (FRONT - 1) + letter, True), (b"a" * (FRONT - 2) + letter, True), (b"a" * (FRONT - 2) + letter[:2], False),
+            (b"a" * (FRONT - 4) + b"\xff" + b"a" * 9, False),
         ]
         for data, wanted in rows:
             self.assertEqual(is_text(data), wanted, (len(data), data[-9:]))
