@@ -3,6 +3,7 @@
 import unittest
 from typing import List, Tuple
 
+from movetext.disassembler import disassemble
 from movetext.ledgers import LedgerReading, Structs, read_ledger
 from movetext.model import Stored, Tally
 from movetext.reader import read_module
@@ -84,6 +85,23 @@ class Ledgers(unittest.TestCase):
                 self.assertEqual((reading.reason, reading.faults[0].offset), (reason, at))
                 self.assertTrue(reading.faults[0].reason.startswith(fault), reading.faults[0].reason)
         self.assertEqual((read(whole).faults, read(whole).reason), ([], 0))
+
+    def test_what_is_printed(self) -> None:
+        whole = SECOND + TALLIES + b"\1" + ONE + b"\7\1" + b"\2" + ONE + b"\x08" + TWO + b"\x09"
+        front = ["// A saved ledger; `moveledger apply --save` makes one, and moveasm none.", "ledger 2 {", "    runs 5"]
+        printed = disassemble(whole).text.rstrip("\n").split("\n")
+        self.assertEqual(printed[:3], front)
+        self.assertEqual(printed[-7:], [
+            '    certificate x""', "    tally 0x1::M::Coin packed 3 unpacked 1", "    tally 0x1::M::Token packed 2 unpacked 0",
+            "    stored 0x1 0x1::M::Mark { id: { n: 7u8 }, on: true }", "    stored 0x1 0x1::M::Coin { v: 8u8 }",
+            "    stored 0x2 0x1::M::Coin { v: 9u8 }", "}"])
+        cut = disassemble(SECOND + TALLIES + b"\1" + ONE + b"\7\2").text.rstrip("\n").split("\n")
+        self.assertEqual(cut[-4:], [
+            "    stored 0x1 0x1::M::Mark { id: { n: 7u8 }, .. }", "}", "// It stops here:",
+            f"// offset {len(SECOND) + 22}: a stored value's leaf: the byte 02; a bool is 00 or 01"])
+        self.assertEqual(disassemble(b"MVL1\0\1\4abcd\0").text.split("\n")[1:6], [
+            "ledger 1 {", "    runs 0", "    // No module:",
+            "    // offset 7: byte 0 is 61, not A1; a module begins with the bytes A1 1C EB 0B", '    module x"61626364"'])
 
     def test_leaves_of_structs_that_are_in_others(self) -> None:
         module = read_module(MODULE).module

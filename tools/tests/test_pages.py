@@ -192,6 +192,19 @@ class Walks(unittest.TestCase):
             self.assertNotIn("\u202e", page)
             self.assertNotIn("\x1b", page)
 
+    def test_rows_have_the_lines_of_the_text(self) -> None:
+        data = (TOP / "examples/owner.stream").read_bytes()
+        (module, _), = modules_in(data)
+        functions = []
+        for number, one in enumerate(read_module(module).module.functions):
+            functions.append(FunctionNames((1, 1), [], {}, [(100 * number + at, 1) for at in range(len(one.code) - (number == 1))]))
+        names = NameTable()
+        names.add(module, ModuleNames("it", (1, 1), {}, functions))
+        page = whole_page(of_module(module, None, names), "it")
+        for number, at in (0, 0), (0, 1), (2, 3):
+            self.assertRegex(page, f'id="m0f{number}i{at}"[^>]* title="line {100 * number + at}"')
+        self.assertNotIn("title=", whole_page(of_module(module, None, None), "it").partition("<main")[2])
+
     def test_edges_of_a_page_are_bounded(self) -> None:
         front = "module 0x1::V { f(" + ", ".join(f"p{at}: bool" for at in range(8)) + ") {\n"
         lets = "".join(f"let r{at}: &bool\n" for at in range(40))

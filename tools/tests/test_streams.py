@@ -2,6 +2,7 @@
 
 import unittest
 from typing import List, Tuple
+from unittest import mock
 
 from movetext.errors import Source, TextErrors
 from movetext.model import ADDRESS, BOOL, U64, U128, Audit, Offer, Publish, RawRecord, Record, Run, Show, Stream, Value
@@ -86,6 +87,17 @@ class Texts(unittest.TestCase):
             "            Branch on",
             "                   ^^",
             "    help: write `on:` before the instruction to go on with"])
+
+    def test_a_module_of_as_many_bytes_as_there_may_be(self) -> None:
+        text = "module 0x1::M { f() { Ret } }"
+        size = len(assemble(text))
+        for most, is_told in (size, False), (size - 1, True):
+            with mock.patch("movetext.assembler.TABLE_BYTES", most):
+                if is_told:
+                    with self.assertRaisesRegex(TextErrors, f"the module has {size} bytes, more than {most}"):
+                        assemble(text)
+                else:
+                    self.assertEqual(len(assemble(text)), size)
 
     def test_a_text_is_of_utf_8(self) -> None:
         with self.assertRaisesRegex(TextErrors, "my.text:2:2: error: the byte FF isn't UTF-8"):
