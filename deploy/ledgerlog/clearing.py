@@ -9,7 +9,7 @@ from .keys import LINES, PROGRAM, SAVED, number_in, size_in
 from .log import Log
 from .requests import Body, Entry, absent, after, delete, delete_range, equal, get, put, unchanged, value_of
 from .times import AHEAD_SECONDS, HOUR, marked, marks_in, newest_before, text_of
-from .votes import Votes
+from .votes import votes_in
 from .written import Head, head_of
 
 # So many records are removed in one transaction: each with its id and its pieces, and what their submitters have.
@@ -42,7 +42,7 @@ class Clearing:
         self.etcd = log.etcd
         self.keys = log.keys
         self.settings = log.settings()
-        self.votes = Votes(log.etcd, log.keys, self.settings.replicas)
+        self.votes = votes_in(log.etcd, log.keys, self.settings)
         self.keep = keep
 
     def run(self) -> Cleared:

@@ -29,6 +29,12 @@ class Comparing:
         # The first number at which each of the others differed, and whether this one agrees with a majority there.
         self.differing: Dict[str, int] = {}
 
+    def forget_from(self, number: int) -> None:
+        """Forgets what was made for the records from one on: it is made again, otherwise."""
+        self.made = {kind: {at: value for at, value in kept.items() if at < number} for kind, kept in self.made.items()}
+        self.held = {key: value for key, value in self.held.items() if key[1] < number}
+        self.next = {key: min(at, number) for key, at in self.next.items()}
+
     def put(self, kind: str, made: List[Vote]) -> bool:
         """Puts what this replica made, and keeps it to be compared. False where something else stands in its name. Differs where
         a majority has put something else."""

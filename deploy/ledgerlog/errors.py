@@ -1,5 +1,7 @@
 """What goes wrong beside a log, and what is said of it."""
 
+from typing import List
+
 
 class LogError(Exception):
     """The log answers what it can't have answered, or says that it can't do what was asked."""
@@ -29,8 +31,21 @@ class Refused(LogError):
     """The log isn't given what was offered: a submitter's quota or the log's room would be exceeded."""
 
 
-class TooOld(Refused):
-    """An id is so old that its record may have been put and cleared."""
+class Unfit(Refused):
+    """What is offered may not be put, however often it's tried: it is beyond a limit, or its id is so old that its record may have been put
+    and cleared."""
+
+
+class RulesChanged(Exception):
+    """What the log says of itself isn't what a replica has answered by."""
+
+
+class GoesBack(Exception):
+    """A record is to be skipped that a replica has answered."""
+
+    def __init__(self, number: int) -> None:
+        super().__init__(f"record {number} is skipped")
+        self.number = number
 
 
 class NotWhole(Exception):
@@ -56,3 +71,5 @@ class ProgramEnded(Exception):
         super().__init__(f"the program ended with the status {status}" + (f": {words}" if words else ""))
         self.status = status
         self.words = words
+        # The lines of the records that it has answered before, of those that it was given last.
+        self.made: List[bytes] = []

@@ -16,6 +16,8 @@ from .requests import Body, Entry, after, coded, entries_of, ranged, value_of
 PAUSE_SECONDS = 0.1
 # How long after etcd has a new password the file has it too.
 GRACE_SECONDS = 0.5
+# So many bytes a second of what is asked a busy node takes at least: a large piece has more time than a short question.
+LEAST_RATE = 100_000.0
 # The numbers of gRPC by which etcd refuses: it hasn't done what was asked, and won't. Whatever else comes in an answer's place leaves
 # it unknown whether it is done: it's asked again.
 REFUSALS = (3, 5, 6, 7, 8, 9, 11, 12)
@@ -97,7 +99,7 @@ class Etcd:
         """The answer of the first node that has one. Unreachable where none has for as long as `patience` lasts."""
         text = json.dumps(body)
         ends = min(time.monotonic() + self.patience, self.until)
-        seconds, why = FIRST_SECONDS, "none in the time that was given"
+        seconds, why = FIRST_SECONDS + len(text) / LEAST_RATE, "none in the time that was given"
         self.find(min(ends, time.monotonic() + seconds))
         while True:
             for _ in self.addresses:
@@ -111,7 +113,7 @@ class Etcd:
                 except (OSError, http.client.HTTPException) as error:
                     why = f"{self.addresses[0]}: {error or type(error).__name__}"
                     self.nodes.take_next()
-            seconds = min(2 * seconds, MOST_SECONDS)
+            seconds = max(seconds, min(2 * seconds, MOST_SECONDS))
             time.sleep(max(0.0, min(PAUSE_SECONDS, ends - time.monotonic())))
 
     def find(self, by: float) -> None:

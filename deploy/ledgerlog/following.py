@@ -6,14 +6,14 @@ import time
 from typing import Callable, Dict, List, NamedTuple, Optional, Set, Tuple, TypeVar
 
 from .comparing import Comparing, shown
-from .errors import Full, NeedsPerson, OtherHistory, ProgramEnded, Unreachable
+from .errors import Full, GoesBack, NeedsPerson, OtherHistory, ProgramEnded, RulesChanged, Unreachable
 from .keys import LINES, SAVED
 from .log import Log, Read
-from .program import Program, identity
+from .program import Program, identity, skipped_line
 from .saves import Save, Saves, vote_on
-from .settings import Settings
+from .settings import ASKED, Settings
 from .status import Asked, LogValues, Status
-from .votes import Vote, Votes, form_of, majority
+from .votes import Vote, Votes, form_of, votes_in
 from .written import Taken
 
 # For so long at most is waited for a record before it's looked again whether the replica is to stop or is asked something.
@@ -84,8 +84,9 @@ class Replica:
 
     def begin(self) -> None:
         """Learns which log this is, and whether the ledgers of the folder are of it."""
-        self.settings = self.patiently(self.log.settings)
-        self.votes = Votes(self.log.etcd, self.log.keys, self.settings.replicas, self.plan.name)
+        self.settings, rules = self.patiently(self.log.settings_at)
+        self.votes = votes_in(self.log.etcd, self.log.keys, self.settings, self.plan.name)
+        self.votes.rules = rules
         self.comparing = Comparing(self.votes, self.tell)
         self.status.differing = self.comparing.differing
         self.status.log_id = self.settings.id
@@ -101,6 +102,11 @@ class Replica:
             if save.log_id == self.settings.id and save.number > last:
                 raise OtherHistory(f"{save.path} is ahead of the log, which ends with record {last}: it has lost records, or was "
                                    "restored (deploy/log restored)")
+        for number in sorted(self.settings.skips):
+            own = self.patiently(self.votes.of, LINES, number).get(self.plan.name)
+            if own is not None and own != skipped_line(number, ASKED):
+                self.go_back(number)
+                break
 
     def start_anew(self) -> None:
         """Sets aside what no majority has put, where this replica differed and a person has looked since."""
@@ -135,7 +141,7 @@ class Replica:
             self.tell(f"{save.path} goes on behind record {save.number} of a log that was restored since: it is set aside")
             return False
         votes = self.patiently(self.votes.of, SAVED, save.number)
-        final = majority(SAVED, votes, len(self.votes.replicas))
+        final = self.votes.decided(SAVED, save.number, votes)
         own = self.own_saves.get(save.path) if self.votes.own is None else votes.get(self.plan.name)
         is_decided = final is not None and form_of(SAVED, final) == form_of(SAVED, vote)
         wanted = final if is_decided else own
@@ -162,6 +168,8 @@ class Replica:
                 self.keep(running.number, began)
         except ProgramEnded as ended:
             self.went_wrong(ended, running, save)
+        except GoesBack as why:
+            self.go_back(why.number)
         finally:
             running.end()
 
@@ -204,8 +212,38 @@ class Replica:
             self.status.is_counted = self.votes.own is not None
         if read.settings.more.keys() - self.settings.more.keys():
             self.tell_unknown(read.settings)
-        self.settings = read.settings
         self.status.last, self.status.read_at = read.last, time.time()
+        self.take_rules(read.settings, read.rules, number)
+
+    def take_rules(self, settings: Settings, rules: int, number: int) -> None:
+        """Goes by what the log says of itself from now on. GoesBack where a record that was answered is skipped now."""
+        new = settings.skips.keys() - self.settings.skips.keys()
+        self.settings, self.votes.rules = settings, rules
+        self.votes.carry(settings)
+        for one in sorted(new):
+            self.tell(f"record {one} is to be skipped: {settings.skips[one]}")
+        answered = [one for one in new if one <= number]
+        if answered:
+            raise GoesBack(min(answered))
+
+    def go_back(self, number: int) -> None:
+        """Sets aside what was saved behind a record that is to be skipped, and forgets what was made since."""
+        self.tell(f"has answered record {number}, which is to be skipped: goes on from a save before it")
+        for save in self.saves.all():
+            if save.number >= number:
+                self.saves.set_aside(save)
+        self.comparing.forget_from(number)
+
+    def put_votes(self, kind: str, made: List[Vote], number: int) -> bool:
+        """Puts what was made, by the rules that it was made by. GoesBack where others hold by now for what was answered."""
+        while True:
+            try:
+                return self.patiently(self.comparing.put, kind, made)
+            except RulesChanged:
+                settings, rules = self.patiently(self.log.settings_at)
+                if settings.id != self.settings.id:
+                    raise OtherHistory(f"the log {self.settings.id} is the log {settings.id} now") from None
+                self.take_rules(settings, rules, number)
 
     def tell_unknown(self, settings: Settings) -> None:
         if settings.more:
@@ -223,17 +261,26 @@ class Replica:
             self.tell(f"{why}: the metrics have the log's values of before")
 
     def answer(self, running: Program, given: List[Taken]) -> None:
-        """Answers what the log has, and puts the lines."""
+        """Answers what the log has, and puts the lines; those before a record at which the program ends too."""
         first = running.number + 1
-        made = [Vote(first + at, lines) for at, lines in enumerate(running.answer(given))]
-        for number, one in enumerate(given, first):
-            if one.why is not None:
-                self.status.skipped += 1
-                self.tell(f"record {number} is skipped: {one.why}")
-        self.patiently(self.comparing.put, LINES, made)
-        self.patiently(self.comparing.look)
+        try:
+            self.put_lines(first, running.answer(given), given)
+        except ProgramEnded as ended:
+            self.put_lines(first, ended.made, given)
+            self.status.stuck = running.number + 1
+            raise
         self.status.answered = running.number
         self.status.held = len(self.comparing.held)
+        self.status.stuck = self.status.stuck if self.status.stuck > running.number else 0
+
+    def put_lines(self, first: int, lines: List[bytes], given: List[Taken]) -> None:
+        for number, one in zip(range(first, first + len(lines)), given):
+            if one.why is not None:
+                self.status.skipped += 1
+                self.tell(f"record {number} is skipped: {one.why}" + (f" ({self.settings.skips[number]})" if one.why == ASKED else ""))
+        if lines:
+            self.put_votes(LINES, [Vote(first + at, one) for at, one in enumerate(lines)], first + len(lines) - 1)
+        self.patiently(self.comparing.look)
 
     def answer_questions(self, running: Program) -> None:
         """Answers the shows and audits that wait."""
@@ -272,11 +319,12 @@ class Replica:
         """Keeps the ledger that was saved after a record, where what is put for it may stand in this replica's name."""
         try:
             vote = vote_on(self.saves.new())
-            if not self.patiently(self.comparing.put, SAVED, [Vote(number, vote)]):
+            if not self.put_votes(SAVED, [Vote(number, vote)], number):
                 self.saves.forget_new()
                 self.save_failed(number, "another digest stands under this replica's name")
                 return
-            save = self.saves.keep(number, self.settings.id, self.settings.every)
+            agreed = {one.number for one in self.patiently(lambda: list(self.votes.agreed_saves(number)))}
+            save = self.saves.keep(number, self.settings.id, self.settings.every, agreed)
             self.status.save_bytes = os.path.getsize(save.path)
         except OSError as error:
             self.save_failed(number, str(error))
@@ -294,7 +342,7 @@ class Replica:
 
     def went_wrong(self, ended: ProgramEnded, running: Program, save: Optional[Save]) -> None:
         """Takes the save before one that can't be read, goes on from the last one where a save failed, and starts a program again
-        that was killed. Any other end of the program is an error."""
+        that ended otherwise."""
         is_loading = save is not None and running.number == running.base
         if save and is_loading and READ_FAULT in ended.words:
             self.is_unread(save, ended.words)
@@ -303,20 +351,21 @@ class Replica:
                               "another program than the one that saved it")
         elif running.is_finishing:
             self.save_failed(running.number, str(ended))
-        elif ended.status < 0:
-            self.was_killed(ended, running.number)
         else:
-            raise ended
+            self.has_ended(ended, running.number)
 
-    def was_killed(self, ended: ProgramEnded, number: int) -> None:
+    def has_ended(self, ended: ProgramEnded, number: int) -> None:
         """Waits a while before the program is started again. ProgramEnded where it gets no further."""
         self.failures = 1 if number > self.furthest else self.failures + 1
         self.furthest = max(self.furthest, number)
         self.status.restarts += 1
+        how = f"was killed by signal {-ended.status}" if ended.status < 0 else f"has ended ({ended})"
+        at = f"at record {self.status.stuck}" if self.status.stuck == number + 1 else f"behind record {number}"
         if self.failures > MOST_RESTARTS:
+            self.tell(f"the program {how} {at}, {self.failures} times: see deploy/log skip if no replica can take this record")
             raise ended
         pause = min(FIRST_PAUSE * 2 ** (self.failures - 1), MOST_PAUSE)
-        self.tell(f"the program was killed by signal {-ended.status} behind record {number}: it is started again in {pause:g} s")
+        self.tell(f"the program {how} {at}: it is started again in {pause:g} s")
         ends = time.monotonic() + pause
         while time.monotonic() < ends and not self.is_stopping:
             time.sleep(LEAST_SECONDS)

@@ -2,7 +2,7 @@
 
 from typing import Dict, Iterator, List, NamedTuple, Optional, Tuple
 
-from .errors import LogError, OtherHistory, OtherRecord, Refused, TooOld
+from .errors import LogError, OtherHistory, OtherRecord, Refused, Unfit
 from .etcd import Etcd
 from .keys import Keys, number_in, numbered, size_in
 from .requests import Body, Entry, absent, after, equal, get, get_range, put, there, value_of
@@ -29,12 +29,13 @@ class Offer(NamedTuple):
 
 
 class Read(NamedTuple):
-    """What follows each other in the log, the number of the last record, what the log says of itself, the number of the store's
-    last change, all at one moment, and the id of the nodes that answered."""
+    """What follows each other in the log, the number of the last record, what the log says of itself and the change that put this, the
+    number of the store's last change, all at one moment, and the id of the nodes that answered."""
 
     taken: List[Taken]
     last: int
     settings: Settings
+    rules: int
     revision: int
     cluster: str
 
@@ -99,7 +100,7 @@ class Log:
     def append(self, offers: List[Offer], submitter: str, settings: Settings) -> Iterator[int]:
         """Puts records at the end, in this order, and gives their numbers, each when it is durable. A record whose id stands
         in the log already keeps the number that it has there. OtherRecord where another record has the id, Refused at a quota,
-        TooOld where a record that was put by this id may be cleared."""
+        Unfit where it may not be put at all."""
         last = self.last()
         for part in parts_of(offers):
             numbers = Appending(self, part, submitter, settings).put_after(last)
@@ -118,6 +119,7 @@ class Log:
         if told is None:
             raise OtherHistory(f"the log says nothing of the ledger {keys.ledger} any more: it was made anew, or lost")
         self.check_behind(first, self.cleared_of(cleared))
+        settings = self.understood(told)
         entries = {entry.key: entry for entry in found[3]}
         end = min(self.last_of(last), first + MOST_READ - 1)
         made: List[Taken] = []
@@ -126,13 +128,15 @@ class Log:
             entry = entries.get(keys.record(number))
             if entry is None and len(found[3]) == MOST_READ:
                 entry = self.etcd.entry(keys.record(number))
-            made.append(taken(self.etcd, keys, entry))
+            one = taken(self.etcd, keys, entry)
+            why = settings.why_skipped(number, one.record) if one.why is None or number in settings.skips else None
+            made.append(Taken(b"", why) if why else one)
             size += len(made[-1].record)
             if size >= ENOUGH_BYTES:
                 break
         if any(one.why in (MISSING, PIECES) for one in made):
             self.check_kept(first)
-        return Read(made, self.last_of(last), self.understood(told), revision, cluster)
+        return Read(made, self.last_of(last), settings, found[1][0].changed, revision, cluster)
 
     def check_behind(self, first: int, cleared: int) -> None:
         """OtherHistory where a record was cleared."""
@@ -177,6 +181,7 @@ class Appending:
         self.submitter = submitter
         self.quota = settings.quota_of(submitter)
         self.hours = settings.hours
+        self.limit = settings.newest_limit()
         self.numbers: Dict[str, int] = {}
         self.left = [(offer, written(offer.id, submitter, offer.record)) for offer in offers]
         self.ids = [offer.id for offer in offers]
@@ -187,7 +192,7 @@ class Appending:
         """Puts them after the record that is taken for the last, or after the one that is."""
         self.last = last
         self.used = self.etcd.get(self.keys.used(self.submitter))
-        self.check_times()
+        self.check_fit()
         self.put_pieces()
         while self.left:
             self.put_left()
@@ -200,12 +205,14 @@ class Appending:
                 self.check_quota()
                 put_pieces(self.etcd, self.keys, offer.id, offer.record)
 
-    def check_times(self) -> None:
-        """TooOld where an id is so old that its record may have been put and cleared."""
+    def check_fit(self) -> None:
+        """Unfit where an id is so old that its record may have been put and cleared, or a record is beyond a limit."""
         for offer, _ in self.left:
-            why = untimely(offer.id, self.hours)
-            if why is not None and self.etcd.get(self.keys.id(offer.id)) is None:
-                raise TooOld(why)
+            beyond = self.limit.exceeded(offer.record)
+            why = untimely(offer.id, self.hours) or (beyond and f"the record's {beyond} is beyond the log's limit of "
+                                                     f"{self.limit.size} bytes and {self.limit.budget} steps (0 is none)")
+            if why and self.etcd.get(self.keys.id(offer.id)) is None:
+                raise Unfit(why)
 
     def used_then(self) -> int:
         """How many bytes the submitter has in the log with these."""

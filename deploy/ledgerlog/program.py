@@ -28,6 +28,11 @@ def identity(program: str) -> bytes:
     return f"{version} sha256:{digest}".encode()
 
 
+def skipped_line(number: int, why: str) -> bytes:
+    """The line of what is skipped."""
+    return b"%d skipped %s\n" % (number, why.encode())
+
+
 class Program:
     """A program that answers the records after one number, from a saved ledger on or from an empty one."""
 
@@ -64,13 +69,16 @@ class Program:
             pass
 
     def answer(self, taken: List[Taken]) -> List[bytes]:
-        """The lines of what comes next in the log, with its numbers. ProgramEnded where the program ends sooner."""
+        """The lines of what comes next in the log, with its numbers. ProgramEnded, with what was made, where the program ends sooner."""
         self.give(b"".join(one.record for one in taken if one.why is None))
         answers: List[bytes] = []
         for one in taken:
             number = self.number + 1
-            lines = self.next_lines(number) if one.why is None else b"%d skipped %s\n" % (number, one.why.encode())
-            answers.append(lines)
+            try:
+                answers.append(self.next_lines(number) if one.why is None else skipped_line(number, one.why))
+            except ProgramEnded as ended:
+                ended.made = answers
+                raise
             self.number = number
         return answers
 

@@ -1,12 +1,13 @@
 """What one whole record is, by docs/FORMATS.md: a kind, a length in its shortest spelling, and so many bytes."""
 
-from typing import Iterator
+from typing import Iterator, Tuple
 
 from .errors import NotWhole
 
 MOST_BYTES = 33_554_432
 # So many bits have the bytes that a length may take, seven each.
 LENGTH_BITS = 28
+RUN, ADDRESS_BYTES, MOST_SHIFT = 2, 16, 63
 # The kinds that change nothing: show and audit.
 QUESTIONS = (3, 4)
 # The records by the words that a replica is asked them by.
@@ -57,6 +58,34 @@ def records_of(data: bytes) -> Iterator[bytes]:
 def is_question(record: bytes) -> bool:
     """Whether a whole record is a show or an audit, whose answer nothing after it depends on."""
     return record[0] in QUESTIONS
+
+
+def number_at(data: bytes, at: int) -> Tuple[int, int]:
+    """A number, seven bits in a byte, and where it ends. IndexError where it's cut, or longer than any that a record has."""
+    value = shift = 0
+    while True:
+        if shift > MOST_SHIFT:
+            raise IndexError
+        byte = data[at]
+        value |= (byte & 127) << shift
+        at, shift = at + 1, shift + 7
+        if byte < 128:
+            return value, at
+
+
+def budget_of(record: bytes) -> int:
+    """The steps that a whole record may take, by its budget; 0 where it is no run, or none of the right shape, which is rejected."""
+    if record[0] != RUN:
+        return 0
+    try:
+        _, at = number_at(record, 1)
+        at += 2 * ADDRESS_BYTES
+        for _ in ("the module's name", "the function's name"):
+            length, at = number_at(record, at)
+            at += length
+        return number_at(record, at)[0]
+    except IndexError:
+        return 0
 
 
 def check_put(data: bytes) -> None:

@@ -8,7 +8,7 @@ import re
 import secrets
 import shutil
 import time
-from typing import List, NamedTuple, Optional
+from typing import AbstractSet, List, NamedTuple, Optional
 
 NAME = re.compile(r"ledger-(\d{16})-([0-9a-f]{32})")
 REFUSED = ".refused"
@@ -111,17 +111,18 @@ class Saves:
         """Where the program is to save: the number isn't known yet."""
         return os.path.join(self.unnumbered, "ledger")
 
-    def keep(self, number: int, log_id: str, every: int) -> Save:
+    def keep(self, number: int, log_id: str, every: int, agreed: AbstractSet[int] = frozenset()) -> Save:
         """Gives the ledger that was saved its name, and forgets those that are too old, when the disk has the new one. `every` is
-        that of the log."""
+        that of the log, and `agreed` has the numbers of those that are final: the newest of them stays, since others may need it."""
         save = Save(number, log_id, self.path(name_of(number, log_id)))
         sync_file(self.new())
         os.rename(self.new(), save.path)
         sync_folder(self.folder)
         there = self.all()
         common = [one for one in there if one.number % every == 0]
+        final = [one for one in there if one.number in agreed]
         for old in there:
-            if old not in there[:KEPT] and old not in common[:KEPT]:
+            if old not in there[:KEPT] and old not in common[:KEPT] and old not in final[:1]:
                 os.remove(old.path)
         return save
 

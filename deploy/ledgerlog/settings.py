@@ -2,14 +2,21 @@
 
 import json
 import secrets
-from typing import Any, Callable, Dict, NamedTuple, Tuple
+from typing import Any, Callable, Dict, NamedTuple, Optional, Tuple
 
 from .errors import LogError, OtherProtocol
+from .records import budget_of
 
 # The form of all that stands in the log, and the newest rules that this code knows: who writes has to know the log's. A log that names
 # none goes by the first ones.
 FORM = 2
-FIRST_PROTOCOL = PROTOCOL = 2
+FIRST_PROTOCOL, PROTOCOL = 2, 3
+# From this one on, replicas skip what the log says, and put no line by settings that aren't the log's any more.
+SKIPPING_PROTOCOL = 3
+
+
+# Why whole records are skipped: since that was asked for, for their size, or for their budget.
+ASKED, SIZE, BUDGET = "asked", "size", "budget"
 
 
 class Past(NamedTuple):
@@ -17,6 +24,27 @@ class Past(NamedTuple):
 
     id: str
     last: int
+
+
+class Limit(NamedTuple):
+    """From a number on: the most bytes of a record, and the most steps of a run; 0 is no limit."""
+
+    first: int
+    size: int
+    budget: int
+
+    def exceeded(self, record: bytes) -> Optional[str]:
+        """Which of them a record exceeds."""
+        if 0 < self.size < len(record):
+            return SIZE
+        return BUDGET if 0 < self.budget < budget_of(record) else None
+
+
+class Agreed(NamedTuple):
+    """The save that an earlier set of replicas agreed on: the number of its last record, its form and its SHA-256."""
+
+    number: int
+    value: str
 
 
 class Settings(NamedTuple):
@@ -31,10 +59,24 @@ class Settings(NamedTuple):
     past: Tuple[Past, ...] = ()
     protocol: int = FIRST_PROTOCOL
     hours: int = 24
+    limits: Tuple[Limit, ...] = ()
+    skips: Dict[int, str] = {}
+    agreed: Optional[Agreed] = None
     more: Dict[str, Any] = {}
 
     def quota_of(self, submitter: str) -> int:
         return self.quotas.get(submitter, self.quota)
+
+    def limit_at(self, number: int) -> Limit:
+        """What holds for a record with this number."""
+        return max((limit for limit in self.limits if limit.first <= number), default=Limit(0, 0, 0))
+
+    def newest_limit(self) -> Limit:
+        return max(self.limits, default=Limit(0, 0, 0))
+
+    def why_skipped(self, number: int, record: bytes) -> Optional[str]:
+        """Why all replicas skip a record that is whole, by what the log says."""
+        return ASKED if number in self.skips else self.limit_at(number).exceeded(record)
 
     def has_save(self, log_id: str, number: int) -> bool:
         """Whether a ledger that was saved after this record of that log goes on in this one."""
@@ -50,16 +92,17 @@ class Settings(NamedTuple):
 
     def text(self) -> bytes:
         """What stands in the log: what says no more than an older log does is left out, so that older programs go on."""
-        told = {**self.more, **self._asdict(), "form": FORM, "past": [[one.id, one.last] for one in self.past]}
+        told = {**self.more, **self._asdict(), "form": FORM, "past": [[one.id, one.last] for one in self.past],
+                "limits": [list(limit) for limit in self.limits], "skips": {str(number): why for number, why in self.skips.items()}}
         del told["more"]
         for name in LATER:
-            if told[name] == Settings._field_defaults[name]:
+            if getattr(self, name) == Settings._field_defaults[name]:
                 del told[name]
         return json.dumps(told, sort_keys=True).encode()
 
 
 # The fields that came later.
-LATER = ("protocol", "hours")
+LATER = ("protocol", "hours", "limits", "skips", "agreed")
 
 
 def new_id() -> str:
@@ -82,7 +125,10 @@ READ: Dict[str, Callable[[Any], Any]] = {
     "quotas": lambda value: {str(who): number(amount) for who, amount in value.items()},
     "past": lambda value: tuple(Past(str(name), number(last)) for name, last in value),
     "protocol": lambda value: number(value, 1),
-    "hours": number}
+    "hours": number,
+    "limits": lambda value: tuple(Limit(number(first, 1), number(size), number(budget)) for first, size, budget in value),
+    "skips": lambda value: {number(int(which), 1): str(why) for which, why in value.items()},
+    "agreed": lambda value: Agreed(number(value[0], 1), str(value[1]))}
 
 
 def settings_of(text: bytes) -> Settings:

@@ -12,7 +12,7 @@ from .keys import LINES, SAVED
 from .log import Log
 from .program import Program
 from .saves import Save, saves_in, vote_on
-from .votes import Vote, Votes, form_of, majority
+from .votes import Vote, form_of, votes_in
 
 # So many differences are told for each replica.
 MOST_TOLD = 10
@@ -26,7 +26,7 @@ class Verifying:
         self.program = program
         self.folder = folder
         self.settings = log.settings()
-        self.votes = Votes(log.etcd, log.keys, self.settings.replicas)
+        self.votes = votes_in(log.etcd, log.keys, self.settings)
         self.differences: Dict[str, int] = {}
         self.compared = self.undecided = self.saves = 0
 
@@ -91,7 +91,7 @@ class Verifying:
     def compare(self, kind: str, made: Vote, given: Optional[Dict[str, bytes]] = None) -> None:
         """Compares what was made with what each replica has put, and says what differs."""
         votes = self.votes.of(kind, made.number) if given is None else given
-        final = majority(kind, votes, len(self.votes.replicas))
+        final = self.votes.decided(kind, made.number, votes)
         self.compared += kind == LINES
         self.saves += kind == SAVED
         self.undecided += final is None
@@ -104,6 +104,9 @@ class Verifying:
                           "now")
 
     def sum_up(self, first: int, last: int) -> None:
+        for number, why in sorted(self.settings.skips.items()):
+            if first <= number <= last:
+                print(f"record {number} is skipped, since that was asked for: {why}")
         differs = "; ".join(f"{name} differs {count} times" for name, count in sorted(self.differences.items()))
         print(f"records {first} to {last}: {self.compared} answers and {self.saves} saves compared, of which {self.undecided} no "
               f"majority has decided; {differs or 'nothing differs'}")

@@ -1,11 +1,13 @@
 """What each replica has put under its own name for a number, and which of it is final: docs/REPLICAS.md has the rules."""
 
 from collections import Counter
-from typing import Dict, List, NamedTuple, Optional, Sequence, Tuple
+from typing import Dict, Iterator, List, NamedTuple, Optional, Sequence, Tuple
 
+from .errors import RulesChanged
 from .etcd import Etcd
 from .keys import PROGRAM, SAVED, Keys, number_in
-from .requests import Body, absent, after, equal, get, get_range, none_between, put, value_of
+from .requests import Body, absent, after, equal, get, get_range, none_between, put, unchanged, value_of
+from .settings import Settings
 
 # A transaction takes 128 operations.
 MOST_PUT = 100
@@ -38,6 +40,13 @@ def decided_against(kind: str, votes: Dict[str, bytes], size: int, made: bytes) 
     return value if value not in (None, made) and form_of(kind, value or b"") == form_of(kind, made) else None
 
 
+def votes_in(etcd: Etcd, keys: Keys, settings: Settings, own: Optional[str] = None) -> "Votes":
+    """What the replicas of a log's set have put, with what earlier sets decided."""
+    made = Votes(etcd, keys, settings.replicas, own)
+    made.carry(settings)
+    return made
+
+
 class Votes:
     """What the replicas of a set have put, as one of them or a reader sees it."""
 
@@ -46,6 +55,14 @@ class Votes:
         self.keys = keys
         self.replicas = tuple(replicas)
         self.own = own if own in self.replicas else None
+        # The change of the log's settings by which lines were made; 0 where it isn't compared.
+        self.rules = 0
+        # The save that an earlier set has agreed on: what it decided stays decided.
+        self.carried: Optional[Vote] = None
+
+    def carry(self, settings: Settings) -> None:
+        agreed = settings.agreed
+        self.carried = Vote(agreed.number, agreed.value.encode()) if agreed else None
 
     def others(self) -> List[str]:
         return [name for name in self.replicas if name != self.own]
@@ -61,21 +78,32 @@ class Votes:
         values = map(value_of, found)
         return {name: value for name, value in zip(self.replicas, values) if value is not None}, revision
 
+    def decided(self, kind: str, number: int, votes: Dict[str, bytes]) -> Optional[bytes]:
+        """What is final under a number, by these votes of the set or by those of an earlier one."""
+        if kind == SAVED and self.carried is not None and self.carried.number == number:
+            return self.carried.value
+        return majority(kind, votes, len(self.replicas))
+
     def final(self, kind: str, number: int) -> Optional[bytes]:
-        """What a majority of the set has put under a number."""
-        return majority(kind, self.of(kind, number), len(self.replicas))
+        """What a majority of the set has put under a number, or of an earlier one has."""
+        return self.decided(kind, number, self.of(kind, number))
 
     def put(self, kind: str, made: List[Vote]) -> List[Vote]:
-        """Puts what this replica made, and gives those under whose numbers something else stands in its name already."""
+        """Puts what this replica made, and gives those under whose numbers something else stands in its name already. RulesChanged where
+        the log's settings aren't those any more by which it was made."""
         left_out: List[Vote] = []
         if self.own is None:
             return left_out
         for at in range(0, len(made), MOST_PUT):
             part = [(self.keys.vote(self.own, kind, vote.number), vote) for vote in made[at:at + MOST_PUT]]
             # One comparison for all of them, and one for each where that doesn't hold.
+            rules = [unchanged(self.keys.log, self.rules)] if self.rules else []
             free = [none_between(part[0][0], part[-1][0] + b"\0")]
-            while not self.etcd.transact(free, [put(key, vote.value) for key, vote in part], [])[0]:
-                there = self.etcd.transact([], [get(key) for key, _ in part], [])[1]
+            while not self.etcd.transact(rules + free, [put(key, vote.value) for key, vote in part], [])[0]:
+                there = self.etcd.transact([], [get(key) for key, _ in part] + [get(self.keys.log)], [])[1]
+                log = there.pop()
+                if self.rules and (not log or log[0].changed != self.rules):
+                    raise RulesChanged
                 values = list(zip(part, map(value_of, there)))
                 left_out += [vote for (_, vote), value in values if value not in (None, vote.value)]
                 part = [one for one, value in values if value is None]
@@ -91,6 +119,7 @@ class Votes:
         if majority(kind, others, len(self.replicas)) != made.value:
             return False, votes
         compare: List[Body] = [equal(self.keys.vote(name, kind, made.number), votes.get(name)) for name in self.replicas]
+        compare += [unchanged(self.keys.log, self.rules)] if self.rules else []
         done = self.etcd.transact(compare, [put(self.keys.vote(self.own, kind, made.number), made.value)], [])[0]
         return done, votes
 
@@ -109,16 +138,21 @@ class Votes:
         return [Vote(number, entry.value) for entry in entries for number in [number_in(entry.key)] if number is not None]
 
     def newest_agreed_save(self, most: int) -> Optional[Vote]:
-        """The newest save up to a number that a majority has put."""
+        """The newest save up to a number that is final."""
+        return next(iter(self.agreed_saves(most)), None)
+
+    def agreed_saves(self, most: int) -> Iterator[Vote]:
+        """The saves up to a number that are final, the newest first."""
         counted: Dict[int, Dict[str, bytes]] = {}
         for name in self.replicas:
             for vote in self.newest(name, SAVED, MOST_COMPARED):
                 counted.setdefault(vote.number, {})[name] = vote.value
+        if self.carried is not None:
+            counted.setdefault(self.carried.number, {})
         for number in sorted((number for number in counted if number <= most), reverse=True):
-            value = majority(SAVED, counted[number], len(self.replicas))
+            value = self.decided(SAVED, number, counted[number])
             if value is not None:
-                return Vote(number, value)
-        return None
+                yield Vote(number, value)
 
     def put_program(self, number: int, identity: bytes) -> None:
         """Says with which program this replica answers the records after a number, where that is another one than before."""

@@ -3,13 +3,14 @@
 before, and saves and loads what it has. Its ledger is the number of runs, and a hash of them.
 
 An environment may have it: STAND_IN_VERSION, what --version says; STAND_IN_WRONG, the number of the run that it answers
-wrongly; STAND_IN_FORM, the form in which it saves, beside MVL2, which each reads."""
+wrongly; STAND_IN_FATAL, the payload of a record at which it ends; STAND_IN_FORM, the form in which it saves, beside MVL2, which each reads."""
 
 import hashlib
 import os
 import sys
 from typing import BinaryIO, Iterator
 
+FATAL = bytes.fromhex(os.environ.get("STAND_IN_FATAL", "")) or None
 MARK = os.environ.get("STAND_IN_FORM", "MVL2").encode()
 
 
@@ -22,6 +23,9 @@ class StandIn:
 
     def lines(self, record: bytes) -> str:
         kind = record[0]
+        if record[1:] == FATAL:
+            print("fault: memory", file=sys.stderr)
+            sys.exit(1)
         if kind in (1, 2):
             self.runs += 1
             wrong = "wrong" if os.environ.get("STAND_IN_WRONG") == str(self.runs) else ""
