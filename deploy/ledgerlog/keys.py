@@ -4,6 +4,8 @@ import re
 from typing import Optional
 
 NUMBER = re.compile(rb"[0-9a-f]{16}")
+# Names of submitters and ids, as they stand before a record.
+NAME_TEXT = re.compile(r"[A-Za-z0-9-]{1,64}")
 # What replicas put under their own names.
 LINES, SAVED, PROGRAM = "lines", "saved", "program"
 

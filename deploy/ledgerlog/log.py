@@ -1,31 +1,20 @@
 """The log: records under their numbers, from 1 on and without a gap, with an id for each and a quota for each submitter."""
 
-from typing import Dict, Iterator, List, NamedTuple, Optional, Tuple
+from typing import Iterator, List, NamedTuple, Optional, Tuple
 
-from .errors import LogError, OtherHistory, OtherRecord, Refused, Unfit
+from .appending import MOST_APPENDED, MOST_COMPARED, Appending, Offer
+from .errors import LogError, OtherHistory
 from .etcd import Etcd
-from .keys import Keys, number_in, numbered, size_in
-from .requests import Body, Entry, absent, after, equal, get, get_range, put, there, value_of
+from .keys import Keys, number_in
+from .requests import after, get, get_range, value_of
 from .settings import Settings, settings_of
-from .times import untimely
-from .written import MISSING, PIECES, Taken, count_of_pieces, counted_size, put_pieces, taken, written
+from .written import MISSING, PIECES, Taken, count_of_pieces, taken
 
-# A record takes two keys, and a transaction 128; 60 records with what stands under their keys are also within MOST_BYTES.
-MOST_APPENDED = 60
-# It compares at most 128 keys: the last number, the quota, and for each record its id and its pieces, of which a record has at most 32.
-MOST_COMPARED = 126
 MOST_READ = 100
 # No more records are taken at once when these have so many bytes.
 ENOUGH_BYTES = 8 << 20
 # Above these parts of its room a log is nearly full, and is given no more records.
 NEARLY_FULL, NO_MORE = 0.75, 0.9
-
-
-class Offer(NamedTuple):
-    """A record to be put, and its id: the same one however often it's tried."""
-
-    id: str
-    record: bytes
 
 
 class Read(NamedTuple):
@@ -103,9 +92,11 @@ class Log:
         Unfit where it may not be put at all."""
         last = self.last()
         for part in parts_of(offers):
-            numbers = Appending(self, part, submitter, settings).put_after(last)
-            last = max(last, *numbers)
-            yield from numbers
+            for outcome in Appending(self, [(offer, submitter) for offer in part], settings).put_after(last):
+                if isinstance(outcome, LogError):
+                    raise outcome
+                last = max(last, outcome)
+                yield outcome
 
     def read(self, first: int) -> Read:
         """What the log has from this number on, as much as is taken at once. OtherHistory where that was cleared, or the log
@@ -169,110 +160,3 @@ def parts_of(offers: List[Offer]) -> Iterator[List[Offer]]:
         compared += more
     if part:
         yield part
-
-
-class Appending:
-    """A few records on their way into the log, put in one transaction."""
-
-    def __init__(self, log: Log, offers: List[Offer], submitter: str, settings: Settings) -> None:
-        self.log = log
-        self.etcd = log.etcd
-        self.keys = log.keys
-        self.submitter = submitter
-        self.quota = settings.quota_of(submitter)
-        self.hours = settings.hours
-        self.limit = settings.newest_limit()
-        self.numbers: Dict[str, int] = {}
-        self.left = [(offer, written(offer.id, submitter, offer.record)) for offer in offers]
-        self.ids = [offer.id for offer in offers]
-        self.last = 0
-        self.used: Optional[bytes] = None
-
-    def put_after(self, last: int) -> List[int]:
-        """Puts them after the record that is taken for the last, or after the one that is."""
-        self.last = last
-        self.used = self.etcd.get(self.keys.used(self.submitter))
-        self.check_fit()
-        self.put_pieces()
-        while self.left:
-            self.put_left()
-        return [self.numbers[name] for name in self.ids]
-
-    def put_pieces(self) -> None:
-        """Puts the pieces of those that have any, where the quota has room for them."""
-        for offer, _ in self.left:
-            if count_of_pieces(offer.record) and self.etcd.get(self.keys.id(offer.id)) is None:
-                self.check_quota()
-                put_pieces(self.etcd, self.keys, offer.id, offer.record)
-
-    def check_fit(self) -> None:
-        """Unfit where an id is so old that its record may have been put and cleared, or a record is beyond a limit."""
-        for offer, _ in self.left:
-            beyond = self.limit.exceeded(offer.record)
-            why = untimely(offer.id, self.hours) or (beyond and f"the record's {beyond} is beyond the log's limit of "
-                                                     f"{self.limit.size} bytes and {self.limit.budget} steps (0 is none)")
-            if why and self.etcd.get(self.keys.id(offer.id)) is None:
-                raise Unfit(why)
-
-    def used_then(self) -> int:
-        """How many bytes the submitter has in the log with these."""
-        return size_in(self.used) + sum(counted_size(offer.record) for offer, _ in self.left)
-
-    def is_above_quota(self) -> bool:
-        return 0 < self.quota < self.used_then()
-
-    def check_quota(self) -> None:
-        """Refused where the submitter would have too many bytes in the log."""
-        if self.is_above_quota():
-            raise Refused(f"{self.submitter} has {size_in(self.used)} bytes in the log, and may have {self.quota}")
-
-    def put_left(self) -> None:
-        """Tries to put those that aren't there. What is found, where that fails, is what the next try begins with. What is there
-        already is found at the quota too."""
-        ids = [self.keys.id(offer.id) for offer, _ in self.left]
-        asked = [*map(get, ids), get(self.keys.last), get(self.keys.used(self.submitter))]
-        if self.is_above_quota():
-            found = self.etcd.transact([], asked, [])[1]
-        else:
-            is_done, found = self.etcd.transact(self.conditions(ids), self.puts(ids), asked)
-            if is_done:
-                self.numbers.update((offer.id, self.last + at) for at, (offer, _) in enumerate(self.left, 1))
-                self.left = []
-                return
-        self.take_over(found)
-
-    def conditions(self, ids: List[bytes]) -> List[Body]:
-        pieces = [there(self.keys.piece(offer.id, at)) for offer, _ in self.left for at in range(count_of_pieces(offer.record))]
-        last = numbered(self.last) if self.last else None
-        return [*map(absent, ids), equal(self.keys.last, last), equal(self.keys.used(self.submitter), self.used), *pieces]
-
-    def puts(self, ids: List[bytes]) -> List[Body]:
-        numbers = range(self.last + 1, self.last + 1 + len(self.left))
-        puts = [put(self.keys.record(number), value) for number, (_, value) in zip(numbers, self.left)]
-        puts += [put(key, numbered(number)) for key, number in zip(ids, numbers)]
-        used = str(self.used_then()).encode()
-        return [*puts, put(self.keys.last, numbered(numbers[-1])), put(self.keys.used(self.submitter), used)]
-
-    def take_over(self, found: List[List[Entry]]) -> None:
-        """Takes over what stands in the log by now."""
-        known: List[Tuple[Offer, bytes]] = []
-        before = (self.last, self.used)
-        for (offer, value), entries in zip(self.left, found):
-            text = value_of(entries)
-            if text is None:
-                known.append((offer, value))
-            else:
-                self.numbers[offer.id] = self.number_of(offer.id, text, value)
-        is_none_known = len(known) == len(self.left)
-        self.left = known
-        self.last, self.used = self.log.last_of(value_of(found[-2])), value_of(found[-1])
-        if is_none_known and before == (self.last, self.used):
-            self.check_quota()
-            self.put_pieces()
-
-    def number_of(self, name: str, text: bytes, value: bytes) -> int:
-        """The number that an id has. OtherRecord where that is another record's."""
-        number = number_in(text)
-        if number is None or self.etcd.get(self.keys.record(number)) != value:
-            raise OtherRecord(f"the id {name} is that of record {number}, which is another one or isn't kept any more")
-        return number

@@ -7,7 +7,7 @@ import unittest
 from typing import List
 
 DEPLOY = os.path.dirname(os.path.dirname(os.path.realpath(__file__)))
-COMMANDS = ("ask", "backup", "log", "node", "replica", "snapshot", "submit")
+COMMANDS = ("ask", "backup", "serve", "log", "node", "replica", "snapshot", "submit")
 # Nothing listens there.
 NOWHERE = ["--log", "127.0.0.1:9"]
 

@@ -1,0 +1,161 @@
+import os
+import tempfile
+import threading
+import unittest
+from typing import Any, Callable, Dict, List
+
+from ledgerlog.client import Ledger, Placed, Refused, Unknown
+from ledgerlog.errors import Unreachable
+from ledgerlog.gathering import Wanted, Writer
+from ledgerlog.keys import LINES
+from ledgerlog.log import Log, Offer
+from ledgerlog.service import Service
+from ledgerlog.written import INLINE_BYTES
+
+from .store import Store, made_log, put_vote, run
+from .test_log import large
+
+
+class Serving(unittest.TestCase):
+    def setUp(self) -> None:
+        holder = tempfile.TemporaryDirectory()
+        self.addCleanup(holder.cleanup)
+        self.path = os.path.join(holder.name, "service", "socket")
+        os.mkdir(os.path.dirname(self.path))
+        self.store = Store()
+        self.log = made_log(self.store, quotas={"poor": 8})
+        self.service = self.start()
+
+    def start(self) -> Service:
+        service = Service(self.path, lambda: Log(self.store, "L"))
+        service.start()
+        threading.Thread(target=service.serve, daemon=True).start()
+        self.addCleanup(lambda: service.close() if service.socket.fileno() >= 0 else None)
+        return service
+
+    def ledger(self, submitter: str = "anyone", seconds: float = 120.0) -> Ledger:
+        made = Ledger(self.path, submitter, seconds)
+        self.addCleanup(made.close)
+        return made
+
+    def at_once(self, *calls: Callable[[], Any]) -> List[Any]:
+        """What calls come back with that are made at once."""
+        told: Dict[int, Any] = {}
+
+        def work(at: int, call: Callable[[], Any]) -> None:
+            try:
+                told[at] = call()
+            except Exception as why:  # noqa: BLE001
+                told[at] = why
+
+        threads = [threading.Thread(target=work, args=one) for one in enumerate(calls)]
+        for thread in threads:
+            thread.start()
+        for thread in threads:
+            thread.join()
+        return [told[at] for at in range(len(calls))]
+
+    def test_many_at_once_get_a_number_each_in_few_transactions(self) -> None:
+        ledgers = [self.ledger(f"s{at % 20}") for at in range(40)]
+        before = self.store.revision
+        placed = self.at_once(*(lambda at=at: [ledgers[at].submit(run(10 * at + one)).number for one in range(5)]
+                                for at in range(40)))
+        numbers = sorted(number for one in placed for number in one)
+        self.assertEqual(numbers, list(range(1, 201)))
+        self.assertLess(self.store.revision - before, 200)
+        self.assertTrue(all(self.store.get(self.log.keys.used(f"s{at}")) == b"40" for at in range(20)))
+        self.assertEqual({one.record for one in self.log.read(1).taken} | {one.record for one in self.log.read(101).taken},
+                         {run(10 * at + one) for at in range(40) for one in range(5)})
+
+    def test_one_id_is_put_once_however_many_put_it(self) -> None:
+        ledgers = [self.ledger() for _ in range(8)]
+        placed = self.at_once(*(lambda one=one: one.submit(run(1), "same") for one in ledgers))
+        self.assertEqual(set(placed), {Placed(1, None)})
+        self.assertEqual(self.log.last(), 1)
+
+    def test_a_quota_binds_its_submitter_alone(self) -> None:
+        poor, rich = self.ledger("poor"), self.ledger("rich")
+        self.assertEqual([poor.submit(run(at)).number for at in (1, 2)], [1, 2])
+        told = self.at_once(lambda: poor.submit(run(3)), lambda: rich.submit(run(4)))
+        self.assertIsInstance(told[0], Refused)
+        self.assertIn("poor has 8 bytes in the log, and may have 8", str(told[0]))
+        self.assertEqual(told[1].number, 3)
+
+    def test_a_lost_answer_is_asked_for_again_with_the_same_id(self) -> None:
+        real = self.store.done
+
+        def lost(body: Any) -> Any:
+            answer = real(body)
+            if any("request_put" in one for one in body["success"]):
+                setattr(self.store, "done", real)
+                raise Unreachable("lost")
+            return answer
+
+        setattr(self.store, "done", lost)
+        self.assertEqual(self.ledger().submit(run(1)).number, 1)
+        self.assertEqual(self.log.last(), 1)
+
+    def test_what_is_unknown_when_the_time_is_over_is_said_with_its_id(self) -> None:
+        real = self.store.done
+
+        def hangs(body: Any) -> Any:
+            raise Unreachable("no node of the log answers")
+
+        setattr(self.store, "done", hangs)
+        with self.assertRaisesRegex(Unknown, "it isn't known whether pay-1 is put .* try again with this id") as caught:
+            self.ledger(seconds=0.5).submit(run(1), "pay-1")
+        self.assertEqual(caught.exception.id, "pay-1")
+        setattr(self.store, "done", real)
+        self.assertEqual(self.ledger().submit(run(1), "pay-1").number, 1)
+
+    def test_a_service_that_comes_again_is_found_again(self) -> None:
+        ledger = self.ledger()
+        self.assertEqual(ledger.submit(run(1)).number, 1)
+        self.service.close()
+        with self.assertRaises(Unknown):
+            self.ledger(seconds=0.3).submit(run(2))
+        self.start()
+        self.assertEqual(ledger.submit(run(2)).number, 2)
+
+    def test_final_lines_are_waited_for(self) -> None:
+        def vote() -> None:
+            for name in "ab":
+                put_vote(self.log, name, LINES, 1, b"1 returned 5\n")
+
+        threading.Timer(0.3, vote).start()
+        self.assertEqual(self.ledger().submit(run(1), wait=True), Placed(1, b"1 returned 5\n"))
+
+    def test_large_records_are_put_and_what_is_none_is_refused(self) -> None:
+        ledger = self.ledger()
+        self.assertEqual(ledger.submit(large(INLINE_BYTES)).number, 1)
+        self.assertEqual(len(self.log.read(1).taken[0].record), INLINE_BYTES + 4)
+        for record in b"\3\0", b"\2\5a", b"":
+            with self.assertRaises(Refused):
+                ledger.submit(record)
+        self.assertEqual(ledger.submit(run(1)).number, 2)
+
+    def test_one_service_at_a_time_and_its_socket_is_its_groups(self) -> None:
+        self.assertEqual(os.stat(self.path).st_mode & 0o777, 0o660)
+        from ledgerlog import saves
+        self.addCleanup(setattr, saves, "LOCK_SECONDS", saves.LOCK_SECONDS)
+        setattr(saves, "LOCK_SECONDS", 0.1)
+        with self.assertRaises(OSError):
+            Service(self.path, lambda: Log(self.store, "L"))
+
+    def test_other_writers_at_the_log_are_no_harm(self) -> None:
+        ledger = self.ledger()
+        for at in range(5):
+            list(self.log.append([Offer(f"other-{at}", run(at))], "anyone", self.log.settings()))
+            self.assertEqual(ledger.submit(run(10 + at)).number, 2 * at + 2)
+        self.assertEqual(self.store.get(self.log.keys.used("anyone")), b"40")
+
+
+class Batches(unittest.TestCase):
+    def test_a_transaction_has_no_more_operations_than_it_takes(self) -> None:
+        writer = Writer(made_log(Store()))
+        told: List[Any] = []
+        for at in range(200):
+            writer.waiting.put(Wanted(Offer(f"x{at}", run(at)), f"s{at}", told.append))
+        while len(told) < 200:
+            writer.put(writer.next())
+        self.assertEqual(told, list(range(1, 201)))
