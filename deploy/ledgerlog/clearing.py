@@ -12,8 +12,9 @@ from .times import AHEAD_SECONDS, HOUR, marked, marks_in, newest_before, text_of
 from .votes import votes_in
 from .written import Head, head_of
 
-# So many records are removed in one transaction: each with its id and its pieces, and what their submitters have.
-MOST_REMOVED = 30
+# So many records are removed in one transaction at most: by one range, each with its id and its pieces, and what their submitters have.
+MOST_REMOVED = 100
+MOST_OPERATIONS = 120
 # So many of a replica's lines are removed at once.
 MOST_DELETED = 10_000
 # A node is defragmented where its file has so many times what it uses.
@@ -59,8 +60,7 @@ class Clearing:
         removed = 0
         entries = self.oldest(upto)
         while entries:
-            self.remove(entries)
-            removed += len(entries)
+            removed += self.remove(entries)
             entries = self.oldest(upto)
         self.remove_votes(upto, agreed.number)
         return Cleared(upto, removed, self.remove_orphans(before.changed if before else 0), behind, upto < unneeded)
@@ -82,8 +82,8 @@ class Clearing:
         return mark.number if mark else 0
 
     def has_answered(self, name: str, number: int) -> bool:
-        newest = [*self.votes.newest(name, LINES), *self.votes.newest(name, SAVED)]
-        return number == 0 or any(vote.number >= number for vote in newest)
+        saved = self.votes.newest(name, SAVED)
+        return number == 0 or any(vote.number >= number for vote in saved) or self.votes.newest_lines(name, self.log.last()) >= number
 
     def oldest(self, upto: int) -> List[Entry]:
         """The oldest keys of records up to one, those that are no number with them."""
@@ -96,19 +96,37 @@ class Clearing:
         ids = map(value_of, self.etcd.transact([], [get(self.keys.id(head.id)) for _, head in told], [])[1])
         return [head for (entry, head), text in zip(told, ids) if text and number_in(text) == number_in(entry.key)]
 
-    def remove(self, entries: List[Entry]) -> None:
-        """Removes records, their ids and pieces, and takes their bytes off what their submitters have."""
+    def fitting(self, entries: List[Entry]) -> List[Entry]:
+        """As many of the first as one transaction removes."""
+        operations = 1
+        submitters: Set[str] = set()
+        for count, entry in enumerate(entries):
+            head = head_of(entry.value)
+            if head is not None:
+                operations += 2 if head.is_in_pieces else 1
+                submitters.add(head.submitter)
+            if operations + len(submitters) > MOST_OPERATIONS or count + len(submitters) > MOST_OPERATIONS:
+                return entries[:max(1, count)]
+        return entries
+
+    def remove(self, entries: List[Entry]) -> int:
+        """Removes records, their ids and pieces, and takes their bytes off what their submitters have: all at once, if they all still stand,
+        so that nothing is taken off twice where two clear, or an answer is lost. How many it removed."""
+        entries = self.fitting(entries)
         heads = self.owned(entries)
         while True:
             used = {self.keys.used(head.submitter): self.etcd.get(self.keys.used(head.submitter)) for head in heads}
-            compare = [equal(key, value) for key, value in used.items()]
-            done: List[Body] = [delete(entry.key) for entry in entries]
+            compare = [*(unchanged(entry.key, entry.changed) for entry in entries), *(equal(key, value) for key, value in used.items())]
+            done: List[Body] = [delete_range(entries[0].key, entries[-1].key + b"\0")]
             for head in heads:
                 done.append(delete(self.keys.id(head.id)))
                 if head.is_in_pieces:
                     done.append(delete_range(self.keys.pieces(head.id), after(self.keys.pieces(head.id))))
             if self.etcd.transact(compare, done + self.given_back(heads, used), [])[0]:
-                return
+                return len(entries)
+            now = self.etcd.range(entries[0].key, entries[-1].key + b"\0", 0, keys_only=True).entries
+            if [(one.key, one.changed) for one in now] != [(one.key, one.changed) for one in entries]:
+                return 0
 
     def given_back(self, heads: List[Head], used: Dict[bytes, Optional[bytes]]) -> List[Body]:
         """What submitters have in the log without these records."""

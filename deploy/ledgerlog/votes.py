@@ -5,13 +5,15 @@ from typing import Dict, Iterator, List, NamedTuple, Optional, Sequence, Tuple
 
 from .errors import RulesChanged
 from .etcd import Etcd
-from .keys import PROGRAM, SAVED, Keys, number_in
+from .keys import LINES, PROGRAM, SAVED, Keys, number_in
 from .requests import Body, absent, after, equal, get, get_range, none_between, put, unchanged, value_of
 from .settings import Settings
 
 # A transaction takes 128 operations.
 MOST_PUT = 100
 MOST_COMPARED = 100
+# So many records from the end are looked at first.
+LEAST_WIDTH = 1_000
 
 
 class Vote(NamedTuple):
@@ -136,6 +138,19 @@ class Votes:
         prefix = self.keys.by(name, kind)
         entries = self.etcd.range(prefix, after(prefix), count, last_first=True).entries
         return [Vote(number, entry.value) for entry in entries for number in [number_in(entry.key)] if number is not None]
+
+    def newest_lines(self, name: str, last: int) -> int:
+        """The newest record up to the last one for which a replica has put lines; 0 where there is none. A node reads and sorts all that a
+        range has, so the range grows from its end."""
+        width = LEAST_WIDTH
+        while True:
+            first = max(0, last - width)
+            keys = (self.keys.vote(name, LINES, first), self.keys.vote(name, LINES, last + 1))
+            entries = self.etcd.range(*keys, 1, last_first=True, keys_only=True).entries
+            number = number_in(entries[0].key) if entries else None
+            if number is not None or first == 0:
+                return number or 0
+            width *= 4
 
     def newest_agreed_save(self, most: int) -> Optional[Vote]:
         """The newest save up to a number that is final."""

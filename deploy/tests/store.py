@@ -7,7 +7,7 @@ import threading
 import time
 from typing import Any, Callable, Dict, List, Tuple
 
-from ledgerlog.errors import Full
+from ledgerlog.errors import Full, LogError
 from ledgerlog.etcd import Etcd
 from ledgerlog.keys import Keys
 from ledgerlog.log import Log, Offer
@@ -102,6 +102,9 @@ class Store(Etcd):
 
     def done(self, body: Body) -> Body:
         assert all(len(body[part]) <= MOST_OPERATIONS for part in ("compare", "success", "failure"))
+        puts = [one["request_put"]["key"] for one in body["success"] if "request_put" in one]
+        if len(set(puts)) < len(puts):
+            raise LogError("duplicate key given in txn request")
         is_done = all(map(self.holds, body["compare"]))
         before = self.revision
         responses: List[Any] = []

@@ -5,6 +5,7 @@ from ledgerlog.clearing import Clearing
 from ledgerlog.errors import LogError
 from ledgerlog.keys import LINES, PROGRAM, SAVED, numbered
 from ledgerlog.log import Offer
+from ledgerlog.requests import Body
 from ledgerlog.users import roles_of
 from ledgerlog.written import INLINE_BYTES
 
@@ -69,6 +70,57 @@ class ClearingALog(unittest.TestCase):
         self.assertEqual(Clearing(self.log, 0).run().orphans, 1)
         self.assertEqual(self.store.count(b"L/piece/"), 1)
         self.assertEqual(len(self.log.read(2).taken[0].record), INLINE_BYTES + 4)
+
+    def test_nothing_is_taken_off_twice_where_two_clear_at_once(self) -> None:
+        fill(self.log, 250)
+        fill(self.log, 50, "rich")
+        self.agree(280)
+        real = self.store.done
+
+        def with_another_before(body: Body) -> Body:
+            if any("request_delete_range" in one for one in body["success"]):
+                setattr(self.store, "done", real)
+                Clearing(self.log, 0).run()
+            return real(body)
+
+        setattr(self.store, "done", with_another_before)
+        self.assertEqual(Clearing(self.log, 0).run().records, 0)
+        self.assertEqual(self.store.count(b"L/record/"), 20)
+        self.assertIsNone(self.store.get(self.log.keys.used("anyone")))
+        self.assertEqual(self.store.get(self.log.keys.used("rich")), b"80")
+
+    def test_nothing_is_taken_off_twice_where_an_answer_is_lost(self) -> None:
+        fill(self.log, 250)
+        self.agree(200)
+        real = self.store.done
+
+        def twice(body: Body) -> Body:
+            real(body)
+            return real(body)
+
+        setattr(self.store, "done", twice)
+        Clearing(self.log, 0).run()
+        self.assertEqual(self.store.get(self.log.keys.used("anyone")), b"200")
+        self.assertEqual(self.store.count(b"L/record/"), 50)
+
+    def test_records_of_many_submitters_and_in_pieces_are_removed(self) -> None:
+        settings = self.log.settings()
+        for at in range(130):
+            list(self.log.append([Offer(f"x{at}", large(INLINE_BYTES) if at % 3 else b"\2\0")], f"s{at}", settings))
+        self.agree(130)
+        self.assertEqual(Clearing(self.log, 0).run().records, 130)
+        self.assertEqual([key for key in self.store.there if b"/used/" in key or b"/piece/" in key or b"/id/" in key], [])
+
+    def test_the_newest_lines_are_found_wherever_they_are(self) -> None:
+        import ledgerlog.votes as votes
+        self.addCleanup(setattr, votes, "LEAST_WIDTH", votes.LEAST_WIDTH)
+        setattr(votes, "LEAST_WIDTH", 2)
+        fill(self.log, 100)
+        one = Clearing(self.log, 0).votes
+        self.assertEqual(one.newest_lines("a", 100), 0)
+        for number in (1, 7, 60, 99, 100):
+            put_vote(self.log, "a", LINES, number, b"x")
+            self.assertEqual(one.newest_lines("a", 100), number)
 
     def test_what_was_put_by_hand_takes_nothing_of_others_away(self) -> None:
         self.store.put(self.log.keys.record(1), b"\0id-2 rich\n\2\0")

@@ -159,3 +159,15 @@ class Batches(unittest.TestCase):
         while len(told) < 200:
             writer.put(writer.next())
         self.assertEqual(told, list(range(1, 201)))
+
+    def test_in_one_transaction_each_id_is_once_and_a_quota_binds_its_submitter_alone(self) -> None:
+        store = Store()
+        writer = Writer(made_log(store, quotas={"poor": 4}))
+        told: Dict[str, Any] = {}
+        for name, who, number in (("a", "poor", 1), ("b", "rich", 2), ("c", "poor", 3), ("b", "rich", 2), ("d", "rich", 4)):
+            writer.waiting.put(Wanted(Offer(name, run(number)), who, lambda outcome, name=name: told.setdefault(name, outcome)))  # type: ignore
+        while len(told) < 4 or writer.left:
+            writer.put(writer.next())
+        self.assertEqual([told[name] for name in "bd"], [1, 2])
+        self.assertEqual([str(told[name]) for name in "ac"], ["poor has 0 bytes in the log, and may have 4"] * 2)
+        self.assertEqual(store.get(b"L/used/rich"), b"8")
