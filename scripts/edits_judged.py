@@ -2,8 +2,9 @@
 
 import re
 import shutil
+from functools import lru_cache
 from pathlib import Path
-from typing import Dict, List, NamedTuple, Optional, Set, Tuple
+from typing import Dict, Iterator, List, NamedTuple, Optional, Set, Tuple
 
 from common import CRATES
 from must_fail import Edit, Function, Place, complaints, edits_of, functions_of
@@ -43,11 +44,32 @@ def locate(edit: Edit) -> Optional[str]:
     return None
 
 
+@lru_cache(maxsize=None)
+def pristine(crate: str, file: str) -> Tuple[List[str], List[Function]]:
+    """The lines of a crate's file, and its functions."""
+    text = (CRATES / crate / file).read_text()
+    return text.split("\n"), functions_of(text)
+
+
+def bodies(edit: Edit) -> Iterator[Tuple[str, str]]:
+    """The functions that an edit changes, as they are without it: the name and the text of each."""
+    for file, at in edit.places:
+        if at is not None:
+            lines, functions = pristine(edit.crate, file)
+            yield functions[at].name, "\n".join(lines[functions[at].first:functions[at].last + 1])
+
+
+def calls(one: Edit, other: Edit) -> bool:
+    """Whether a function that one edit changes calls, by the name, one that the other changes."""
+    return any(f"{name}(" in text and re.search(rf"\b{name}\(", text) for _, text in bodies(one) for name, _ in bodies(other))
+
+
 def clash(one: Edit, other: Edit) -> bool:
-    """Whether two edits have to be tried in different rounds: they change one function, or one of them changes what is of none."""
+    """Whether two edits have to be tried in different rounds: they change one function, or one of them changes what is of none, or a
+    function calls one that the other changes: it isn't judged then."""
     if any(at is None for _, at in one.places + other.places):
         return True
-    return bool(set(one.places) & set(other.places))
+    return bool(set(one.places) & set(other.places)) or calls(one, other) or calls(other, one)
 
 
 def rounds_of(edits: List[Edit]) -> List[List[Edit]]:
