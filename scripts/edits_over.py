@@ -95,6 +95,16 @@ def bare(text: str) -> str:
     return text.strip()
 
 
+def parameters(text: str) -> Tuple[str, str]:
+    """What stands in the angle brackets that a text begins with, if it does, and what stands behind them."""
+    depth = 0
+    for at, sign in enumerate(text):
+        depth += (sign == "<") - (sign == ">" and text[at - 1] != "-")
+        if not depth:
+            return (text[1:at], text[at + 1:]) if at else ("", text)
+    return "", text
+
+
 def joined(trait: str, variables: Set[str]) -> str:
     """How a trait stands in a name: with what it is given, but for variables, as `FromIoError` for `From<io::Error>`."""
     paths = [it.split("::") for it in re.findall(r"\w+(?:::\w+)*", trait)]
@@ -108,11 +118,12 @@ def owner_of(lines: List[str], first: int) -> Tuple[str, str]:
     for at in range(first, -1, -1):
         found = IMPL.match(lines[at])
         if found and len(found[1]) < indent:
-            given = re.match(r" *<((?:[^<>]|<[^<>]*>)*)>", found[2])
-            variables = set(re.findall(r"(?:^|, *)(\w+)", given[1])) if given else set()
-            head = re.sub(r"\bwhere\b.*|\{.*$|'\w+,? ?|&|\bmut ", "", found[2][given.end() if given else 0:])
+            given, rest = parameters(found[2])
+            variables = set(re.findall(r"(?:^|, *)(\w+)", bare(given)))
+            head = re.sub(r"\bwhere\b.*|\{.*$|'\w+,? ?|&|\bmut ", "", rest)
             trait, is_of_trait, type_name = head.rpartition(" for ")
             name = bare(type_name).split("::")[-1]
+            name = name[:1].upper() + name[1:]
             return name + (joined(trait, variables) if is_of_trait else ""), name
     return "", ""
 
