@@ -124,7 +124,7 @@ def owner_of(lines: List[str], first: int) -> Tuple[str, str]:
             trait, is_of_trait, type_name = head.rpartition(" for ")
             name = bare(type_name).split("::")[-1]
             name = name[:1].upper() + name[1:]
-            return name + (joined(trait, variables) if is_of_trait else ""), name
+            return name + (joined(trait, variables) if is_of_trait and trait.strip() != "Drop" else ""), name
     return "", ""
 
 
@@ -142,8 +142,7 @@ def names_of(place: Place, crate: str) -> List[str]:
     is_here = not owner or re.search(rf"\b(?:struct|enum|trait) {type_name}\b", text)
     full = "::".join([*parts, name])
     found = [full, name] if is_here else [name, full]
-    whole = ["::".join([*parts, type_name])] if type_name else []
-    return list(dict.fromkeys([*found, *whole, *(["::".join(parts)] if parts else [])]))
+    return list(dict.fromkeys([*found, *(["::".join(parts)] if parts else [])]))
 
 
 class Copy:

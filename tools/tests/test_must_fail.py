@@ -138,6 +138,11 @@ class Owners(unittest.TestCase):
         self.assertEqual(self.owner("impl From<io::Error> for KeepError {"), "KeepErrorFromIoError")
         self.assertEqual(self.owner("impl<R: Read, W: Write> AfterRecord<R, BufWriter<W>> for Prompt {"), "PromptAfterRecordBufWriter")
 
+        self.assertEqual(self.owner("impl<R: Read, A: AfterRecord<Counted<R>, u8>> AfterRecord<Counted<R>, u8> for Whole<A> {"), "WholeAfterRecordCountedU8")
+
+    def test_of_a_drop(self) -> None:
+        self.assertEqual(self.owner("impl Drop for Overlay<'_> {"), "Overlay")
+
     def test_a_function_of_no_type(self) -> None:
         self.assertEqual(owner_of(["fn call() {}"], 0), ("", ""))
 
