@@ -2,6 +2,7 @@
 
 import hashlib
 import re
+from threading import Lock
 from typing import Dict, Iterable, Iterator, List, NamedTuple
 
 from asked import ASKED
@@ -19,6 +20,7 @@ PAGES = "crates/moveledger/specs/Headline.antt", "crates/moveledger/specs/Outcom
 # A definition, a field of a record, and a case; then what a field is that only names something.
 CLAUSE = re.compile(r"^(abbrev|record|data) pub (\w+)|^pub (abbrev|record|data) (\w+)|^  (?:pub )?([a-z]\w*) : (.*)")
 ONLY_NAMED = re.compile(r"(?:List .*|LedgerView|Request)$")
+NOTING = Lock()
 ABOUT = """# On which text the must-fail edits were tried last, when a goal refused each: a line for each crate, with the checksum of its src, specs and
 # proofs then, and below it each of its edits, with the checksum of the edit's own text. scripts/try-edits CRATE writes it.
 """
@@ -122,15 +124,22 @@ def tried() -> Dict[str, Tried]:
     return found
 
 
-def note_tried(crate: str) -> None:
-    """Notes that all edits of a crate were tried on its text of today."""
-    all_tried = tried()
-    all_tried[crate] = Tried(sum_of_code(crate), {name_of(it): sum_of(it) for it in edits_of(crate)})
-    lines = [ABOUT]
-    for name in sorted(set(all_tried) & set(crates_with_edits())):
-        lines += [f"{name} {all_tried[name].code}\n", *(f"    {edit} {told}\n" for edit, told in sorted(all_tried[name].edits.items()))]
-    TRIED.parent.mkdir(exist_ok=True)
-    TRIED.write_text("".join(lines), encoding="utf-8")
+def note_tried(crate: str, code: str, edits: Iterable[Edit]) -> None:
+    """Notes that a goal refused these edits of a crate, whose text had this checksum, if it still has. Others that were tried on it stay."""
+    with NOTING:
+        if sum_of_code(crate) != code:
+            return
+        all_tried = tried()
+        there = {name_of(it): sum_of(it) for it in edits_of(crate)}
+        last = all_tried.get(crate, Tried("", {}))
+        kept = {name: told for name, told in last.edits.items() if last.code == code and there.get(name) == told}
+        all_tried[crate] = Tried(code, {**kept, **{name_of(it): sum_of(it) for it in edits}})
+        lines = [ABOUT]
+        for name in sorted(set(all_tried) & set(crates_with_edits())):
+            lines += [f"{name} {all_tried[name].code}\n", *(f"    {edit} {told}\n" for edit, told in sorted(all_tried[name].edits.items()))]
+        new = TRIED.with_name("tried.new")
+        new.write_text("".join(lines), encoding="utf-8")
+        new.replace(TRIED)
 
 
 def some(names: Iterable[str]) -> str:
