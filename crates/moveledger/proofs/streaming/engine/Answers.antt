@@ -1,4 +1,4 @@
-use Rattle.std.proofs.Common.{◌≡◌, Err, ap}
+use Rattle.std.proofs.Common.{◌≡◌, Err, ap, ◌∙◌}
 use Rattle.std.proofs.KnownBytes.{Keeps-refl}
 use Rattle.mv_ledger_state.specs.View.{state_of}
 use Rattle.moveledger.specs.declared.streaming.EngineError.TheVariants.{Read, Write, Memory}
@@ -8,25 +8,25 @@ use Rattle.moveledger.proofs.HeadlineLemmas.{is_accounted}
 use Rattle.moveledger.proofs.streaming.engine.Goals as goal
 
 pub returns-in-Ok-clause-ok : goal.returns-in-Ok-clause-ok
-returns-in-Ok-clause-ok g c = Headline-kept _ _ _ _ _ _ _ c.in-Ok.ensures.ok (Keeps-refl _)
+returns-in-Ok-clause-ok g c = Headline-kept _ _ _ _ _ _ _ (rw c.in-Ok.is at c.answer_from-end.ensures.ok) (Keeps-refl _)
 
 pub returns-in-Err-clause-err : goal.returns-in-Err-clause-err
-returns-in-Err-clause-err g c = (c.answer_from-end.new.answered, c.in-Err.ensures.err)
+returns-in-Err-clause-err g c = (c.answer_from-end.new.answered, rw c.in-Err.is at c.answer_from-end.ensures.err)
 
 pub returns-in-Err-clause-read : goal.returns-in-Err-clause-read
 returns-in-Err-clause-read g c failed =
     let same : c.in-Err.error ≡ Read = cc in
-    (c.answer_from-end.new.answered, c.in-Err.ensures.read (ap (λ z. Err z) same))
+    (c.answer_from-end.new.answered, c.answer_from-end.ensures.read (c.in-Err.is ∙ ap (λ z. Err z) same))
 
 pub returns-in-Err-clause-write : goal.returns-in-Err-clause-write
 returns-in-Err-clause-write g c failed =
     let same : c.in-Err.error ≡ Write = cc in
-    (c.answer_from-end.new.answered, never-failed (c.in-Err.ensures.write (ap (λ z. Err z) same)))
+    (c.answer_from-end.new.answered, never-failed (c.answer_from-end.ensures.write (c.in-Err.is ∙ ap (λ z. Err z) same)))
 
 pub returns-in-Err-clause-memory : goal.returns-in-Err-clause-memory
 returns-in-Err-clause-memory g c failed =
     let same : c.in-Err.error ≡ Memory = cc in
-    (c.answer_from-end.new.answered, c.in-Err.ensures.memory (ap (λ z. Err z) same))
+    (c.answer_from-end.new.answered, c.answer_from-end.ensures.memory (c.in-Err.is ∙ ap (λ z. Err z) same))
 
 pub returns-in-Ok-clause-began : goal.returns-in-Ok-clause-began
 returns-in-Ok-clause-began g c = is_accounted (state_of c.args.ledger.now) c.is_sound.ensures
