@@ -1,4 +1,5 @@
-"""Which must-fail edits the gate tries each time (tests/edits/fixed), and on which text each edit was tried last (tests/edits/tried)."""
+"""Which must-fail edits the gate tries each time (tests/edits/fixed), on which text each edit was tried last (tests/edits/tried), and of
+which crates they are tried later (tests/edits/later)."""
 
 import hashlib
 import re
@@ -9,7 +10,7 @@ from asked import ASKED
 from common import CRATES, TOP
 from must_fail import MORE, Edit, edits_of
 
-FIXED, TRIED = TOP / "tests/edits/fixed", TOP / "tests/edits/tried"
+FIXED, TRIED, LATER = TOP / "tests/edits/fixed", TOP / "tests/edits/tried", TOP / "tests/edits/later"
 PARTS = "src", "specs", "proofs"
 # The gate tries so many at least each time.
 LEAST = 60
@@ -124,6 +125,12 @@ def tried() -> Dict[str, Tried]:
     return found
 
 
+def later() -> List[str]:
+    """The crates of which the edits are to be tried on the text of today after the landing, and not by the gate."""
+    lines = LATER.read_text(encoding="utf-8").splitlines() if LATER.exists() else []
+    return [line for line in lines if line and not line.startswith("#")]
+
+
 def note_tried(crate: str, code: str, edits: Iterable[Edit]) -> None:
     """Notes that a goal refused these edits of a crate, whose text had this checksum, if it still has. Others that were tried on it stay."""
     with NOTING:
@@ -149,8 +156,9 @@ def some(names: Iterable[str]) -> str:
 
 
 def faults_of_tried() -> Iterator[str]:
-    """Edits that the notes name and that are gone, and those that they lack of a crate that they have."""
-    for crate, last in sorted(tried().items()):
+    """Edits that the notes name and that are gone, and those that they lack of a crate that they have, unless its edits are tried later."""
+    put_off = later()
+    for crate, last in sorted((crate, last) for crate, last in tried().items() if crate not in put_off):
         there = {name_of(it) for it in edits_of(crate)}
         if set(last.edits) - there:
             yield f"tests/edits/tried names edits of {crate} that are gone: {some(set(last.edits) - there)}"
