@@ -5,6 +5,8 @@
 --   Offering        Offered modules that are published one by one: that they pass, and that the published ones are those.
 --   BodyReading     Reading what stands after the modules of a saved ledger: how far it has come.
 --   BodyTallies     Reading the tallies of all modules: how far it has come, and what stays.
+--   Extending       What is read at the front of bytes is read there whatever follows.
+--   Unreading       What is not read at the front of bytes, nor at that of longer ones where they are malformed: from the parts to the whole.
 --   BodyEntries     The text of a stored value is read as its key and leaves, and what is read is such a text.
 --   StructParts     What is made of a struct's fields, found by its name.
 --   LeafKinds       The leaves of a fine value are of the kinds that its struct says, and its text is theirs.
@@ -20,12 +22,15 @@
 --   CountedStorage  How many values of a struct are stored, at any depth, from how many values are stored of each struct with key.
 --   TalliesCounted  Tallies against the counts of what is stored.
 --   Loaded          From its parts, which ledger bytes are loaded as, and why they are not.
+--   Longer          What is known of each text that begins with some bytes and has more.
 pub mod Bodies
 pub mod LoadedHead
 pub mod LoadedModules
 pub mod Offering
 pub mod BodyReading
 pub mod BodyTallies
+pub mod Extending
+pub mod Unreading
 pub mod BodyEntries
 pub mod StructParts
 pub mod LeafKinds
@@ -41,3 +46,4 @@ pub mod CountedStructs
 pub mod CountedStorage
 pub mod TalliesCounted
 pub mod Loaded
+pub mod Longer

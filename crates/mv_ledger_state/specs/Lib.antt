@@ -14,3 +14,4 @@ pub mod SavedLaws
 pub mod Layouts
 pub mod Inside
 pub mod Parts
+pub mod Unread

@@ -4,8 +4,9 @@
 --   AreTallied s                           the tallies are those of what is stored, and no more than the runs can have made
 --   IsLoaded bytes s                       the bytes are loaded as this ledger (why all is verified anew: decision 45)
 --   FailsLoad bytes number                 the first of five reasons against the bytes
+--   LongerFail front number                each text that begins with these bytes and has more fails for this reason
 --   load_number e, IsLoadRefusal bytes e   a reason's number, and that the reason answered is the first one
-use Rattle.std.specs.Prelude.{◌≡◌, ℕ, ◌+◌, ◌*◌, ◌≤◌, IsTrue, List, ◌++◌, map, Option, Some, None, ⊤}
+use Rattle.std.specs.Prelude.{◌≡◌, ℕ, ◌+◌, ◌*◌, ◌≤◌, IsTrue, List, ◌∷◌, ◌++◌, map, Option, Some, None, ⊤}
 use Rattle.std.specs.List.{AllByRecursion}
 use Rattle.mv_move_types.specs.Limits.{most_steps}
 use Rattle.mv_move_types.specs.Published.{PublishedModule}
@@ -59,6 +60,10 @@ pub data FailsLoad (bytes : List ℕ) : ℕ → Type 0 where
       → ((s : LedgerState) → s.published ≡ ps → IsSavedText form bytes s → ⊥) → FailsLoad bytes 4
   no_tallies : (form : Form) (s : LedgerState) → IsSavedText form bytes s
       → AllPass (map offered s.published) s.published → AreLinked s.published → ¬ AreTallied s → FailsLoad bytes 5
+
+-- each text that begins with these bytes, and has at least one more, fails for this reason
+abbrev pub LongerFail : List ℕ → ℕ → Type 0
+LongerFail front number = (byte : ℕ) (more : List ℕ) → FailsLoad (front ++ byte ∷ more) number
 
 -- the number of a reason; want of memory has none
 abbrev pub load_number : LoadError → Option ℕ

@@ -1,22 +1,23 @@
 // Tallies of the structs with neither copy nor drop.
-ghost use Rattle.std.specs.Prelude.{◌≡◌, ◌+◌, ◌-◌, ◌^◌, ◌<◌, ◌≤◌, [], ◌∷◌, ◌++◌, All, true, length, map, drop, slice_get, unwrap_or, None, Some, IfOk, IfErr, OnOk, OnErr};
+ghost use Rattle.std.specs.Prelude.{◌≡◌, ◌+◌, ◌-◌, ◌^◌, ◌<◌, ◌≤◌, [], ◌∷◌, ◌++◌, All, true, length, map, drop, slice_get, unwrap_or, Some, IfOk, IfErr, OnOk};
 ghost use Rattle.std.specs.Vec.{vec_len, vec_capacity};
 ghost use Rattle.mv_linker.specs.Stored.{with_at};
 ghost use Rattle.mv_frames.specs.Counters.{AtMost, is_tally_at};
 ghost use Rattle.mv_module_text.specs.Parsing.{entries_from};
 ghost use Rattle.mv_ledger_state.specs.Parts.BodyParts.{form_of, counts_of, struct_of, tally_from};
 ghost use Rattle.mv_ledger_state.specs.Tallying.{fresh_tally, tally_after, AreInOrder, HasRoomFor, HasRoomLeft, IsRoomFor};
+ghost use Rattle.mv_ledger_state.specs.Unread.{IsUnread};
 ghost use Rattle.mv_ledger_state.specs.View.{ArePlaced, scarce_indices};
 ghost use Rattle.mv_machine.specs.Tallies.{all_of, lists_of};
 
 use crate::saved::loading::head::SavedForm;
 use crate::saved::loading::tallies::read_tallies;
+use crate::unread::Unread;
 use mv_binary_format::Module;
 use mv_frames::StructTally;
 use mv_linker::is_scarce;
 use mv_machine::Tally;
 use mv_module_text::Reader;
-use mv_move_types::Refusal;
 use std::alloc::{AllocError, Global};
 use std::marker::Model;
 
@@ -162,10 +163,9 @@ impl Tallies {
     }
 
     /// Reads the counts of all tallies, module by module, in place of those that they have.
-    pub(crate) fn read(&mut self, reader: &mut Reader<'_>, form: SavedForm) -> Result<(), Refusal>
+    pub(crate) fn read(&mut self, reader: &mut Reader<'_>, form: SavedForm) -> Result<(), Unread>
         ensures ok { OnOk result (entries_from (tally_from (form_of form)) (length (all_of self.old)) reader.old ≡ Some (map counts_of (all_of self.new), reader.new)) }
-        ensures refused { OnErr result (entries_from (tally_from (form_of form)) (length (all_of self.old)) reader.old ≡ None) }
-        ensures errors { IfErr result (λ e. e ≡ Refusal.Phase 2) }
+        ensures refused { IfErr result (IsUnread (entries_from (tally_from (form_of form)) (length (all_of self.old))) reader.old) }
         ensures kept { map (map struct_of) self.new ≡ map (map struct_of) self.old }
     {
         'each: for tallies in self.modules.iter_mut() {

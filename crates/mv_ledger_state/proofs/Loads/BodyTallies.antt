@@ -16,7 +16,7 @@ abbrev pushed : {A : Type 0} → A → Read (List A) → Read (List A)
 pushed x o = o >>= λ xs. Some (x ∷ xs.0, xs.1)
 
 -- so many others after those that were read
-abbrev with_more : {A : Type 0} → (List ℕ → Read A) → ℕ → Read (List A) → Read (List A)
+abbrev pub with_more : {A : Type 0} → (List ℕ → Read A) → ℕ → Read (List A) → Read (List A)
 with_more each n o = o >>= λ r. option_map (after r.0) (entries_from each n r.1)
 
 after-push : {A : Type 0} (x : A) (xs : List A) (o : Read (List A)) → pushed x (option_map (after xs) o) ≡ option_map (after (x ∷ xs)) o
@@ -54,7 +54,7 @@ all-split [] ys = refl
 all-split (x ∷ xs) ys = ap (λ z. x ++ z) (all-split xs ys) ∙ sym (append_assoc x (all_of xs) (all_of ys))
 
 -- those of the next module, and those after it
-left-is : (each : List ℕ → Read (ℕ × ℕ)) (i : ℕ) (tss : List (List Tally)) (cur : List ℕ) (d : List Tally) → i < length tss
+pub left-is : (each : List ℕ → Read (ℕ × ℕ)) (i : ℕ) (tss : List (List Tally)) (cur : List ℕ) (d : List Tally) → i < length tss
     → entries_from each (length (all_of (drop i tss))) cur ≡ with_more each (length (all_of (drop (i + 1) tss))) (entries_from each (length (get_or tss i d)) cur)
 left-is each i tss cur d lt =
     let front : all_of (drop i tss) ≡ get_or tss i d ++ all_of (drop (i + 1) tss) = ap all_of (drop_more tss i d lt) in
@@ -136,7 +136,7 @@ module _ (vs : List (Vec Tally Global)) (i : ℕ) (v : Vec Tally Global) (before
   pub lists-set : lists_of (slice_set vs i (with_items (get_or vs i v) ts)) ≡ slice_set (lists_of vs) i ts
   lists-set = map-set (λ v. v.items) vs i (with_items (get_or vs i v) ts) ∙ ap (λ z. slice_set (lists_of vs) i z) (with_items_is (get_or vs i v) ts (kept-length ts before kept ∙ len))
 
-  here-is : get_or (lists_of vs) i [] ≡ before
+  pub here-is : get_or (lists_of vs) i [] ≡ before
   here-is = get_or-map (λ v. v.items) vs i v [] short ∙ sym value
 
   pub short-lists : i < length (lists_of vs)

@@ -11,6 +11,10 @@ use Rattle.mv_soundness.proofs.Words.Sizes.{sizes}
 use Rattle.mv_ledger_state.specs.declared.saved.loading.LoadError.{LoadError}
 use Rattle.mv_ledger_state.specs.declared.saved.loading.LoadError.TheVariants.{Memory}
 use Rattle.mv_ledger_state.proofs.Accepted.Stores.{accepted_store}
+use Rattle.mv_ledger_state.proofs.Common.{Body, Form, append-nil}
+use Rattle.mv_ledger_state.specs.Unread.{IsUnreadBody, unread_as}
+use Rattle.mv_ledger_state.specs.declared.unread.Unread.{Unread}
+use Rattle.mv_ledger_state.specs.declared.unread.Unread.TheVariants.{Cut, Malformed, Memory as OutOfMemory}
 use Rattle.mv_ledger_state.proofs.Loads.LoadedHead.{head-parts, head-whole, head-had}
 use Rattle.mv_ledger_state.proofs.Loads.LoadedTallies.{counts-are, still-many}
 use Rattle.mv_ledger_state.proofs.Spelling.{passed-spelled}
@@ -54,6 +58,39 @@ refused-as bytes reason NoMemory r is errors fails = subst (IsLoadRefusal bytes)
 refused-as bytes reason (Phase p) r is (inl two) fails = subst (IsLoadRefusal bytes) (sym is) (fails two)
 refused-as bytes reason (Phase p) r is (inr memory) fails = absurd (phase-no-memory (Phase p) p refl memory)
 
+-- a part is not read for what the bytes have there, or for want of memory
+pub unread-as : (bytes : List ℕ) (form : Form) (modules : List Module) (count : ℕ) (rest : List ℕ) (e : Unread) (r : LoadError) → r ≡ unread_as Body e → IsUnreadBody form modules count rest e
+    → (IsNoBody form modules count rest → FailsLoad bytes 4) → IsLoadRefusal bytes r
+unread-as bytes form modules count rest Cut r is none fails = subst (IsLoadRefusal bytes) (sym is) (fails none)
+unread-as bytes form modules count rest Malformed r is none fails = subst (IsLoadRefusal bytes) (sym is) (fails (subst (IsNoBody form modules count) (append-nil rest) (none [])))
+unread-as bytes form modules count rest OutOfMemory r is none fails = subst (IsLoadRefusal bytes) (sym is) tt
+
+-- ---- bytes that have a head and no body
+
+module _ (bytes : List ℕ) (head : SavedHead) (rest : List ℕ) (begins : head_from bytes ≡ Some (head, rest)) (has : HasHead bytes head.form head.runs head.offers)
+    (ps : List PublishedModule) (tss : List (List Tally)) (every : AllPass head.offers ps) (held : IsTalliedStore ps tss) where
+  -- a text of these modules ends in a body
+  text-body : (s : LedgerState) → s.published ≡ ps → IsSavedText head.form bytes s → IsBody head.form (tables_in s.published) rest s.tallies s.storage
+  text-body s is text =
+      let whole = ap head_from text.text ∙ head-whole head.form (body_text head.form s) s.runs (map offered s.published) text.head in
+      let had : SavedHead = record { form = head.form; runs = s.runs; offers = map offered s.published } in
+      let same : rest ≡ body_text head.form s = ap (λ (z : SavedHead × List ℕ). z.1) (same_Some (head, rest) (had, body_text head.form s) (sym begins ∙ whole)) in
+      record { text = same; counts = text.counts; ascending = text.ascending; typed = text.typed; few = text.few }
+
+  -- as many tallies as the modules have
+  text-many : (s : LedgerState) → s.published ≡ ps → IsSavedText head.form bytes s → length s.tallies ≡ length (all_of tss)
+  text-many s is text =
+      sym (length-map s.tallies (λ (t : Tallied). t.struct)) ∙ ap length (text.tallied ∙ ap (λ (qs : List PublishedModule). scarce_structs (tables_in qs)) is ∙ sym (tallied-structs ps tss held))
+      ∙ length-map (map (tallied (tables_in ps)) (all_of tss)) (λ (t : Tallied). t.struct) ∙ length-map (all_of tss) (tallied (tables_in ps))
+
+  -- so where no body is read the bytes are no text
+  pub without-body : EachBodyIsRead → IsNoBody head.form (tables_in ps) (length (all_of tss)) rest → FailsLoad bytes 4
+  without-body reads none = no_body head.form head.runs head.offers ps has every (record { once = held.store.once; links = held.store.links }) (λ s is text.
+      let few : length s.published ≤ 65536 = omega (arith, length-map s.published offered, text.head.few) in
+      let read = reads head.form s.published rest s.tallies s.storage (subst IsStore (sym is) held.store) few (text-body s is text) in
+      none (map counted_by s.tallies, flat_storage s.storage)
+      (sym (ap₂ (λ (qs : List PublishedModule) (n : ℕ). body_from head.form (tables_in qs) n rest) is (text-many s is text)) ∙ read))
+
 -- ---- bytes with a head
 
 module _ (bytes : List ℕ) (head : SavedHead) (rest : List ℕ) (are : AreBytes bytes) (begins : head_from bytes ≡ Some (head, rest)) where
@@ -74,27 +111,9 @@ module _ (bytes : List ℕ) (head : SavedHead) (rest : List ℕ) (are : AreBytes
     linked : AreLinked ps
     linked = record { once = held.store.once; links = held.store.links }
 
-    -- a text of these modules ends in a body
-    text-body : (s : LedgerState) → s.published ≡ ps → IsSavedText head.form bytes s → IsBody head.form (tables_in s.published) rest s.tallies s.storage
-    text-body s is text =
-        let whole = ap head_from text.text ∙ head-whole head.form (body_text head.form s) s.runs (map offered s.published) text.head in
-        let had : SavedHead = record { form = head.form; runs = s.runs; offers = map offered s.published } in
-        let same : rest ≡ body_text head.form s = ap (λ (z : SavedHead × List ℕ). z.1) (same_Some (head, rest) (had, body_text head.form s) (sym begins ∙ whole)) in
-        record { text = same; counts = text.counts; ascending = text.ascending; typed = text.typed; few = text.few }
-
-    -- as many tallies as the modules have
-    text-many : (s : LedgerState) → s.published ≡ ps → IsSavedText head.form bytes s → length s.tallies ≡ length (all_of tss)
-    text-many s is text =
-        sym (length-map s.tallies (λ (t : Tallied). t.struct)) ∙ ap length (text.tallied ∙ ap (λ (qs : List PublishedModule). scarce_structs (tables_in qs)) is ∙ sym (tallied-structs ps tss held))
-        ∙ length-map (map (tallied (tables_in ps)) (all_of tss)) (λ (t : Tallied). t.struct) ∙ length-map (all_of tss) (tallied (tables_in ps))
-
     -- so where no body is read the bytes are no text
     pub fails-body : EachBodyIsRead → IsNoBody head.form (tables_in ps) (length (all_of tss)) rest → FailsLoad bytes 4
-    fails-body reads none = no_body head.form head.runs head.offers ps has every linked (λ s is text.
-        let few : length s.published ≤ 65536 = omega (arith, length-map s.published offered, text.head.few) in
-        let read = reads head.form s.published rest s.tallies s.storage (subst IsStore (sym is) held.store) few (text-body s is text) in
-        none (map counted_by s.tallies, flat_storage s.storage)
-        (sym (ap₂ (λ (qs : List PublishedModule) (n : ℕ). body_from head.form (tables_in qs) n rest) is (text-many s is text)) ∙ read))
+    fails-body reads none = without-body bytes head rest begins has ps tss every held reads none
 
     module _ (uss : List (List Tally)) (stored : FlatStorage) (kept : map (map struct_of) uss ≡ map (map struct_of) tss) (few : length stored < 2 ^ 64)
         (read : body_from head.form (tables_in ps) (length (all_of tss)) rest ≡ Some ((map counts_of (all_of uss), stored), [])) (parts : EachReadIsBody) where

@@ -4,12 +4,14 @@ ghost use Rattle.mv_ledger_state.specs.Asking.{offers_of};
 ghost use Rattle.mv_ledger_state.specs.Loading.{IsLoaded, load_number, IsLoadRefusal};
 ghost use Rattle.mv_ledger_state.specs.Parts.LoadedParts.{head_of, reason_of, BeginsWith};
 ghost use Rattle.mv_ledger_state.specs.Publishing.{AllPass};
+ghost use Rattle.mv_ledger_state.specs.Unread.{unread_as};
 ghost use Rattle.mv_ledger_state.specs.View.{state_of, view_of, IsLedger};
 ghost use Rattle.mv_machine.specs.Tallies.{all_of};
 
 mod balance;
 mod body;
 pub(crate) mod head;
+pub(crate) mod longer;
 mod modules;
 mod order;
 mod singly;
@@ -18,6 +20,7 @@ pub(crate) mod tallies;
 mod values;
 
 use crate::published::Published;
+use crate::unread::Unread;
 use balance::are_tallied;
 use body::read_body;
 use head::{Head, read_head};
@@ -87,6 +90,16 @@ fn because(refusal: Refusal, reason: LoadError) -> LoadError
     }
 }
 
+/// Why bytes are not loaded where a part of them was not read: for this reason, or for want of memory.
+fn unread(error: Unread, reason: LoadError) -> LoadError
+    ensures { result ≡ unread_as reason error }
+{
+    match error {
+        Unread::Cut | Unread::Malformed => reason,
+        Unread::Memory => LoadError::Memory,
+    }
+}
+
 /// Reads what follows the modules of a saved ledger that begins so, tries the tallies against it, and gives what is stored.
 fn read_stored(
     alloc: Global,
@@ -103,7 +116,7 @@ fn read_stored(
 {
     let storage = match read_body(alloc, reader, head.form, &joined.store, &mut joined.tallies) {
         Ok(storage) => storage,
-        Err(refusal) => return Err(because(refusal, LoadError::Body)),
+        Err(error) => return Err(unread(error, LoadError::Body)),
     };
     if !are_tallied(alloc, &joined.store, &storage, &joined.tallies, head.runs)? {
         return Err(LoadError::Tally);

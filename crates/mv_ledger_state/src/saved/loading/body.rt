@@ -1,18 +1,18 @@
 // What follows the modules of a saved ledger: its tallies and its stored values.
-ghost use Rattle.std.specs.Prelude.{◌≡◌, ◌⊎◌, ◌^◌, ◌<◌, ◌≤◌, [], Some, Err, IfOk, IfErr, map, length};
+ghost use Rattle.std.specs.Prelude.{◌≡◌, ◌^◌, ◌<◌, ◌≤◌, [], Some, IfOk, IfErr, map, length};
 ghost use Rattle.mv_link_rules.specs.Link.{tables_in};
 ghost use Rattle.mv_ledger_state.specs.Parts.BodyParts.{form_of, counts_of, struct_of};
-ghost use Rattle.mv_ledger_state.specs.Parts.LoadedParts.{body_from, IsNoBody};
+ghost use Rattle.mv_ledger_state.specs.Parts.LoadedParts.{body_from};
+ghost use Rattle.mv_ledger_state.specs.Unread.{IsUnreadBody};
 ghost use Rattle.mv_machine.specs.Tallies.{all_of};
 
-use crate::payload::MALFORMED;
 use crate::saved::layouts::Layouts;
 use crate::saved::loading::head::SavedForm;
 use crate::saved::loading::values::read_storage;
 use crate::tallies::Tallies;
+use crate::unread::Unread;
 use mv_linker::Store;
 use mv_module_text::Reader;
-use mv_move_types::Refusal;
 use mv_storage::Storage;
 use std::alloc::Global;
 
@@ -20,18 +20,17 @@ use std::alloc::Global;
 ///
 /// # Errors
 ///
-/// The phase of malformed bytes, where they are no such thing; `Memory`, where a growth was refused.
+/// `Cut` or `Malformed` if they are no such thing; `Memory` if an allocation failed.
 pub fn read_body(
     alloc: Global,
     reader: &mut Reader<'_>,
     form: SavedForm,
     store: &Store,
     tallies: &mut Tallies,
-) -> Result<Storage, Refusal>
+) -> Result<Storage, Unread>
     requires few { length store.now ≤ 65536 }
     ensures ok { IfOk result (λ s. body_from (form_of form) (tables_in store.now) (length (all_of tallies.old)) reader.old ≡ Some ((map counts_of (all_of tallies.new), s.committed), [])) }
-    ensures refused { result ≡ Err (Refusal.Phase 2) → IsNoBody (form_of form) (tables_in store.now) (length (all_of tallies.old)) reader.old }
-    ensures errors { IfErr result (λ e. (e ≡ Refusal.Phase 2) ⊎ (e ≡ Refusal.Memory)) }
+    ensures refused { IfErr result (IsUnreadBody (form_of form) (tables_in store.now) (length (all_of tallies.old)) reader.old) }
     ensures kept { map (map struct_of) tallies.new ≡ map (map struct_of) tallies.old }
     ensures few { IfOk result (λ s. length s.committed < 2 ^ 64) }
 {
@@ -39,7 +38,7 @@ pub fn read_body(
     let layouts = Layouts::new(alloc, store)?;
     let storage = read_storage(alloc, &layouts, reader, form)?;
     if !reader.is_empty() {
-        return Err(MALFORMED);
+        return Err(Unread::Malformed);
     }
     // For the prover: they are few.
     let _entries = storage.iter();

@@ -1,18 +1,24 @@
 // Reading the stored values of a saved ledger.
-ghost use Rattle.std.specs.Prelude.{◌≡◌, ◌⊎◌, [], None, Some, Err, IfOk, IfErr, OnOk, cond, is_some, not};
+ghost use Rattle.std.specs.Prelude.{◌≡◌, [], Some, IfOk, IfErr, OnOk, cond, is_some, not};
 ghost use Rattle.mv_storage.specs.FlatStorage.{words_under, with_words};
 ghost use Rattle.mv_ledger_state.specs.Parts.BodyParts.{form_of, leaves_from, struct_from, entry_from, is_after, group_into, groups_into, storage_into};
+ghost use Rattle.mv_ledger_state.specs.Payloads.{leaf_from};
+ghost use Rattle.mv_ledger_state.specs.Unread.{IsUnread};
 
-use crate::payload::{MALFORMED, leaf};
+use crate::payload::leaf;
 use crate::saved::layouts::Layouts;
 use crate::saved::loading::head::SavedForm;
+use crate::unread::{Unread, number};
 use mv_module_text::Reader;
-use mv_move_types::{Definition, Key, LeafKind, Refusal};
+use mv_move_types::{Definition, Key, LeafKind};
 use mv_storage::{Overlay, Storage, Value};
 use std::alloc::{AllocError, Global};
 
 // After this many values, those put so far are committed, so that the overlay's notes of them take little room.
 const KEPT_AFTER: u64 = 4096;
+
+// The greatest place of a module, and the greatest index of a struct.
+const MOST_INDEX: u64 = 65535;
 
 /// A value that is to be stored, with its key.
 #[derive(Drop)]
@@ -21,29 +27,48 @@ struct Stored {
     value: Value,
 }
 
+/// Reads a leaf of a kind.
+fn word(reader: &mut Reader<'_>, kind: LeafKind) -> Result<u128, Unread>
+    ensures ok { IfOk result (λ n. leaf_from kind reader.old ≡ Some (n, reader.new)) }
+    ensures refused { IfErr result (IsUnread (leaf_from kind) reader.old) }
+{
+    match kind {
+        LeafKind::Boolean => {
+            let byte = reader.byte()?;
+            if byte < 2 {
+                Ok(u128::from(byte))
+            } else {
+                Err(Unread::Malformed)
+            }
+        }
+        _ => {
+            let word = leaf(reader, kind)?;
+            Ok(word)
+        }
+    }
+}
+
 /// Reads leaves of these kinds, one after the other.
-fn leaves(alloc: Global, reader: &mut Reader<'_>, kinds: &[LeafKind]) -> Result<Vec<u128>, Refusal>
+fn leaves(alloc: Global, reader: &mut Reader<'_>, kinds: &[LeafKind]) -> Result<Vec<u128>, Unread>
     ensures ok { IfOk result (λ v. leaves_from kinds.now reader.old ≡ Some (v.items, reader.new)) }
-    ensures refused { result ≡ Err (Refusal.Phase 2) → leaves_from kinds.now reader.old ≡ None }
-    ensures errors { IfErr result (λ e. (e ≡ Refusal.Phase 2) ⊎ (e ≡ Refusal.Memory)) }
+    ensures refused { IfErr result (IsUnread (leaves_from kinds.now) reader.old) }
 {
     let mut words = Vec::new(alloc);
     'each: for kind in kinds {
-        let next = leaf(reader, *kind)?;
+        let next = word(reader, *kind)?;
         words.push(next).map_err(AllocError::from)?;
     }
     Ok(words)
 }
 
 /// Reads a value by the kinds of its leaves. A single leaf takes no memory.
-fn value(alloc: Global, reader: &mut Reader<'_>, kinds: &[LeafKind]) -> Result<Value, Refusal>
+fn value(alloc: Global, reader: &mut Reader<'_>, kinds: &[LeafKind]) -> Result<Value, Unread>
     ensures ok { IfOk result (λ v. leaves_from kinds.now reader.old ≡ Some (v, reader.new)) }
-    ensures refused { result ≡ Err (Refusal.Phase 2) → leaves_from kinds.now reader.old ≡ None }
-    ensures errors { IfErr result (λ e. (e ≡ Refusal.Phase 2) ⊎ (e ≡ Refusal.Memory)) }
+    ensures refused { IfErr result (IsUnread (leaves_from kinds.now) reader.old) }
 {
     match kinds {
         [kind] => {
-            let word = leaf(reader, *kind)?;
+            let word = word(reader, *kind)?;
             Ok(Value::leaf(word))
         }
         _ => {
@@ -54,16 +79,19 @@ fn value(alloc: Global, reader: &mut Reader<'_>, kinds: &[LeafKind]) -> Result<V
 }
 
 /// Reads which struct a value is of, unless it is known.
-fn struct_at(reader: &mut Reader<'_>, known: Option<Definition>) -> Result<Definition, Refusal>
+fn struct_at(reader: &mut Reader<'_>, known: Option<Definition>) -> Result<Definition, Unread>
     ensures ok { IfOk result (λ d. struct_from known reader.old ≡ Some (d, reader.new)) }
-    ensures refused { IfErr result (λ e. (e ≡ Refusal.Phase 2) × (struct_from known reader.old ≡ None)) }
+    ensures refused { IfErr result (IsUnread (struct_from known) reader.old) }
 {
     match known {
         Some(d) => Ok(d),
         None => {
-            let place = reader.index()?;
-            let index = reader.index()?;
-            Ok(Definition { place, index })
+            let place = number(reader, MOST_INDEX)?;
+            let index = number(reader, MOST_INDEX)?;
+            Ok(Definition {
+                place: place as u16,
+                index: index as u16,
+            })
         }
     }
 }
@@ -74,15 +102,14 @@ fn entry(
     layouts: &Layouts<'_>,
     reader: &mut Reader<'_>,
     known: Option<Definition>,
-) -> Result<Stored, Refusal>
+) -> Result<Stored, Unread>
     ensures ok { IfOk result (λ e. entry_from layouts.now known reader.old ≡ Some (record { key = e.key; words = e.value }, reader.new)) }
-    ensures refused { result ≡ Err (Refusal.Phase 2) → entry_from layouts.now known reader.old ≡ None }
-    ensures errors { IfErr result (λ e. (e ≡ Refusal.Phase 2) ⊎ (e ≡ Refusal.Memory)) }
+    ensures refused { IfErr result (IsUnread (entry_from layouts.now known) reader.old) }
 {
     let address = reader.address()?;
     let at = struct_at(reader, known)?;
     let Some(kinds) = layouts.kinds(alloc, at)? else {
-        return Err(MALFORMED);
+        return Err(Unread::Malformed);
     };
     let value = value(alloc, reader, &kinds)?;
     Ok(Stored {
@@ -125,18 +152,17 @@ fn group(
     reader: &mut Reader<'_>,
     known: Option<Definition>,
     overlay: &mut Overlay<'_>,
-) -> Result<(), Refusal>
+) -> Result<(), Unread>
     ensures ok { OnOk result (group_into (entry_from layouts.now known) overlay.old.storage.now.current reader.old ≡ Some (overlay.new.storage.now.current, reader.new)) }
-    ensures refused { result ≡ Err (Refusal.Phase 2) → group_into (entry_from layouts.now known) overlay.old.storage.now.current reader.old ≡ None }
-    ensures errors { IfErr result (λ e. (e ≡ Refusal.Phase 2) ⊎ (e ≡ Refusal.Memory)) }
+    ensures refused { IfErr result (IsUnread (group_into (entry_from layouts.now known) overlay.old.storage.now.current) reader.old) }
     ensures loan { overlay.new.storage.ghost_name ≡ overlay.old.storage.ghost_name }
 {
-    let count = reader.number(u64::MAX)?;
+    let count = number(reader, u64::MAX)?;
     let mut last = None;
     'each: for number in 0..count {
         let next = entry(alloc, layouts, reader, known)?;
         if !follows(last, &next.key) {
-            return Err(MALFORMED);
+            return Err(Unread::Malformed);
         }
         last = Some(next.key);
         put(overlay, number, next)?;
@@ -151,10 +177,9 @@ fn groups(
     reader: &mut Reader<'_>,
     structs: &[Definition],
     overlay: &mut Overlay<'_>,
-) -> Result<(), Refusal>
+) -> Result<(), Unread>
     ensures ok { OnOk result (groups_into layouts.now structs.now overlay.old.storage.now.current reader.old ≡ Some (overlay.new.storage.now.current, reader.new)) }
-    ensures refused { result ≡ Err (Refusal.Phase 2) → groups_into layouts.now structs.now overlay.old.storage.now.current reader.old ≡ None }
-    ensures errors { IfErr result (λ e. (e ≡ Refusal.Phase 2) ⊎ (e ≡ Refusal.Memory)) }
+    ensures refused { IfErr result (IsUnread (groups_into layouts.now structs.now overlay.old.storage.now.current) reader.old) }
     ensures loan { overlay.new.storage.ghost_name ≡ overlay.old.storage.ghost_name }
 {
     'each: for at in structs {
@@ -167,16 +192,15 @@ fn groups(
 ///
 /// # Errors
 ///
-/// The phase of malformed bytes, where no such values stand at the front; `Memory`, where a growth was refused.
+/// `Cut` or `Malformed` if no such values stand at the front; `Memory` if an allocation failed.
 pub fn read_storage(
     alloc: Global,
     layouts: &Layouts<'_>,
     reader: &mut Reader<'_>,
     form: SavedForm,
-) -> Result<Storage, Refusal>
+) -> Result<Storage, Unread>
     ensures ok { IfOk result (λ s. storage_into layouts.now (form_of form) [] reader.old ≡ Some (s.committed, reader.new)) }
-    ensures refused { result ≡ Err (Refusal.Phase 2) → storage_into layouts.now (form_of form) [] reader.old ≡ None }
-    ensures errors { IfErr result (λ e. (e ≡ Refusal.Phase 2) ⊎ (e ≡ Refusal.Memory)) }
+    ensures refused { IfErr result (IsUnread (storage_into layouts.now (form_of form) []) reader.old) }
 {
     let mut storage = Storage::new(alloc);
     fill(alloc, layouts, reader, form, &mut storage)?;
@@ -190,10 +214,9 @@ fn fill(
     reader: &mut Reader<'_>,
     form: SavedForm,
     storage: &mut Storage,
-) -> Result<(), Refusal>
+) -> Result<(), Unread>
     ensures ok { OnOk result (storage_into layouts.now (form_of form) storage.old.committed reader.old ≡ Some (storage.new.committed, reader.new)) }
-    ensures refused { result ≡ Err (Refusal.Phase 2) → storage_into layouts.now (form_of form) storage.old.committed reader.old ≡ None }
-    ensures errors { IfErr result (λ e. (e ≡ Refusal.Phase 2) ⊎ (e ≡ Refusal.Memory)) }
+    ensures refused { IfErr result (IsUnread (storage_into layouts.now (form_of form) storage.old.committed) reader.old) }
 {
     let mut overlay = storage.overlay();
     match form {

@@ -1,14 +1,14 @@
-use Rattle.mv_ledger_state.proofs.Common.{◌∙◌, Err, ap, subst, sym, true≢false, head_of, offers_of, AllPass, Body, PublishedView}
+use Rattle.mv_ledger_state.proofs.Common.{◌∙◌, subst, sym, true≢false, head_of, offers_of, AllPass, PublishedView}
 use Rattle.mv_ledger_state.proofs.Loads.BodyLaws.{each_body_is_read, each_read_is_body}
-use Rattle.mv_ledger_state.proofs.Loads.Loaded.{refused-as, fails-body, stored-fine, fails-tallied, is-loaded, is-ledger}
+use Rattle.mv_ledger_state.proofs.Loads.Loaded.{unread-as, fails-body, stored-fine, fails-tallied, is-loaded, is-ledger}
 use Rattle.mv_ledger_state.proofs.TalliedStores.{read-held}
 use Rattle.mv_ledger_state.proofs.saved.loading.read_stored.Goals as goal
 
 pub returns-in-Err-clause-refused : goal.returns-in-Err-clause-refused
 returns-in-Err-clause-refused c = λ bytes begun.
     let passed = subst (λ (p : PublishedView). AllPass (offers_of c.args.head.now.offers.items) p.modules) (sym c.joined.view_is) c.requires.passed in
-    refused-as bytes Body c.in-Err.refusal c.because.result c.because.ensures c.in-Err.ensures.errors
-    (λ p. fails-body bytes (head_of c.args.head.now) c.args.reader.now begun.are begun.begins c.joined.inside.store c.joined.inside.tallies passed c.joined.invariant each_body_is_read (c.in-Err.ensures.refused (ap Err p)))
+    unread-as bytes (head_of c.args.head.now).form _ _ c.args.reader.now c.in-Err.error c.unread.result c.unread.ensures c.in-Err.ensures.refused
+    (fails-body bytes (head_of c.args.head.now) c.args.reader.now begun.are begun.begins c.joined.inside.store c.joined.inside.tallies passed c.joined.invariant each_body_is_read)
 
 pub are_tallied-requires-clause-held : goal.are_tallied-requires-clause-held
 are_tallied-requires-clause-held c = read-held _ _ c.joined.invariant _ c.in-Ok.ensures.kept

@@ -1,6 +1,7 @@
-use Rattle.mv_ledger_state.proofs.Common.{◌∙◌, ◌≡◌, List, ap, arith, length, subst, sym, length-set, form_of, tally_from, ArePlaced, all_of, Tally, lists_of}
-use Rattle.mv_ledger_state.proofs.Loads.BodyReading.{OnErr-any}
-use Rattle.mv_ledger_state.proofs.Loads.BodyTallies.{TalliesOn, TalliesOn-start, structs_in, whole-placed, whole-kept, structs-set, reads-next, reads-stop}
+use Rattle.mv_ledger_state.proofs.Common.{◌∙◌, ◌≡◌, List, ap, arith, drop, length, subst, sym, err_from_is_err_and, length-set, entries_from, form_of, tally_from, ArePlaced, all_of, Tally, lists_of}
+use Rattle.mv_ledger_state.proofs.Loads.Extending.{tally-extends}
+use Rattle.mv_ledger_state.proofs.Loads.Unreading.{Onward, onward-start, onward-unread, vector-unread, vector-onward}
+use Rattle.mv_ledger_state.proofs.Loads.BodyTallies.{TalliesOn, TalliesOn-start, structs_in, whole-placed, whole-kept, structs-set, reads-next}
 use Rattle.mv_ledger_state.proofs.tallies.Tallies.read.Goals as goal
 
 pub each-init : goal.each-init
@@ -10,6 +11,9 @@ each-init c =
       reads = subst (λ (tss : List (List Tally)). TalliesOn (tally_from (form_of c.args.form)) (length (all_of tss)) 0 c.args.reader.now (lists_of c.deref_mut-tallies-items.result.now) c.args.reader.now)
           (sym own)
           (TalliesOn-start (tally_from (form_of c.args.form)) c.args.reader.now (lists_of c.deref_mut-tallies-items.result.now));
+      onward = subst (λ (tss : List (List Tally)). Onward (entries_from (tally_from (form_of c.args.form)) (length (all_of tss))) c.args.reader.now
+          (entries_from (tally_from (form_of c.args.form)) (length (all_of (lists_of c.deref_mut-tallies-items.result.now)))) c.args.reader.now)
+          (sym own) (onward-start (entries_from (tally_from (form_of c.args.form)) (length (all_of (lists_of c.deref_mut-tallies-items.result.now)))) c.args.reader.now);
       kept = ap structs_in (sym own);
     }
 
@@ -28,10 +32,12 @@ invariant_of-self-in_err-read_tallies c =
 
 pub returns-in_err-read_tallies-clause-refused : goal.returns-in_err-read_tallies-clause-refused
 returns-in_err-read_tallies-clause-refused c =
-    OnErr-any c.from_residual.result _
-    (reads-stop c.each.tallies-items c.each.tallies-index c.tallies-item.result c.deref_mut.result.now c.read_tallies.new.tallies (omega arith) c.deref_mut.ensures.value c.deref_mut.ensures.len
-    c.in_err-read_tallies.ensures.kept
-    (tally_from (form_of c.args.form)) _ c.args.reader.now c.each.reader c.in_err-read_tallies.ensures.refused c.each.invariant.reads)
+    let p = err_from_is_err_and c.from_residual.result c.from_residual.ensures.1 in
+    rw (p.1, p.2)
+    (onward-unread (entries_from (tally_from (form_of c.args.form)) (length (all_of c.args.self.now))) c.args.reader.now
+    (entries_from (tally_from (form_of c.args.form)) (length (all_of (drop c.each.tallies-index (lists_of c.each.tallies-items))))) c.each.reader c.in_err-read_tallies.field-0.0 c.each.invariant.onward
+    (vector-unread c.each.tallies-items c.each.tallies-index c.tallies-item.result c.deref_mut.result.now c.read_tallies.new.tallies (omega arith) c.deref_mut.ensures.value c.deref_mut.ensures.len
+    c.in_err-read_tallies.ensures.kept (tally_from (form_of c.args.form)) c.each.reader c.in_err-read_tallies.field-0.0 c.in_err-read_tallies.ensures.refused))
 
 pub returns-in_err-read_tallies-clause-kept : goal.returns-in_err-read_tallies-clause-kept
 returns-in_err-read_tallies-clause-kept c =
@@ -45,6 +51,10 @@ each-preserved c = record {
   reads = reads-next c.each.tallies-items c.each.tallies-index c.tallies-item.result c.deref_mut.result.now c.read_tallies.new.tallies (omega arith) c.deref_mut.ensures.value c.deref_mut.ensures.len
       c.in_ok-read_tallies.ensures.kept
       (tally_from (form_of c.args.form)) _ c.args.reader.now c.each.reader c.read_tallies.new.reader c.in_ok-read_tallies.ensures.ok c.each.invariant.reads;
+  onward = vector-onward c.each.tallies-items c.each.tallies-index c.tallies-item.result c.deref_mut.result.now c.read_tallies.new.tallies (omega arith) c.deref_mut.ensures.value c.deref_mut.ensures.len
+      c.in_ok-read_tallies.ensures.kept
+      (entries_from (tally_from (form_of c.args.form)) (length (all_of c.args.self.now))) c.args.reader.now (tally_from (form_of c.args.form)) c.each.reader c.read_tallies.new.reader _
+      (tally-extends (form_of c.args.form)) c.in_ok-read_tallies.ensures.ok c.each.invariant.onward;
   kept = structs-set c.each.tallies-items c.each.tallies-index c.tallies-item.result c.deref_mut.result.now c.read_tallies.new.tallies (omega arith) c.deref_mut.ensures.value c.deref_mut.ensures.len
       c.in_ok-read_tallies.ensures.kept c.args.self.now c.each.invariant.kept;
 }

@@ -1,0 +1,377 @@
+-- What is not read at the front of bytes, nor at that of longer ones where they are malformed: from the parts to the whole.
+use Rattle.mv_ledger_state.proofs.Common.{[], ◌++◌, ◌+◌, ◌*◌, ◌-◌, ◌/◌, ◌<◌, ◌∙◌, ◌∷◌, ◌≡◌, ◌≤◌, ◌⊎◌, Bool, List, None, Option, Some, ap, append-nil, arith, drop, eq-eqb, false, get_or, inl, inr, le-leb}
+use Rattle.mv_ledger_state.proofs.Common.{cond, is_some, not, with_words, words_under, length, lt-ltb, map, option_map, refl, subst, suc, sym, true, ℕ, cases_eq, drop-set-lt, drop_more, none-some, some_pair_parts, then_some, nat_le, option_and_then, slice_set, Module}
+use Rattle.mv_ledger_state.proofs.Common.{◌>>=◌, Definition, FlatEntry, FlatStorage, Key, LeafKind, number_from, on_bind, after, Read, byte_from, entries_from, entry_from, group_into, groups_into, is_after}
+use Rattle.mv_ledger_state.proofs.Common.{leaf_from, leaves_from, rising_into, with_entry, Form, body_from, IsNoBody, Tally, all_of, lists_of, struct_of, with_items, Global, Vec, address_from, count_from, tally_from}
+use Rattle.mv_ledger_state.specs.Layouts.{kinds_under}
+use Rattle.mv_ledger_state.specs.Parts.BodyParts.{storage_into, struct_from}
+use Rattle.std.proofs.Common.{ne_eqb}
+use Rattle.std.proofs.lemmas.Bool.{cases_lt, lt-leb}
+use Rattle.mv_uleb.specs.Parsing.{spelled, with_low}
+use Rattle.mv_uleb.proofs.Spelled.{spelled-further}
+use Rattle.mv_ledger_state.specs.Unread.{IsUnread, IsUnreadBody}
+use Rattle.mv_ledger_state.specs.declared.unread.Unread.{Unread}
+use Rattle.mv_ledger_state.specs.declared.unread.Unread.TheVariants.{Cut, Malformed, Memory}
+use Rattle.mv_ledger_state.proofs.Loads.BodyTallies.{left-is, with_more, here-is, lists-set, short-lists}
+use Rattle.mv_ledger_state.proofs.Loads.Extending.{Extends, number-extends, number-kept, address-extends, struct-extends, count-extends, tally-extends, entries-extends, entry-extends, group-extends, body-extends, words_from, kinds_from, addressed_from}
+
+-- ---- something, and then something else
+
+-- the first isn't read
+pub unread-first : {A B : Type 0} (from : List ℕ → Option A) (next : A → Option B) (bytes : List ℕ) (e : Unread) → IsUnread from bytes e → IsUnread (λ z. from z >>= next) bytes e
+unread-first from next bytes Cut none = ap (λ o. o >>= next) none
+unread-first from next bytes Malformed none = λ more. ap (λ o. o >>= next) (none more)
+unread-first from next bytes Memory none = tt
+
+-- the second isn't
+pub unread-next : {A B : Type 0} (from : List ℕ → Read A) (next : A × List ℕ → Option B) (bytes rest : List ℕ) (x : A) (e : Unread) → Extends from → from bytes ≡ Some (x, rest)
+    → IsUnread (λ z. next (x, z)) rest e → IsUnread (λ z. from z >>= next) bytes e
+unread-next from next bytes rest x Cut extends is none = ap (λ o. o >>= next) is ∙ none
+unread-next from next bytes rest x Malformed extends is none = λ more. ap (λ o. o >>= next) (extends bytes rest more x is) ∙ none more
+unread-next from next bytes rest x Memory extends is none = tt
+
+-- ---- one after another
+
+-- where what is left isn't read, whatever follows, all isn't
+pub record Onward {A B : Type 0} (all : List ℕ → Option A) (start : List ℕ) (left : List ℕ → Option B) (cur : List ℕ) : Type 0 where
+  pub goes : (more : List ℕ) → left (cur ++ more) ≡ None → all (start ++ more) ≡ None
+
+-- nothing is read yet
+pub onward-start : {A : Type 0} (all : List ℕ → Option A) (start : List ℕ) → Onward all start all start
+onward-start all start = record { goes = λ more none. none }
+
+-- what is left isn't read
+pub onward-unread : {A B : Type 0} (all : List ℕ → Option A) (start : List ℕ) (left : List ℕ → Option B) (cur : List ℕ) (e : Unread) → Onward all start left cur → IsUnread left cur e → IsUnread all start e
+onward-unread all start left cur Cut on none = ap all (sym (append-nil start)) ∙ on.goes [] (ap left (append-nil cur) ∙ none)
+onward-unread all start left cur Malformed on none = λ more. on.goes more (none more)
+onward-unread all start left cur Memory on none = tt
+
+-- one more is read of what is left
+pub onward-next : {A B C : Type 0} (all : List ℕ → Option A) (start : List ℕ) (left : List ℕ → Option B) (cur : List ℕ) (less : List ℕ → Option C) (next : List ℕ)
+    → ((more : List ℕ) → less (next ++ more) ≡ None → left (cur ++ more) ≡ None) → Onward all start left cur → Onward all start less next
+onward-next all start left cur less next step on = record { goes = λ more none. on.goes more (step more none) }
+
+-- ---- so many entries
+
+entries-at : {A : Type 0} (each : List ℕ → Read A) (k n : ℕ) (bytes rest : List ℕ) (x : A) → k ≡ suc n → each bytes ≡ Some (x, rest)
+    → entries_from each k bytes ≡ (entries_from each n rest >>= λ xs. Some (x ∷ xs.0, xs.1))
+entries-at each k n bytes rest x is e = ap (λ z. entries_from each z bytes) is ∙ ap (λ o. o >>= λ x. entries_from each n x.1 >>= λ xs. Some (x.0 ∷ xs.0, xs.1)) e
+
+pub entries-onward : {A B : Type 0} (all : List ℕ → Option B) (start : List ℕ) (each : List ℕ → Read A) (n i : ℕ) (cur next : List ℕ) (x : A) → Extends each → i < n → each cur ≡ Some (x, next)
+    → Onward all start (entries_from each (n - i)) cur → Onward all start (entries_from each (n - (i + 1))) next
+entries-onward all start each n i cur next x extends lt is =
+    let k : n - i ≡ suc (n - (i + 1)) = omega arith in
+    onward-next all start (entries_from each (n - i)) cur (entries_from each (n - (i + 1))) next (λ more none.
+    entries-at each (n - i) (n - (i + 1)) (cur ++ more) (next ++ more) x k (extends cur next more x is) ∙ ap (λ o. o >>= λ xs. Some (x ∷ xs.0, xs.1)) none)
+
+pub entries-unread : {A : Type 0} (each : List ℕ → Read A) (n i : ℕ) (cur : List ℕ) (e : Unread) → i < n → IsUnread each cur e → IsUnread (entries_from each (n - i)) cur e
+entries-unread each n i cur e lt none =
+    let k : n - i ≡ suc (n - (i + 1)) = omega arith in
+    subst (λ z. IsUnread (entries_from each z) cur e) (sym k) (unread-first each (λ x. entries_from each (n - (i + 1)) x.1 >>= λ xs. Some (x.0 ∷ xs.0, xs.1)) cur e none)
+
+-- ---- leaves
+
+pub leaves-onward : {A : Type 0} (all : List ℕ → Option A) (start : List ℕ) (kinds : List LeafKind) (i : ℕ) (cur next : List ℕ) (k : LeafKind) (n : ℕ) → Extends (leaf_from k) → i < length kinds
+    → k ≡ get_or kinds i k → leaf_from k cur ≡ Some (n, next) → Onward all start (leaves_from (drop i kinds)) cur → Onward all start (leaves_from (drop (i + 1) kinds)) next
+leaves-onward all start kinds i cur next k n extends lt is e =
+    onward-next all start (leaves_from (drop i kinds)) cur (leaves_from (drop (i + 1) kinds)) next (λ more none.
+    ap (λ z. leaves_from z (cur ++ more)) (drop_more kinds i k lt)
+    ∙ ap (λ z. leaves_from (z ∷ drop (i + 1) kinds) (cur ++ more)) (sym is)
+    ∙ ap (λ o. o >>= λ n. leaves_from (drop (i + 1) kinds) n.1 >>= λ rest. Some (n.0 ∷ rest.0, rest.1)) (extends cur next more n e)
+    ∙ ap (λ o. o >>= λ rest. Some (n ∷ rest.0, rest.1)) none)
+
+pub leaves-unread : (kinds : List LeafKind) (i : ℕ) (cur : List ℕ) (k : LeafKind) (e : Unread) → i < length kinds → k ≡ get_or kinds i k → IsUnread (leaf_from k) cur e
+    → IsUnread (leaves_from (drop i kinds)) cur e
+leaves-unread kinds i cur k e lt is none =
+    subst (λ z. IsUnread (leaves_from z) cur e) (sym (drop_more kinds i k lt ∙ ap (λ z. z ∷ drop (i + 1) kinds) (sym is)))
+    (unread-first (leaf_from k) (λ n. leaves_from (drop (i + 1) kinds) n.1 >>= λ rest. Some (n.0 ∷ rest.0, rest.1)) cur e none)
+
+-- ---- stored values
+
+-- the values after their number
+pub group-onward : (each : List ℕ → Read FlatEntry) (n : ℕ) (before : FlatStorage) (bytes start : List ℕ) → number_from 18446744073709551615 bytes ≡ Some (n, start)
+    → Onward (group_into each before) bytes (rising_into each (n - 0) None before) start
+group-onward each n before bytes start is =
+    let z : n - 0 ≡ n = omega arith in
+    record {
+      goes = λ more none.
+          ap (λ o. o >>= λ n. rising_into each n.0 None before n.1) (number-extends 18446744073709551615 bytes start more n is)
+          ∙ ap (λ k. rising_into each k None before (start ++ more)) (sym z) ∙ none;
+    }
+
+rising-at : (each : List ℕ → Read FlatEntry) (k n : ℕ) (last : Option Key) (storage : FlatStorage) (bytes rest : List ℕ) (e : FlatEntry) → k ≡ suc n → each bytes ≡ Some (e, rest)
+    → rising_into each k last storage bytes ≡ (then_some (is_after last e.key) rest >>= rising_into each n (Some e.key) (with_entry storage e))
+rising-at each k n last storage bytes rest e is read =
+    ap (λ z. rising_into each z last storage bytes) is
+    ∙ ap (λ o. o >>= λ e. then_some (is_after last e.0.key) e.1 >>= rising_into each n (Some e.0.key) (with_entry storage e.0)) read
+
+pub rising-onward : {A : Type 0} (all : List ℕ → Option A) (start : List ℕ) (each : List ℕ → Read FlatEntry) (n i : ℕ) (last : Option Key) (storage put : FlatStorage) (cur next : List ℕ) (e : FlatEntry)
+    → Extends each → i < n → each cur ≡ Some (e, next) → is_after last e.key ≡ true → with_entry storage e ≡ put
+    → Onward all start (rising_into each (n - i) last storage) cur → Onward all start (rising_into each (n - (i + 1)) (Some e.key) put) next
+rising-onward all start each n i last storage put cur next e extends lt is rises put_is =
+    let k : n - i ≡ suc (n - (i + 1)) = omega arith in
+    onward-next all start (rising_into each (n - i) last storage) cur (rising_into each (n - (i + 1)) (Some e.key) put) next (λ more none.
+    rising-at each (n - i) (n - (i + 1)) last storage (cur ++ more) (next ++ more) e k (extends cur next more e is)
+    ∙ ap (λ b. then_some b (next ++ more) >>= rising_into each (n - (i + 1)) (Some e.key) (with_entry storage e)) rises
+    ∙ ap (λ s. rising_into each (n - (i + 1)) (Some e.key) s (next ++ more)) put_is ∙ none)
+
+pub rising-unread : (each : List ℕ → Read FlatEntry) (n i : ℕ) (last : Option Key) (storage : FlatStorage) (cur : List ℕ) (e : Unread) → i < n → IsUnread each cur e
+    → IsUnread (rising_into each (n - i) last storage) cur e
+rising-unread each n i last storage cur e lt none =
+    let k : n - i ≡ suc (n - (i + 1)) = omega arith in
+    subst (λ z. IsUnread (rising_into each z last storage) cur e) (sym k)
+    (unread-first each (λ x. then_some (is_after last x.0.key) x.1 >>= rising_into each (n - (i + 1)) (Some x.0.key) (with_entry storage x.0)) cur e none)
+
+-- the next has a key that isn't above the last
+pub rising-falls : (each : List ℕ → Read FlatEntry) (n i : ℕ) (last : Option Key) (storage : FlatStorage) (cur next : List ℕ) (e : FlatEntry) → Extends each → i < n → each cur ≡ Some (e, next)
+    → is_after last e.key ≡ false → IsUnread (rising_into each (n - i) last storage) cur Malformed
+rising-falls each n i last storage cur next e extends lt is falls = λ more.
+    let k : n - i ≡ suc (n - (i + 1)) = omega arith in
+    rising-at each (n - i) (n - (i + 1)) last storage (cur ++ more) (next ++ more) e k (extends cur next more e is)
+    ∙ ap (λ b. then_some b (next ++ more) >>= rising_into each (n - (i + 1)) (Some e.key) (with_entry storage e)) falls
+
+-- ---- struct by struct
+
+groups-at : (modules : List Module) (ds : List Definition) (i : ℕ) (storage : FlatStorage) (bytes : List ℕ) (d : Definition) → i < length ds → d ≡ get_or ds i d
+    → groups_into modules (drop i ds) storage bytes ≡ (group_into (entry_from modules (Some d)) storage bytes >>= λ s. groups_into modules (drop (i + 1) ds) s.0 s.1)
+groups-at modules ds i storage bytes d lt is =
+    ap (λ z. groups_into modules z storage bytes) (drop_more ds i d lt ∙ ap (λ z. z ∷ drop (i + 1) ds) (sym is))
+
+pub groups-onward : {A : Type 0} (all : List ℕ → Option A) (start : List ℕ) (modules : List Module) (ds : List Definition) (i : ℕ) (storage put : FlatStorage) (cur next : List ℕ) (d : Definition)
+    → i < length ds → d ≡ get_or ds i d → group_into (entry_from modules (Some d)) storage cur ≡ Some (put, next)
+    → Onward all start (groups_into modules (drop i ds) storage) cur → Onward all start (groups_into modules (drop (i + 1) ds) put) next
+groups-onward all start modules ds i storage put cur next d lt is e =
+    let extends = group-extends (entry_from modules (Some d)) (entry-extends modules (Some d)) storage in
+    onward-next all start (groups_into modules (drop i ds) storage) cur (groups_into modules (drop (i + 1) ds) put) next (λ more none.
+    groups-at modules ds i storage (cur ++ more) d lt is ∙ ap (λ o. o >>= λ s. groups_into modules (drop (i + 1) ds) s.0 s.1) (extends cur next more put e) ∙ none)
+
+pub groups-unread : (modules : List Module) (ds : List Definition) (i : ℕ) (storage : FlatStorage) (cur : List ℕ) (d : Definition) (e : Unread) → i < length ds → d ≡ get_or ds i d
+    → IsUnread (group_into (entry_from modules (Some d)) storage) cur e → IsUnread (groups_into modules (drop i ds) storage) cur e
+groups-unread modules ds i storage cur d e lt is none =
+    subst (λ z. IsUnread (groups_into modules z storage) cur e) (sym (drop_more ds i d lt ∙ ap (λ z. z ∷ drop (i + 1) ds) (sym is)))
+    (unread-first (group_into (entry_from modules (Some d)) storage) (λ s. groups_into modules (drop (i + 1) ds) s.0 s.1) cur e none)
+
+-- ---- the tallies of modules
+
+pub tallies-onward : {A : Type 0} (all : List ℕ → Option A) (start : List ℕ) (each : List ℕ → Read (ℕ × ℕ)) (i : ℕ) (tss : List (List Tally)) (cur next : List ℕ) (d ts : List Tally) (xs : List (ℕ × ℕ))
+    → Extends (entries_from each (length (get_or tss i d))) → i < length tss → entries_from each (length (get_or tss i d)) cur ≡ Some (xs, next)
+    → Onward all start (entries_from each (length (all_of (drop i tss)))) cur → Onward all start (entries_from each (length (all_of (drop (i + 1) (slice_set tss i ts))))) next
+tallies-onward all start each i tss cur next d ts xs extends lt e =
+    let left : ℕ = length (all_of (drop (i + 1) tss)) in
+    let back : drop (i + 1) (slice_set tss i ts) ≡ drop (i + 1) tss = drop-set-lt (i + 1) tss i ts (omega arith) in
+    onward-next all start (entries_from each (length (all_of (drop i tss)))) cur (entries_from each (length (all_of (drop (i + 1) (slice_set tss i ts))))) next (λ more none.
+    left-is each i tss (cur ++ more) d lt ∙ ap (with_more each left) (extends cur next more xs e)
+    ∙ ap (λ z. option_map (after xs) (entries_from each (length (all_of z)) (next ++ more))) (sym back) ∙ ap (option_map (after xs)) none)
+
+pub tallies-unread : (each : List ℕ → Read (ℕ × ℕ)) (i : ℕ) (tss : List (List Tally)) (cur : List ℕ) (d : List Tally) (e : Unread) → i < length tss
+    → IsUnread (entries_from each (length (get_or tss i d))) cur e → IsUnread (entries_from each (length (all_of (drop i tss)))) cur e
+tallies-unread each i tss cur d Cut lt none = left-is each i tss cur d lt ∙ ap (with_more each (length (all_of (drop (i + 1) tss)))) none
+tallies-unread each i tss cur d Malformed lt none = λ more. left-is each i tss (cur ++ more) d lt ∙ ap (with_more each (length (all_of (drop (i + 1) tss)))) (none more)
+tallies-unread each i tss cur d Memory lt none = tt
+
+-- a module's tallies in their vector
+module _ (vs : List (Vec Tally Global)) (i : ℕ) (v : Vec Tally Global) (before ts : List Tally) (short : i < length vs) (value : before ≡ (get_or vs i v).items)
+    (len : length before ≡ (get_or vs i v).len) (kept : map struct_of ts ≡ map struct_of before) where
+  pub vector-unread : (each : List ℕ → Read (ℕ × ℕ)) (cur : List ℕ) (e : Unread) → IsUnread (entries_from each (length before)) cur e
+      → IsUnread (entries_from each (length (all_of (drop i (lists_of vs))))) cur e
+  vector-unread each cur e none =
+      tallies-unread each i (lists_of vs) cur [] e (short-lists vs i v before ts short value len kept)
+      (subst (λ (z : List Tally). IsUnread (entries_from each (length z)) cur e) (sym (here-is vs i v before ts short value len kept)) none)
+
+  pub vector-onward : {A : Type 0} (all : List ℕ → Option A) (start : List ℕ) (each : List ℕ → Read (ℕ × ℕ)) (cur next : List ℕ) (xs : List (ℕ × ℕ)) → Extends each
+      → entries_from each (length before) cur ≡ Some (xs, next) → Onward all start (entries_from each (length (all_of (drop i (lists_of vs))))) cur
+      → Onward all start (entries_from each (length (all_of (drop (i + 1) (lists_of (slice_set vs i (with_items (get_or vs i v) ts))))))) next
+  vector-onward all start each cur next xs one e on =
+      subst (λ (z : List (List Tally)). Onward all start (entries_from each (length (all_of (drop (i + 1) z)))) next) (sym (lists-set vs i v before ts short value len kept))
+      (tallies-onward all start each i (lists_of vs) cur next [] ts xs (entries-extends each one (length (get_or (lists_of vs) i []))) (short-lists vs i v before ts short value len kept)
+      (ap (λ (z : List Tally). entries_from each (length z) cur) (here-is vs i v before ts short value len kept) ∙ e) on)
+
+-- ---- what follows the modules
+
+-- no such thing is read
+pub body-unread : (form : Form) (modules : List Module) (count : ℕ) (bytes : List ℕ) (e : Unread) → IsUnread (body_from form modules count) bytes e → IsUnreadBody form modules count bytes e
+body-unread form modules count bytes Cut none = λ body is. none-some (body, []) (sym none ∙ is)
+body-unread form modules count bytes Malformed none = λ more body is. none-some (body, []) (sym (none more) ∙ is)
+body-unread form modules count bytes Memory none = tt
+
+-- ---- a number, byte by byte
+
+-- the number after a further byte, up to a greatest one
+behind : ℕ → ℕ → Option (ℕ × List ℕ) → Option (ℕ × List ℕ)
+behind most b high = option_and_then (λ r. then_some (nat_le r.0 most) r) (option_and_then (with_low b) high)
+
+number-behind : (most b : ℕ) (bs : List ℕ) → 128 ≤ b → number_from most (b ∷ bs) ≡ behind most b (spelled bs)
+unfolding behind
+number-behind most b bs ge = ap (option_and_then (λ r. then_some (nat_le r.0 most) r)) (spelled-further b bs ge)
+
+-- a last byte
+pub number-last : (most b : ℕ) (bs : List ℕ) → b < 128 → b ≤ most → number_from most (b ∷ bs) ≡ Some (b, bs)
+number-last most b bs lt le = rw (lt-ltb b 128 lt, le-leb b most le) refl
+
+pub number-last-above : (most b : ℕ) (bs : List ℕ) → b < 128 → most < b → number_from most (b ∷ bs) ≡ None
+number-last-above most b bs lt above = rw (lt-ltb b 128 lt, lt-leb b most above) refl
+
+-- a further byte before nothing that is read
+pub number-behind-none : (most b : ℕ) (bs : List ℕ) → 128 ≤ b → number_from (most / 128) bs ≡ None → number_from most (b ∷ bs) ≡ None
+unfolding behind
+number-behind-none most b bs ge is = number-behind most b bs ge ∙ by (spelled bs) is
+  where
+    by : (r : Option (ℕ × List ℕ)) → option_and_then (λ r. then_some (nat_le r.0 (most / 128)) r) r ≡ None → behind most b r ≡ None
+    by None is = refl
+    by (Some r) is =
+        elim (cases_eq r.0 0) [
+          | inl z ↦ rw (eq-eqb r.0 0 z) refl
+          | inr ne ↦
+              elim (cases_lt (most / 128) r.0) [
+                | inr le ↦ absurd (none-some r (sym is ∙ rw (le-leb r.0 (most / 128) le) refl))
+                | inl above ↦
+                    let much : most < b - 128 + 128 * r.0 = omega arith in
+                    rw (ne_eqb r.0 0 ne, lt-leb (b - 128 + 128 * r.0) most much) refl
+              ]
+        ]
+
+-- a further byte before 0
+pub number-behind-zero : (most b high : ℕ) (bs rest : List ℕ) → 128 ≤ b → high ≡ 0 → number_from (most / 128) bs ≡ Some (high, rest) → number_from most (b ∷ bs) ≡ None
+unfolding behind
+number-behind-zero most b high bs rest ge z is =
+    let p = number-kept (most / 128) high rest (spelled bs) is in
+    number-behind most b bs ge ∙ ap (behind most b) p.0 ∙ by high z
+  where
+    by : (high : ℕ) → high ≡ 0 → behind most b (Some (high, rest)) ≡ None
+    by high z = rw (eq-eqb high 0 z) refl
+
+-- a further byte before another number
+pub number-behind-some : (most b high : ℕ) (bs rest : List ℕ) → 128 ≤ b → 0 < high → b - 128 + 128 * high ≤ most → number_from (most / 128) bs ≡ Some (high, rest)
+    → number_from most (b ∷ bs) ≡ Some (b - 128 + 128 * high, rest)
+unfolding behind
+number-behind-some most b high bs rest ge pos le is =
+    let p = number-kept (most / 128) high rest (spelled bs) is in
+    number-behind most b bs ge ∙ ap (behind most b) p.0 ∙ by (λ z. omega arith)
+  where
+    by : (high ≡ 0 → ⊥) → behind most b (Some (high, rest)) ≡ Some (b - 128 + 128 * high, rest)
+    by ne = rw (ne_eqb high 0 ne, le-leb (b - 128 + 128 * high) most le) refl
+
+pub number-behind-above : (most b high : ℕ) (bs rest : List ℕ) → 128 ≤ b → 0 < high → most < b - 128 + 128 * high → number_from (most / 128) bs ≡ Some (high, rest)
+    → number_from most (b ∷ bs) ≡ None
+unfolding behind
+number-behind-above most b high bs rest ge pos above is =
+    let p = number-kept (most / 128) high rest (spelled bs) is in
+    number-behind most b bs ge ∙ ap (behind most b) p.0 ∙ by (λ z. omega arith)
+  where
+    by : (high ≡ 0 → ⊥) → behind most b (Some (high, rest)) ≡ None
+    by ne = rw (ne_eqb high 0 ne, lt-leb (b - 128 + 128 * high) most above) refl
+
+-- a further byte where the greatest number has none
+pub number-short : (most b : ℕ) (bs : List ℕ) → 128 ≤ b → most < 128 → number_from most (b ∷ bs) ≡ None
+unfolding behind
+number-short most b bs ge short = number-behind most b bs ge ∙ by (spelled bs)
+  where
+    by : (r : Option (ℕ × List ℕ)) → behind most b r ≡ None
+    by None = refl
+    by (Some r) =
+        elim (cases_eq r.0 0) [
+          | inl z ↦ rw (eq-eqb r.0 0 z) refl
+          | inr ne ↦
+              let much : most < b - 128 + 128 * r.0 = omega arith in
+              rw (ne_eqb r.0 0 ne, lt-leb (b - 128 + 128 * r.0) most much) refl
+        ]
+
+-- ---- the same of bytes whose first was read
+
+byte-parts : (bytes rest : List ℕ) (b : ℕ) → byte_from bytes ≡ Some (b, rest) → bytes ≡ b ∷ rest
+byte-parts [] rest b is = absurd (none-some (b, rest) is)
+byte-parts (c ∷ bytes) rest b is = let p = some_pair_parts c b bytes rest is in ap (λ z. z ∷ bytes) p.0 ∙ ap (λ z. b ∷ z) p.1
+
+module _ (most low high b : ℕ) (bytes bs rest : List ℕ) (first : byte_from bytes ≡ Some (b, bs)) (same : low ≡ b) (further : 128 ≤ low) (behind : number_from (most / 128) bs ≡ Some (high, rest)) where
+  first-is : (more : List ℕ) → bytes ++ more ≡ low ∷ bs ++ more
+  first-is more = ap (λ z. z ++ more) (byte-parts bytes bs b first) ∙ ap (λ z. z ∷ bs ++ more) (sym same)
+
+  pub zero-stays : high ≡ 0 → (more : List ℕ) → number_from most (bytes ++ more) ≡ None
+  zero-stays zero more =
+      ap (number_from most) (first-is more)
+      ∙ number-behind-zero most low high (bs ++ more) (rest ++ more) further zero (number-extends (most / 128) bs rest more high behind)
+
+  pub above-stays : 0 < high → most < low - 128 + 128 * high → (more : List ℕ) → number_from most (bytes ++ more) ≡ None
+  above-stays some above more =
+      ap (number_from most) (first-is more)
+      ∙ number-behind-above most low high (bs ++ more) (rest ++ more) further some above (number-extends (most / 128) bs rest more high behind)
+
+-- ---- the parts of a tally and of a stored value
+
+pub tally-unread : (form : Form) (bytes rest : List ℕ) (packs : ℕ) (e : Unread) → count_from form bytes ≡ Some (packs, rest) → IsUnread (count_from form) rest e → IsUnread (tally_from form) bytes e
+tally-unread form bytes rest packs e is none =
+    unread-next (count_from form) (λ packs. count_from form packs.1 >>= λ unpacks. Some ((packs.0, unpacks.0), unpacks.1)) bytes rest packs e (count-extends form) is
+    (unread-first (count_from form) (λ unpacks. Some ((packs, unpacks.0), unpacks.1)) rest e none)
+
+pub index-unread : (bytes rest : List ℕ) (place : ℕ) (e : Unread) → number_from 65535 bytes ≡ Some (place, rest) → IsUnread (number_from 65535) rest e → IsUnread (struct_from None) bytes e
+index-unread bytes rest place e is none =
+    unread-next (number_from 65535) (λ place. number_from 65535 place.1 >>= λ index. Some (record { place = place.0; index = index.0 }, index.1)) bytes rest place e (number-extends 65535) is
+    (unread-first (number_from 65535) (λ index. Some (record { place = place; index = index.0 }, index.1)) rest e none)
+
+module _ (modules : List Module) (of : Option Definition) (bytes addressed keyed : List ℕ) (address : ℕ) (d : Definition) (address_is : address_from bytes ≡ Some (address, addressed))
+    (d_is : struct_from of addressed ≡ Some (d, keyed)) (e : Unread) where
+  -- what follows the key isn't read
+  entry-after : IsUnread (kinds_from modules address d) keyed e → IsUnread (entry_from modules of) bytes e
+  entry-after none =
+      unread-next address_from (λ a. addressed_from modules of a.0 a.1) bytes addressed address e address-extends address_is
+      (unread-next (struct_from of) (λ d. kinds_from modules address d.0 d.1) addressed keyed d e (struct-extends of) d_is none)
+
+  -- the leaves aren't
+  pub entry-unread : (kinds : List LeafKind) → kinds_under modules d ≡ Some kinds → IsUnread (leaves_from kinds) keyed e → IsUnread (entry_from modules of) bytes e
+  entry-unread kinds is none =
+      entry-after (subst (λ o. IsUnread (λ z. o >>= λ kinds. words_from address d kinds z) keyed e) (sym is)
+      (unread-first (leaves_from kinds) (λ words. Some (record { key = record { address = address; place = d.place; index = d.index }; words = words.0 }, words.1)) keyed e none))
+
+  -- there are no such values
+  pub entry-shapeless : e ≡ Malformed → kinds_under modules d ≡ None → IsUnread (entry_from modules of) bytes e
+  entry-shapeless malformed is = entry-after (subst (λ z. IsUnread (kinds_from modules address d) keyed z) (sym malformed) (λ more. ap (λ o. o >>= λ kinds. words_from address d kinds (keyed ++ more)) is))
+
+-- the struct isn't read
+pub struct-unread : (modules : List Module) (of : Option Definition) (bytes addressed : List ℕ) (address : ℕ) (e : Unread) → address_from bytes ≡ Some (address, addressed)
+    → IsUnread (struct_from of) addressed e → IsUnread (entry_from modules of) bytes e
+struct-unread modules of bytes addressed address e is none =
+    unread-next address_from (λ a. addressed_from modules of a.0 a.1) bytes addressed address e address-extends is
+    (unread-first (struct_from of) (λ d. kinds_from modules address d.0 d.1) addressed e none)
+
+-- what is made of nothing
+pub made-none : {A B : Type 0} (f : A → B) (o : Option A) (r : Option B) → option_map f o ≡ r → ((a : A) → o ≡ Some a → ⊥) → r ≡ None
+made-none f None r is empty = sym is
+made-none f (Some a) r is empty = absurd (empty a refl)
+
+-- ---- the tallies and what is stored
+
+pub storage-unread : (form : Form) (modules : List Module) (count : ℕ) (bytes rest : List ℕ) (counts : List (ℕ × ℕ)) (e : Unread) → entries_from (tally_from form) count bytes ≡ Some (counts, rest)
+    → IsUnread (storage_into modules form []) rest e → IsUnreadBody form modules count bytes e
+storage-unread form modules count bytes rest counts e is none =
+    body-unread form modules count bytes e
+    (unread-next (entries_from (tally_from form) count) (λ counts. storage_into modules form [] counts.1 >>= λ stored. Some ((counts.0, stored.0), stored.1)) bytes rest counts e
+    (entries-extends (tally_from form) (tally-extends form) count) is
+    (unread-first (storage_into modules form []) (λ stored. Some ((counts, stored.0), stored.1)) rest e none))
+
+pub tallies-not : (form : Form) (modules : List Module) (count : ℕ) (bytes : List ℕ) (e : Unread) → IsUnread (entries_from (tally_from form) count) bytes e → IsUnreadBody form modules count bytes e
+tallies-not form modules count bytes e none =
+    body-unread form modules count bytes e
+    (unread-first (entries_from (tally_from form) count) (λ counts. storage_into modules form [] counts.1 >>= λ stored. Some ((counts.0, stored.0), stored.1)) bytes e none)
+
+-- bytes are left
+pub body-left : (form : Form) (modules : List Module) (count : ℕ) (bytes counted rest : List ℕ) (counts : List (ℕ × ℕ)) (stored : FlatStorage) → entries_from (tally_from form) count bytes ≡ Some (counts, counted)
+    → storage_into modules form [] counted ≡ Some (stored, rest) → body_from form modules count bytes ≡ Some ((counts, stored), rest)
+body-left form modules count bytes counted rest counts stored tallies_are stored_is =
+    ap (λ o. o >>= λ counts. storage_into modules form [] counts.1 >>= λ stored. Some ((counts.0, stored.0), stored.1)) tallies_are
+    ∙ ap (λ o. o >>= λ stored. Some ((counts, stored.0), stored.1)) stored_is
+
+pub left-over : (form : Form) (modules : List Module) (count : ℕ) (bytes rest : List ℕ) (body : List (ℕ × ℕ) × FlatStorage) → body_from form modules count bytes ≡ Some (body, rest)
+    → (more : List ℕ) → (rest ++ more ≡ [] → ⊥) → IsNoBody form modules count (bytes ++ more)
+left-over form modules count bytes rest body is more some = λ other whole.
+    some (some_pair_parts body other (rest ++ more) [] (sym (body-extends form modules count bytes rest more body is) ∙ whole)).1
+
+-- more of them with others behind
+pub more-left : (rest more : List ℕ) → (rest ≡ [] → ⊥) → rest ++ more ≡ [] → ⊥
+more-left [] more some is = some refl
+more-left (b ∷ rest) more some is = absurd cc
+
+-- ---- an entry that was put where none is under its key
+
+pub put-is : (storage more : FlatStorage) (e : FlatEntry) (done : Bool) → done ≡ not (is_some (words_under storage e.key)) → more ≡ cond done (with_words storage e.key e.words) storage
+    → with_entry storage e ≡ more
+put-is storage more e done done_is more_is = grind arith
