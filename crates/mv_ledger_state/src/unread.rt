@@ -1,5 +1,5 @@
 // Why bytes are not read, told apart by whether more bytes may help; and numbers that are read so.
-ghost use Rattle.std.specs.Prelude.{◌≡◌, ◌≤◌, None, Some, IfErr, IfOk};
+ghost use Rattle.std.specs.Prelude.{◌≡◌, ◌≤◌, Some, IfErr, IfOk};
 ghost use Rattle.mv_uleb.specs.Parsing.{number_from};
 ghost use Rattle.mv_ledger_state.specs.Unread.{IsUnread};
 
