@@ -28,10 +28,14 @@ def etcdctl(words: Sequence[str], access: Access = Access()) -> str:
     environment: Dict[str, str] = {**os.environ, "ETCDCTL_API": "3"}
     if access.user is not None:
         environment["ETCDCTL_USER"] = f"{access.user}:{access.secret()}"
-    it = subprocess.run(["etcdctl", *options, *words], env=environment, stdin=subprocess.DEVNULL, stdout=subprocess.PIPE,
-                        stderr=subprocess.PIPE, timeout=TAKE_SECONDS)
+    try:
+        it = subprocess.run(["etcdctl", *options, *words], env=environment, stdin=subprocess.DEVNULL, stdout=subprocess.PIPE,
+                            stderr=subprocess.PIPE, timeout=TAKE_SECONDS)
+    except subprocess.TimeoutExpired:
+        raise LogError(f"etcdctl {words[0]} {words[1]} takes longer than {TAKE_SECONDS:g} seconds") from None
     if it.returncode != 0:
-        raise LogError(f"etcdctl {words[0]} {words[1]} ends with the status {it.returncode}: {it.stderr.decode('utf-8', 'replace').strip()}")
+        said = it.stderr.decode("utf-8", "replace").strip()
+        raise LogError(f"etcdctl {words[0]} {words[1]} ends with the status {it.returncode}: {said}")
     return it.stdout.decode("utf-8", "replace").strip()
 
 

@@ -53,8 +53,8 @@ class Clearing:
         if agreed is None:
             raise LogError("no majority of the replicas has put the digest of one save: nothing can be cleared")
         before = self.etcd.entry(self.keys.cleared)
-        done, old, unneeded = self.log.cleared_of(before.value if before else None), self.old_enough(last), min(agreed.number, last - self.keep)
-        upto = max(done, min(unneeded, old))
+        unneeded = min(agreed.number, last - self.keep)
+        upto = max(self.log.cleared_of(before.value if before else None), min(unneeded, self.old_enough(last)))
         self.etcd.put(self.keys.cleared, str(upto).encode())
         behind = [name for name in self.votes.replicas if not self.has_answered(name, upto)]
         removed = 0
@@ -73,8 +73,8 @@ class Clearing:
         entry = self.etcd.entry(self.keys.times)
         marks = marks_in(entry.value if entry else None)
         if marks and marks[-1].seconds > self.now + AHEAD_SECONDS:
-            raise LogError(f"the log was cleared by a clock that was {marks[-1].seconds - self.now} seconds ahead of this one: set the clocks "
-                           f"right, and remove {self.keys.times.decode()} if it was that one")
+            raise LogError(f"the log was cleared by a clock that was {marks[-1].seconds - self.now} seconds ahead of this one: set the "
+                           f"clocks right, and remove {self.keys.times.decode()} if it was that one")
         new = marked(marks, self.now, last, self.settings.hours)
         if new != marks:
             self.etcd.transact([unchanged(self.keys.times, entry.changed if entry else 0)], [put(self.keys.times, text_of(new))], [])
@@ -110,8 +110,8 @@ class Clearing:
         return entries
 
     def remove(self, entries: List[Entry]) -> int:
-        """Removes records, their ids and pieces, and takes their bytes off what their submitters have: all at once, if they all still stand,
-        so that nothing is taken off twice where two clear, or an answer is lost. How many it removed."""
+        """Removes records, their ids and pieces, and takes their bytes off what their submitters have: all at once, if they all stand, so
+        that nothing is taken off twice where two clear, or an answer is lost. How many it removed."""
         entries = self.fitting(entries)
         heads = self.owned(entries)
         while True:
@@ -207,7 +207,9 @@ def defragment(node: Etcd, is_full: bool) -> str:
         before = size_of(node)
         if not (is_full or before.is_loose()):
             return f"{address} keeps its {before.file} bytes, of which {before.used} are in use"
+        node.slow_seconds = LONG_SECONDS
         node.ask("/v3/maintenance/defragment", {})
+        node.slow_seconds = 0.0
         return f"{address} has {size_of(node).file} bytes, and had {before.file}"
     except Unreachable:
         return f"{address} doesn't answer"
@@ -221,7 +223,7 @@ def make_room(log: Log) -> str:
     etcd = log.etcd
     compact(patient(etcd, list(etcd.addresses)), etcd.range(log.keys.log, log.keys.log + b"\0", 1).revision)
     alarms = etcd.ask("/v3/maintenance/alarm", {"action": "GET"}).get("alarms", [])
-    told = [defragment(patient(etcd, [address]), bool(alarms)) for address in sorted(etcd.addresses)]
+    told = [defragment(Etcd([address], etcd.patience, etcd.access), bool(alarms)) for address in sorted(etcd.addresses)]
     for one in alarms:
         etcd.ask("/v3/maintenance/alarm", {"action": "DEACTIVATE", "memberID": one.get("memberID", "0"), "alarm": one["alarm"]})
     return "; ".join(told) + (f"; {len(alarms)} alarms are disarmed" if alarms else "")

@@ -24,15 +24,16 @@ def change_set(log: Log, changed: int, old: Settings, new: Settings) -> None:
     none of the new set has put such a save from there on, nor a majority of it the same one: nobody could answer the records behind it."""
     votes = votes_in(log.etcd, log.keys, old)
     cleared, saves = log.cleared(), list(votes.agreed_saves(log.last()))
+    both = Votes(log.etcd, log.keys, sorted({*old.replicas, *new.replicas}))
     put_by: Dict[int, List[str]] = {
-        save.number: [name for name, value in Votes(log.etcd, log.keys, sorted({*old.replicas, *new.replicas})).of(SAVED, save.number).items()
-                      if value == save.value] for save in saves}
+        save.number: [name for name, value in both.of(SAVED, save.number).items() if value == save.value] for save in saves}
     carried = [save for save in saves if save.number >= cleared and set(put_by[save.number]) & set(new.replicas)]
     own = [save for save in Votes(log.etcd, log.keys, new.replicas).agreed_saves(log.last()) if save.number >= cleared]
     if cleared and not carried and not own:
         who = sorted({name for save in saves if save.number >= cleared for name in put_by[save.number]})
-        raise LogError(f"the log is cleared up to record {cleared}, and none of {', '.join(new.replicas)} has put an agreed save from there on: "
-                       + (f"keep one of {', '.join(who)} in the set" if who else "no replica has one: see 'Change the set' in docs/REPLICAS.md"))
+        do = f"keep one of {', '.join(who)} in the set" if who else "no replica has one: see 'Change the set' in docs/REPLICAS.md"
+        raise LogError(f"the log is cleared up to record {cleared}, and none of {', '.join(new.replicas)} has put an agreed save from "
+                       f"there on: {do}")
     best = max([*carried, *([Vote(old.agreed.number, old.agreed.value.encode())] if old.agreed else [])], default=None)
     exchange(log, changed, new._replace(agreed=Agreed(best.number, best.value.decode("ascii", "replace")) if best else None))
 

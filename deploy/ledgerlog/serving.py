@@ -31,6 +31,8 @@ class Metrics:
 
         self.server = ThreadingHTTPServer(("127.0.0.1", port), Handler)
         self.server.daemon_threads = True
+        # Whoever asks may go away meanwhile.
+        setattr(self.server, "handle_error", lambda *_: None)
         threading.Thread(target=self.server.serve_forever, daemon=True).start()
 
     @property

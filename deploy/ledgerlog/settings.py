@@ -48,7 +48,8 @@ class Agreed(NamedTuple):
 
 
 class Settings(NamedTuple):
-    """What stands under NAME/log. `room` and `quota` are bytes; 0 is no limit. Records and ids are kept for so many `hours`. `more` is what this code doesn't know: it is kept."""
+    """What stands under NAME/log. `room` and `quota` are bytes; 0 is no limit. Records and ids are kept for so many `hours`. `more` is what
+    this code doesn't know: it is kept."""
 
     id: str
     replicas: Tuple[str, ...]
@@ -88,7 +89,8 @@ class Settings(NamedTuple):
     def check_protocol(self) -> None:
         """OtherProtocol where the log goes by rules that this code doesn't know."""
         if self.protocol > PROTOCOL:
-            raise OtherProtocol(f"the log goes by protocol {self.protocol}, and this program knows those up to {PROTOCOL}: take a newer one")
+            raise OtherProtocol(f"the log goes by protocol {self.protocol}, and this program knows those up to {PROTOCOL}: take a newer "
+                                "one")
 
     def text(self) -> bytes:
         """What stands in the log: what says no more than an older log does is left out, so that older programs go on."""

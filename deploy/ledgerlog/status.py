@@ -65,7 +65,8 @@ class Status:
             ("saved", str(self.saved)), ("saved ago", f"{time.time() - self.saved_at:.1f} s" if self.saved_at else "never"),
             ("save took", f"{self.save_seconds:.3f} s"), ("save size", f"{self.save_bytes} bytes"),
             ("memory", f"{memory_of(os.getpid())} bytes"), ("program's memory", f"{memory_of(self.program_id)} bytes"),
-            ("program restarts", str(self.restarts)), ("votes held", str(self.held)), ("stuck at record", str(self.stuck) if self.stuck else "none"), ("differs", differs or "none")]
+            ("program restarts", str(self.restarts)), ("votes held", str(self.held)),
+            ("stuck at record", str(self.stuck) if self.stuck else "none"), ("differs", differs or "none")]
 
     def behind(self) -> int:
         return max(0, self.last - self.answered)

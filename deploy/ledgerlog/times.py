@@ -56,8 +56,8 @@ def untimely(record_id: str, hours: int) -> Optional[str]:
         return None
     age = time.time() - int(found.group(1), 16)
     if age > hours * HOUR / 2:
-        return (f"the id {record_id} isn't in the log, and was made {age / HOUR:.1f} hours ago, more than half of the {hours} for which ids are "
-                "kept: a record that was put by it may be cleared by now")
+        return (f"the id {record_id} isn't in the log, and was made {age / HOUR:.1f} hours ago, more than half of the {hours} for which "
+                "ids are kept: a record that was put by it may be cleared by now")
     if age < -AHEAD_SECONDS:
         return f"the id {record_id} says that it was made {-age / HOUR:.1f} hours from now: this machine's clock is wrong, or that one's"
     return None

@@ -62,8 +62,8 @@ def new_password(path: str) -> str:
 
 
 def change_passwords(etcd: Etcd, keys: Keys, folder: str) -> List[str]:
-    """Gives each user of the ledger whose password is in the folder another one, and root, the last. Those that were changed. The new one stands in a file of its
-    own until etcd has it, so it isn't lost if this is ended halfway, and is taken again the next time."""
+    """Gives each user of the ledger whose password is in the folder another one, and root, the last. Those that were changed. The new one
+    stands in a file of its own until etcd has it, so it isn't lost if this is ended halfway, and is taken again the next time."""
     changed: List[str] = []
     users = [name[:-len(END)] for name in sorted(os.listdir(folder)) if name.endswith(END)]
     for user in [one for one in users if one.startswith(f"{keys.ledger}-")] + [one for one in users if one == ROOT]:

@@ -3,7 +3,8 @@
 before, and saves and loads what it has. Its ledger is the number of runs, and a hash of them.
 
 An environment may have it: STAND_IN_VERSION, what --version says; STAND_IN_WRONG, the number of the run that it answers
-wrongly; STAND_IN_FATAL, the payload of a record at which it ends; STAND_IN_FORM, the form in which it saves, beside MVL2, which each reads."""
+wrongly; STAND_IN_FATAL, the payload of a record at which it ends; STAND_IN_FORM, the form in which it saves, beside MVL2, which
+each reads."""
 
 import hashlib
 import os

@@ -146,7 +146,8 @@ class ByCommand(unittest.TestCase):
         self.addCleanup(node.close)
         port = free_port()
         with tempfile.TemporaryDirectory() as folder:
-            words = [os.path.join(DEPLOY, "replica"), *node.words(), "--moveledger", STAND_IN, "--name", "a", "--metrics-port", str(port), folder]
+            words = [os.path.join(DEPLOY, "replica"), *node.words(), "--moveledger", STAND_IN, "--name", "a", "--metrics-port", str(port)]
+            words.append(folder)
             with subprocess.Popen(words, stderr=subprocess.DEVNULL) as process:
 
                 def is_told() -> bool:

@@ -29,7 +29,8 @@ class Fields(unittest.TestCase):
         self.assertEqual(json.loads(settings_of(self.text(protocol=9)).text())["protocol"], 9)
 
     def test_a_field_with_another_kind_of_value_is_a_fault(self) -> None:
-        rows: List[Dict[str, Any]] = [{"every": 0}, {"every": "x"}, {"every": True}, {"quota": -1}, {"quotas": []}, {"quotas": {"a": "x"}}, {"past": 3},
+        rows: List[Dict[str, Any]] = [{"every": 0}, {"every": "x"}, {"every": True}, {"quota": -1}, {"quotas": []}, {"quotas": {"a": "x"}},
+                                      {"past": 3},
                                       {"protocol": "x"}, {"replicas": None}, {"past": [["x"]]}]
         for more in rows:
             with self.subTest(more), self.assertRaises(LogError):

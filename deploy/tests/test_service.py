@@ -2,6 +2,7 @@ import os
 import tempfile
 import threading
 import unittest
+from functools import partial
 from typing import Any, Callable, Dict, List
 
 from ledgerlog.client import Ledger, Placed, Refused, Unknown
@@ -165,7 +166,7 @@ class Batches(unittest.TestCase):
         writer = Writer(made_log(store, quotas={"poor": 4}))
         told: Dict[str, Any] = {}
         for name, who, number in (("a", "poor", 1), ("b", "rich", 2), ("c", "poor", 3), ("b", "rich", 2), ("d", "rich", 4)):
-            writer.waiting.put(Wanted(Offer(name, run(number)), who, lambda outcome, name=name: told.setdefault(name, outcome)))  # type: ignore
+            writer.waiting.put(Wanted(Offer(name, run(number)), who, partial(told.setdefault, name)))
         while len(told) < 4 or writer.left:
             writer.put(writer.next())
         self.assertEqual([told[name] for name in "bd"], [1, 2])

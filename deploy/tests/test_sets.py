@@ -52,7 +52,8 @@ class Changing(OverStandIn):
 
     def test_a_set_without_a_way_on_is_refused(self) -> None:
         self.cleared_set()
-        self.assertIn("none of d, e, f has put an agreed save from there on: keep one of a, b, c in the set", self.set("d", "e", "f", status=1))
+        said = self.set("d", "e", "f", status=1)
+        self.assertIn("none of d, e, f has put an agreed save from there on: keep one of a, b, c in the set", said)
         self.assertEqual(self.log.settings().replicas, SET)
 
     def test_one_that_nobody_vouches_for_can_be_trusted_alone(self) -> None:

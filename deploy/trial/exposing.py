@@ -131,7 +131,7 @@ def rotated(stage: Stage, folder: Path) -> str:
     done("log", "--log", ",".join(stage.place.addresses), "--ledger", LEDGER, *old, "show", status=1, says="invalid user ID or password")
     done("backup", *stage.words("root"), folder / "backups")
     done("backup", *stage.words("root"), "--drill", folder / "backups", says="with all records")
-    return f"{len(changed)} passwords changed while replicas ran: they went on, the old ones let nobody in; a backup taken by root and tried"
+    return f"{len(changed)} passwords changed while replicas ran: they went on, the old ones let nobody in; a backup taken and tried"
 
 
 def exposed(stage: Stage, folder: Path) -> List[str]:

@@ -15,7 +15,7 @@ from ledgerlog.saves import Save, saves_in
 DEPLOY = Path(__file__).resolve().parent.parent
 SUBREAPER = 36
 NODES = 3
-END_SECONDS = 20.0
+END_SECONDS = 60.0
 
 
 class Failed(Exception):
@@ -143,7 +143,7 @@ class ReplicaProcess(Started):
         until(is_back, seconds, f"{self.name} has answered record {number}")
         return time.monotonic() - began
 
-    def ends(self, status: int, text: str, seconds: float = 60.0) -> str:
+    def ends(self, status: int, text: str, seconds: float = 180.0) -> str:
         """Waits until it has ended with this status and has said this text, and gives the line."""
         until(lambda: not self.is_running(), seconds, f"{self.name} ends: it has said {self.told()[-400:]}")
         assert self.process is not None
@@ -152,7 +152,7 @@ class ReplicaProcess(Started):
             raise Failed(f"{self.name} ends with the status {self.process.returncode}: {self.told()[-400:]}")
         return lines[-1]
 
-    def says(self, text: str, before: int = 0, seconds: float = 60.0) -> str:
+    def says(self, text: str, before: int = 0, seconds: float = 180.0) -> str:
         """Waits until it has said this, behind so much that it has said before, and gives the line."""
         found = lambda: [line for line in self.told()[before:].splitlines() if text in line]  # noqa: E731
         return str(until(found, seconds, f"{self.name} says `{text}`; it has said {self.told()[before:][-400:]}")[-1])

@@ -35,7 +35,7 @@ def paused(stage: Stage) -> str:
     record, number = stage.given.fresh_mint(), stage.log.last() + 1
     stopped = stage.random.sample(stage.place.nodes, 2)
     signalled(stopped, signal.SIGSTOP)
-    words = [str(DEPLOY / "submit"), *map(str, stage.words("submitter")), "-"]
+    words = [str(DEPLOY / "submit"), *map(str, stage.words("submitter")), "--seconds", "180", "-"]
     with subprocess.Popen(words, stdin=subprocess.PIPE, stdout=subprocess.PIPE, stderr=subprocess.PIPE) as process:
         assert process.stdin and process.stdout and process.stderr
         process.stdin.write(record)

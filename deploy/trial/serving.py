@@ -114,5 +114,5 @@ def served(stage: Stage) -> List[str]:
             raise Failed(f"the service tells {placed.lines!r} as the lines of record {placed.number}, or doesn't stop")
     finally:
         services.close()
-    return [f"{len(records)} records of {SUBMITTERS} clients put through a service that was killed {KILLS} times, a node once, while others were "
-            "put beside it: each is there once under the number that was told, and the quotas are the bytes that were put"]
+    return [f"{len(records)} records of {SUBMITTERS} clients put through a service that was killed {KILLS} times, a node once, while "
+            "others were put beside it: each is there once under the number that was told, and the quotas are the bytes that were put"]

@@ -55,5 +55,5 @@ def skipped(stage: Stage) -> List[str]:
     if it.returncode != REFUSED:
         raise Failed(f"submit of a record beyond the limit ends with the status {it.returncode}: {it.stderr!r}")
     stage.verify(says=f"record {number} is skipped, since that was asked for: too much for all")
-    return [f"no program could take record {number}: the lines before it became final, all three named it, and went on when it was skipped; "
-            "the others are answered as by one apply", "submit refuses what is beyond a limit"]
+    return [f"no program could take record {number}: the lines before it became final, all three named it, and went on when it was "
+            "skipped; the others are answered as by one apply", "submit refuses what is beyond a limit"]

@@ -12,8 +12,9 @@ from ledgerlog.votes import Votes
 from .given import Given
 from .processes import NODES, Node, ReplicaProcess, command, done, end_all, free_ports, until
 
-PATIENCE = 60.0
-ANSWER_SECONDS = 120.0
+# More than a busy machine takes.
+PATIENCE = 180.0
+ANSWER_SECONDS = 240.0
 NAMES = ("first", "second", "third")
 # Replicas save so many seconds after the first record that isn't saved.
 SECONDS = 2
