@@ -19,3 +19,4 @@ pub mod Endings
 pub mod Beginnings
 pub mod Unloaded
 pub mod Marks
+pub mod Fronts

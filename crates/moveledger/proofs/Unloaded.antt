@@ -13,7 +13,7 @@ use Rattle.moveledger.specs.declared.ending.End.{End}
 use Rattle.moveledger.specs.declared.ending.End.TheVariants.{LoadRefused}
 
 -- a reason fails by its number
-by-number : (bytes : List ℕ) (error : LoadError) (number : ℕ) → load_number error ≡ Some number → IsLoadRefusal bytes error → FailsLoad bytes number
+pub by-number : (bytes : List ℕ) (error : LoadError) (number : ℕ) → load_number error ≡ Some number → IsLoadRefusal bytes error → FailsLoad bytes number
 by-number bytes Head number n h = subst (FailsLoad bytes) (same_Some _ _ n) h
 by-number bytes Module number n h = subst (FailsLoad bytes) (same_Some _ _ n) h
 by-number bytes Link number n h = subst (FailsLoad bytes) (same_Some _ _ n) h
@@ -30,16 +30,16 @@ no_number Body number n e = cc
 no_number Tally number n e = cc
 no_number Memory number n e = cc
 
--- what is printed of a reason with a number
-pub not_loaded-printed : {S A : Type 0} (bytes_of : S → List ℕ) (bytes : List ℕ) (error : LoadError) (number : ℕ) (made : Result S A)
-    (held holds : Option (List ℕ)) (result : End) → load_number error ≡ Some number → IsLoadRefusal bytes error
+-- what is printed of the reason of a number
+pub refused-printed : {S A : Type 0} (bytes_of : S → List ℕ) (bytes : List ℕ) (number : ℕ) (made : Result S A)
+    (held holds : Option (List ℕ)) (result : End) → FailsLoad bytes number
     → IfOk made (λ s. bytes_of s ≡ line (load_refused_text number)) → Prints bytes_of made (LoadRefused number) held holds result
     → IsNotLoaded bytes held holds result
-not_loaded-printed bytes_of bytes error number (Err e) held holds result n h said p = subst (IsNotLoaded bytes held holds) (sym p.0) p.1
-not_loaded-printed bytes_of bytes error number (Ok s) held holds result n h said (inl p) =
-    subst (IsNotLoaded bytes held holds) (sym p.0) (number, by-number bytes error number n h, subst (λ l. BreaksOff l held holds) said p.1)
-not_loaded-printed bytes_of bytes error number (Ok s) held holds result n h said (inr p) =
-    subst (IsNotLoaded bytes held holds) (sym p.0) (by-number bytes error number n h, subst (Appends held holds) said p.1)
+refused-printed bytes_of bytes number (Err e) held holds result h said p = subst (IsNotLoaded bytes held holds) (sym p.0) p.1
+refused-printed bytes_of bytes number (Ok s) held holds result h said (inl p) =
+    subst (IsNotLoaded bytes held holds) (sym p.0) (number, h, subst (λ l. BreaksOff l held holds) said p.1)
+refused-printed bytes_of bytes number (Ok s) held holds result h said (inr p) =
+    subst (IsNotLoaded bytes held holds) (sym p.0) (h, subst (Appends held holds) said p.1)
 
 -- the same of a reader that may not tell what it gives
 pub not_loaded-some : (given : Option (List ℕ)) (bytes : List ℕ) (error : LoadError) (held holds : Option (List ℕ)) (result : End)
@@ -48,11 +48,11 @@ pub not_loaded-some : (given : Option (List ℕ)) (bytes : List ℕ) (error : Lo
 not_loaded-some None bytes error held holds result read refused said = tt
 not_loaded-some (Some xs) bytes error held holds result read refused said = said xs (subst (λ (l : List ℕ). IsLoadRefusal l error) read refused)
 
--- the same of one that gives what begins with no mark
-pub not_loaded-unmarked : (given : Option (List ℕ)) (held holds : Option (List ℕ)) (result : End) → IfSome given (λ xs. FailsLoad xs 1)
-    → ((xs : List ℕ) → IsLoadRefusal xs Head → IsNotLoaded xs held holds result) → IfSome given (λ xs. IsNotLoaded xs held holds result)
-not_loaded-unmarked None held holds result fails said = tt
-not_loaded-unmarked (Some xs) held holds result fails said = said xs fails
+-- the same of one whose first bytes tell the number
+pub refused-some : (given : Option (List ℕ)) (number : ℕ) (held holds : Option (List ℕ)) (result : End) → IfSome given (λ xs. FailsLoad xs number)
+    → ((xs : List ℕ) → FailsLoad xs number → IsNotLoaded xs held holds result) → IfSome given (λ xs. IsNotLoaded xs held holds result)
+refused-some None number held holds result fails said = tt
+refused-some (Some xs) number held holds result fails said = said xs fails
 
 -- what is known of an element that is there
 pub at_some : {A : Type 0} (P : A → Type 0) (o : Option A) (a : A) → o ≡ Some a → IfSome o P → P a

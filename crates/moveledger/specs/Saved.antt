@@ -1,13 +1,20 @@
 -- How the commands over saved ledgers end, and what they print.
-use Rattle.std.specs.Prelude.{◌≡◌, ℕ, List, Option}
+use Rattle.std.specs.Prelude.{◌≡◌, ℕ, IfSome, List, Option}
 use Rattle.std.specs.Io.KnownBytes.{Appends}
 use Rattle.mv_machine.specs.Ledger.{LedgerState}
 use Rattle.mv_ledger_state.specs.SavedText.{Second, IsSavedText}
 use Rattle.mv_ledger_state.specs.Loading.{FailsLoad, IsLoaded}
 use Rattle.moveledger.specs.Printing.{line, load_refused_text}
 use Rattle.moveledger.specs.Writing.{BreaksOff}
+use Rattle.moveledger.specs.declared.inputs.Bytes.{Bytes}
+use Rattle.moveledger.specs.declared.inputs.Bytes.TheVariants.{Whole, Fails}
 use Rattle.moveledger.specs.declared.ending.End.{End}
 use Rattle.moveledger.specs.declared.ending.End.TheVariants.{Done, Read, Write, Memory, Words, Refused, LoadRefused, TooComplex}
+
+-- what was read of known bytes: all of them, or enough to tell for which reason they are not loaded
+abbrev pub IsRead : Option (List ℕ) → Bytes → Type 0
+IsRead given (Whole v) = IfSome given (λ xs. v.items ≡ xs)
+IsRead given (Fails number) = IfSome given (λ xs. FailsLoad xs number)
 
 -- Bytes are not loaded, and the line of the first reason against them is printed; or a write failed, and a beginning of that line is
 -- written, and not all of it; or a read failed, or memory ran out, and nothing is written.

@@ -1,7 +1,7 @@
 // The commands over saved ledgers, over what their files give and what they print.
 ghost use Rattle.std.specs.Prelude.{◌≡◌, ◌≢◌, ◌⊎◌, List, ℕ, Result, IfErr, IfOk, IfSome, OnOk};
 ghost use Rattle.std.specs.Fn.{FnOnceReturnsAt};
-ghost use Rattle.mv_ledger_state.specs.Loading.{IsLoadRefusal, IsLoaded};
+ghost use Rattle.mv_ledger_state.specs.Loading.{FailsLoad, IsLoadRefusal, IsLoaded};
 ghost use Rattle.mv_ledger_state.specs.SavedText.{IsSavedText, Second};
 ghost use Rattle.mv_ledger_state.specs.View.{state_of};
 ghost use Rattle.moveledger.specs.Saved.{IsMigrated, IsNotLoaded};
@@ -10,15 +10,15 @@ ghost use Rattle.mv_commands.specs.declared.error.KeepError.{KeepError};
 
 use crate::authoring::printed;
 use crate::ending::{End, end_of_keeping};
-use crate::inputs::ledger_bytes;
+use crate::inputs::{Bytes, ledger_bytes};
 use crate::printing::load_refused_line;
 use mv_commands::KeepError;
 use mv_ledger::{Ledger, LoadError};
 use std::alloc::{AllocError, Global};
 use std::io::{Read, Write};
 
-/// Loads the ledger whose text a reader gives. `expected` is the expected number of bytes. If the first four bytes aren't the mark
-/// of a saved ledger, no more are read.
+/// Loads the ledger whose text a reader gives. `expected` is the expected number of bytes. If the first bytes tell that it isn't
+/// loaded, no more are read.
 ///
 /// # Errors
 ///
@@ -35,8 +35,9 @@ pub fn loaded<R: Read + Drop, W: Write>(
     ensures refused { IfErr result (λ end. IfSome (R.remaining text) (λ bytes.
         IsNotLoaded bytes (W.contents writer.old) (W.contents writer.new) end)) }
 {
-    let Some(bytes) = ledger_bytes(alloc, text, expected)? else {
-        return Err(not_loaded(alloc, writer, LoadError::Head));
+    let bytes = match ledger_bytes(alloc, text, expected)? {
+        Bytes::Whole(bytes) => bytes,
+        Bytes::Fails(number) => return Err(refused(alloc, writer, number)),
     };
     match Ledger::load(alloc, &bytes) {
         Ok(ledger) => Ok(ledger),
@@ -95,8 +96,9 @@ pub fn migrated<R: Read + Drop, W: Write>(
     ensures refused { IfErr result (λ end. IfSome (R.remaining old) (λ bytes.
         IsNotLoaded bytes (W.contents writer.old) (W.contents writer.new) end)) }
 {
-    let Some(bytes) = ledger_bytes(alloc, old, expected)? else {
-        return Err(not_loaded(alloc, writer, LoadError::Head));
+    let bytes = match ledger_bytes(alloc, old, expected)? {
+        Bytes::Whole(bytes) => bytes,
+        Bytes::Fails(number) => return Err(refused(alloc, writer, number)),
     };
     match mv_ledger::migrate(alloc, &bytes) {
         Ok(new) => Ok(new),
@@ -112,9 +114,15 @@ fn not_loaded<W: Write>(alloc: Global, writer: &mut W, error: LoadError) -> End
 {
     match error.number() {
         None => End::Memory,
-        Some(number) => {
-            let line = load_refused_line(alloc, number);
-            printed(writer, End::LoadRefused(number), line)
-        }
+        Some(number) => refused(alloc, writer, number),
     }
+}
+
+/// Prints that a ledger isn't loaded for the reason of this number, and says how that ended.
+fn refused<W: Write>(alloc: Global, writer: &mut W, number: u8) -> End
+    ensures { (bytes : List ℕ) → FailsLoad bytes number
+        → IsNotLoaded bytes (W.contents writer.old) (W.contents writer.new) result }
+{
+    let line = load_refused_line(alloc, number);
+    printed(writer, End::LoadRefused(number), line)
 }

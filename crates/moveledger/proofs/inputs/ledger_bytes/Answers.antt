@@ -1,10 +1,11 @@
-use Rattle.std.proofs.Common.{◌≡◌, ℕ, List, length, true, arith}
+use Rattle.std.proofs.Common.{◌≡◌, ℕ, List, length, take, true, arith, subst, sym}
 use Rattle.std.proofs.lemmas.Grind.{common_steps}
+use Rattle.std.specs.Io.KnownBytes.{Consumes}
 use Rattle.moveledger.proofs.Marks.{unmarked-fails}
 use Rattle.moveledger.proofs.inputs.ledger_bytes.Goals as goal
 
-pub returns-then-not-is_mark-clause-unmarked : goal.returns-then-not-is_mark-clause-unmarked
-returns-then-not-is_mark-clause-unmarked g c asked =
+pub returns-then-not-is_mark-clause-read : goal.returns-then-not-is_mark-clause-read
+returns-then-not-is_mark-clause-read g c =
     let front : List ℕ = c.filled.new.buffer in
     let sized : length front ≡ 4 = grind (arith, common_steps) in
     unmarked-fails c.in-Ok.n front (g.R.Read.remaining c.args.reader) (g.R.Read.remaining c.filled.new.reader) sized
