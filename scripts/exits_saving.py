@@ -9,7 +9,7 @@ from typing import Callable, Iterator, List, Optional, Sequence, Tuple
 
 from common import has
 from exits_run import (
-    COUNTED, EMPTY, FIRST, KEPT, MEGABYTE, MEMORY, NOT_KEPT, OLD, OLD_FORM, READ, REPORT, SAVED, STREAM, WRITE, Cases, End, Given, Running,
+    COUNTED, EMPTY, FIRST, KEPT, MEMORY, NOT_KEPT, OLD, OLD_FORM, READ, REPORT, SAVED, STREAM, WRITE, Cases, End, Given, Running,
     Shelf, closes, ended, explained, fault_in, limits, line_from, mint_by, no_bytes, nobody, not_kept, program, saved)
 
 IN_USE = "another program has this ledger in use"
@@ -62,7 +62,8 @@ def loaded_and_saved(folder: str) -> Cases:
         with open("/dev/full", "wb") as full:
             status, _, said = ended(["apply", "--save", folder + "/kept", given], full)
         yield f"no ledger is saved after a fault of the {name}", (status, said, shelf.state("kept")), (1, fault, (OLD, []))
-    long = shelf.file("long", OLD[:4] + bytes(64 * MEGABYTE))
+    # Of 4,096 modules so many, each of 65,536 bytes and with no certificate: nothing tells yet that they are no ledger's.
+    long = shelf.file("long", OLD[:4] + bytes.fromhex("00" "8020") + 1024 * (bytes.fromhex("808004") + bytes(1 << 16) + b"\0"))
     yield "a long ledger, and no memory for it", ended(["apply", "--load", long, audit], preexec_fn=limits(24)), (1, b"", MEMORY)
     yield from much_is_given(shelf, audit)
 
@@ -77,19 +78,43 @@ def sparse(path: Path, front: bytes, size: int) -> Optional[Path]:
     return path
 
 
+# How a text ends that four bytes tell to be no ledger's, and one of which a beginning tells that it isn't that of one with its modules.
+NO_MARK, NO_BODY = (3, b"load refused 1\n", b""), (3, b"load refused 4\n", b"")
+# What texts begin with that are long, or don't end, and have zeros behind; and how they end, by their first bytes.
+FRONTS: List[Tuple[str, bytes, End]] = [
+    ("nothing", b"", NO_MARK),
+    ("a mark", OLD[:4], NO_BODY),
+    ("an old mark", OLD_FORM[:4], NO_BODY),
+    ("a ledger", SAVED, NO_BODY),
+    ("a ledger of the old form", OLD_FORM, NO_BODY),
+    ("a ledger without its last byte", SAVED[:-1], NO_BODY),
+    ("100 bytes of a ledger", SAVED[:100], (3, b"load refused 2\n", b"")),
+]
+
+
 def much_is_given(shelf: Shelf, audit: Path) -> Cases:
-    """What comes of files that are long, or don't end: four bytes tell that they are no ledgers."""
-    refused, few = (3, b"load refused 1\n", b""), limits(24)
-    wide = sparse(shelf.file("wide"), b"", 20 << 30)
-    if wide:
-        yield "20 GB of zeros are loaded", ended(["apply", "--load", wide, audit], preexec_fn=few), refused
-        yield "20 GB of zeros are migrated", ended(["migrate", wide, shelf.file("new")], preexec_fn=few), refused
+    """What comes of files that are long, or don't end: their first bytes tell that they are no ledgers."""
+    few = limits(500)
+    for shows, front, refused in FRONTS:
+        wide = sparse(shelf.file("wide"), front, 20 << 30)
+        if wide:
+            yield f"{shows}, and 20 GB of zeros, are loaded", ended(["apply", "--load", wide, audit], preexec_fn=few, timeout=2), refused
+            yield f"{shows}, and 20 GB of zeros, are migrated", ended(["migrate", wide, shelf.file("new")], preexec_fn=few, timeout=2), refused
+        endless = subprocess.Popen(["sh", "-c", "cat - /dev/zero"], stdin=subprocess.PIPE, stdout=subprocess.PIPE)
+        assert endless.stdin and endless.stdout
+        endless.stdin.write(front)
+        endless.stdin.close()
+        found = ended(["apply", "--load", "/dev/stdin", audit], stdin=endless.stdout, timeout=60, preexec_fn=few)
+        yield f"a pipe of {shows}, and zeros without end", found, refused
+        endless.kill()
+        endless.stdout.close()
+        endless.wait()
     wider = sparse(shelf.file("wide"), OLD[:4], (1 << 45) + 5)
     if wider:
-        yield "more bytes than a ledger has", ended(["apply", "--load", wider, audit]), (1, b"", MEMORY)
+        yield "more bytes than a ledger has", ended(["apply", "--load", wider, audit], preexec_fn=few, timeout=2), NO_BODY
     shelf.file("wide").unlink()
     endless = subprocess.Popen(["yes"], stdout=subprocess.PIPE)
-    yield "a pipe that never ends is loaded", ended(["apply", "--load", "/dev/stdin", audit], stdin=endless.stdout, timeout=60, preexec_fn=few), refused
+    yield "a pipe that never ends is loaded", ended(["apply", "--load", "/dev/stdin", audit], stdin=endless.stdout, timeout=60, preexec_fn=few), NO_MARK
     endless.kill()
     endless.communicate()
 

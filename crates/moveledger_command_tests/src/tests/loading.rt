@@ -1,4 +1,4 @@
-// What is said of a ledger whose reader fails, or begins with no mark.
+// What is said of a ledger whose reader fails, begins with no mark, or doesn't end.
 
 use moveledger::{End, loaded, migrated};
 use std::alloc::Global;
@@ -67,5 +67,48 @@ fn no_mark_is_refused_at_once(rt: HostRuntime) {
             wanted,
             b"load refused 1\n",
         );
+    }
+}
+
+/// A reader that gives some bytes, and then zeros without end.
+#[derive(Drop)]
+pub struct Endless<'a> {
+    pub front: &'a [u8],
+}
+
+impl Read for Endless<'_> {
+    fn read(&mut self, buf: &mut [u8]) -> io::Result<usize> {
+        if self.front.is_empty() {
+            buf.fill(0);
+            return Ok(buf.len());
+        }
+        self.front.read(buf)
+    }
+}
+
+// What is printed of a ledger of this reader.
+fn prints(rt: &impl Abort, alloc: Global, front: &[u8], expected: usize, wanted: &[u8]) {
+    let mut lines = Vec::new(alloc);
+    let is_loaded = loaded(alloc, Endless { front }, expected, &mut lines).is_ok();
+    assert_eq!(rt; (is_loaded, lines.as_slice()), (false, wanted));
+    let mut lines = Vec::new(alloc);
+    let is_migrated = migrated(alloc, Endless { front }, expected, &mut lines).is_ok();
+    assert_eq!(rt; (is_migrated, lines.as_slice()), (false, wanted));
+}
+
+// Their first bytes tell that texts with zeros behind are no ledgers', however many were expected.
+#[test]
+fn texts_without_end_are_refused(rt: HostRuntime) {
+    for (front, wanted) in [
+        (b"".as_slice(), b"load refused 1\n".as_slice()),
+        (b"MVL1".as_slice(), b"load refused 4\n".as_slice()),
+        (b"MVL2".as_slice(), b"load refused 4\n".as_slice()),
+        (b"MVL2\0\0".as_slice(), b"load refused 4\n".as_slice()),
+        // A module of no bytes.
+        (b"MVL2\0\x01".as_slice(), b"load refused 2\n".as_slice()),
+    ] {
+        for expected in [0, 4, 1 << 35, usize::MAX] {
+            prints(&rt, rt.alloc(), front, expected, wanted);
+        }
     }
 }

@@ -1,5 +1,6 @@
 // Saved ledgers: which are loaded, what is said of the others, and what they answer.
 
+use super::loading::Endless;
 use super::rows::{Row, rows_of};
 use moveledger::{End, EngineError, LoadError, engine, loaded, migrated};
 use std::alloc::{AllocError, Global};
@@ -84,6 +85,28 @@ fn prefixes_of_ledgers_are_refused(rt: HostRuntime) -> Result<(), Fail> {
             "load refused 4"
         };
         says(&rt, rt.alloc(), &whole[..length], wanted, "a prefix")?;
+    }
+    Ok(())
+}
+
+// Zeros without end behind each prefix of a ledger in the old form end as 100,000 of them do.
+#[test]
+fn prefixes_of_ledgers_before_endless_zeros_are_refused(rt: HostRuntime) -> Result<(), Fail> {
+    let whole = hex::decode(rt.alloc(), OLD_FORM)?;
+    for length in 0..=whole.len() {
+        let front = &whole[..length];
+        let mut lines = Vec::new(rt.alloc());
+        let is_migrated = migrated(rt.alloc(), Endless { front }, 0, &mut lines).is_ok();
+        let mut text = Vec::from_slice(rt.alloc(), front)?;
+        text.resize(100_000, 0)?;
+        says(
+            &rt,
+            rt.alloc(),
+            &text,
+            str::from_utf8(&lines)?.trim_end(),
+            "zeros behind a prefix",
+        )?;
+        assert!(rt; !is_migrated);
     }
     Ok(())
 }
