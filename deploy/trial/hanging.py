@@ -10,20 +10,28 @@ import time
 from http.server import BaseHTTPRequestHandler, ThreadingHTTPServer
 from typing import List
 
+from ledgerlog.etcd import Etcd
+
 from .processes import DEPLOY, Failed, Node, command
 from .stage import NAMES, PATIENCE, Stage
 
+# Long enough for a node to answer a write that it gave up waiting for its peers.
 PAUSE_SECONDS = 16.0
 # What a command may take where one node hangs: it needs none of it, and the machine may be busy.
 MOST_SECONDS = 8.0
 LATE_SECONDS = 5.0
-STREAM = 240
+STREAM = 600
 
 
 def signalled(nodes: List[Node], number: int) -> None:
     for node in nodes:
         assert node.process is not None
         node.process.send_signal(number)
+
+
+def left_of(stage: Stage, stopped: List[Node]) -> List[str]:
+    """The addresses of the nodes that aren't stopped."""
+    return [address for node, address in zip(stage.place.nodes, stage.place.addresses) if node not in stopped]
 
 
 def silent() -> socket.socket:
@@ -138,18 +146,44 @@ def seconds_are_kept(stage: Stage) -> str:
     return f"with two nodes stopped, submit --seconds 5 ended after {took:.1f} s with its id, by which the record was put later"
 
 
-def two_pause(stage: Stage, name: str) -> str:
-    """Two nodes are stopped for a while under a stream: it ends as if nothing had been, and no replica ends."""
+class Writing:
+    """A write to these nodes, which has to be done however they answer meanwhile."""
+
+    def __init__(self, stage: Stage, nodes: List[str]) -> None:
+        self.etcd, self.key = Etcd(nodes, PATIENCE, stage.place.access), f"{stage.ledger}-written".encode()
+        self.errors: List[Exception] = []
+        self.thread = threading.Thread(target=self.work, daemon=True)
+        self.thread.start()
+
+    def work(self) -> None:
+        try:
+            self.etcd.put(self.key, b"x")
+        except Exception as error:  # noqa: BLE001
+            self.errors.append(error)
+
+    def check(self) -> None:
+        self.thread.join()
+        if self.errors or self.etcd.get(self.key) != b"x":
+            raise Failed(f"a write while two nodes were stopped ended so: {self.errors}")
+        self.etcd.close()
+
+
+def two_pause(stage: Stage, name: str, is_alone: bool) -> str:
+    """Two nodes are stopped for a while under a stream: it ends as if nothing had been, and no replica ends. One that asks the third node
+    alone is told by this that it gave up waiting for the others."""
     records = stage.offered(STREAM)
     before = stage.log.last()
-    words = [str(DEPLOY / "submit"), *map(str, stage.words("submitter")), "--stream", "--id", name, "-"]
     stopped = stage.random.sample(stage.place.nodes, 2)
+    nodes = left_of(stage, stopped) if is_alone else stage.place.addresses
+    words = [str(DEPLOY / "submit"), "--log", ",".join(nodes), "--ledger", stage.ledger, "--stream", "--id", name, "--seconds", "180",
+             "-"]
     with subprocess.Popen(words, stdin=subprocess.PIPE, stdout=subprocess.PIPE, stderr=subprocess.PIPE) as process:
         assert process.stdin and process.stdout and process.stderr
         process.stdin.write(b"".join(records))
         process.stdin.close()
         process.stdout.readline()
         signalled(stopped, signal.SIGSTOP)
+        writing = Writing(stage, left_of(stage, stopped))
         time.sleep(PAUSE_SECONDS)
         signalled(stopped, signal.SIGCONT)
         numbers = [int(line) for line in process.stdout.read().split()]
@@ -157,10 +191,12 @@ def two_pause(stage: Stage, name: str) -> str:
     if process.returncode != 0 or len(numbers) != len(records) - 1 or stage.log.last() != before + len(records):
         raise Failed(f"submit ended with the status {process.returncode}: {said}; it told {len(numbers) + 1} numbers of {len(records)}, "
                      f"and the log has {stage.log.last() - before} more")
+    writing.check()
     stage.put += records
     stage.all_answered(stage.log.last())
     stage.check_running()
-    return f"two nodes stopped for {PAUSE_SECONDS:g} s under a stream of {len(records)}: each put once, and no replica ended"
+    return (f"two nodes stopped for {PAUSE_SECONDS:g} s under a stream of {len(records)} over {len(nodes)} of them: each put once, and no "
+            "replica ended")
 
 
 def hanging(stage: Stage) -> List[str]:
@@ -168,7 +204,8 @@ def hanging(stage: Stage) -> List[str]:
     stage.make()
     stage.start(NAMES)
     stage.feed(60)
-    told = [one_hangs(stage), late(stage), seconds_are_kept(stage), two_pause(stage, "one"), two_pause(stage, "two")]
+    told = [one_hangs(stage), late(stage), seconds_are_kept(stage), two_pause(stage, "one", False),
+            two_pause(stage, "two", True)]
     stage.all_answered(stage.log.last())
     stage.check_running()
     stage.verify()

@@ -1,17 +1,11 @@
 """The scene for a minute: replicas and nodes are killed, two nodes hang, the log is cleared, and everything is compared."""
 
-import signal
-import subprocess
-import time
 from typing import List
 
 from .checking import check_whole
-from .hanging import signalled
-from .processes import DEPLOY, Failed, done
+from .hanging import two_pause
+from .processes import Failed, done
 from .stage import NAMES, Stage
-
-# Longer than a node waits for its peers before it gives up.
-PAUSE_SECONDS = 9.0
 
 
 def killed(stage: Stage) -> str:
@@ -28,27 +22,6 @@ def killed(stage: Stage) -> str:
     stage.all_answered(stage.feed(20))
     stage.check_running()
     return f"node {node.number}, {gone[0].name} and {gone[1].name} killed while records came: all answered by all"
-
-
-def paused(stage: Stage) -> str:
-    """Two nodes hang while a record is put: it is put once, its number is told, and no replica ends."""
-    record, number = stage.given.fresh_mint(), stage.log.last() + 1
-    stopped = stage.random.sample(stage.place.nodes, 2)
-    signalled(stopped, signal.SIGSTOP)
-    words = [str(DEPLOY / "submit"), *map(str, stage.words("submitter")), "--seconds", "180", "-"]
-    with subprocess.Popen(words, stdin=subprocess.PIPE, stdout=subprocess.PIPE, stderr=subprocess.PIPE) as process:
-        assert process.stdin and process.stdout and process.stderr
-        process.stdin.write(record)
-        process.stdin.close()
-        time.sleep(PAUSE_SECONDS)
-        signalled(stopped, signal.SIGCONT)
-        told, said = process.stdout.read(), process.stderr.read()
-    if process.returncode != 0 or told != b"%d\n" % number or stage.log.last() != number:
-        raise Failed(f"submit ended with the status {process.returncode}: {told!r} {said!r}, and the log has {stage.log.last()} records")
-    stage.put.append(record)
-    stage.all_answered(number)
-    stage.check_running()
-    return f"two nodes stopped for {PAUSE_SECONDS:g} s while a record was put: it is there once, and no replica ended"
 
 
 def cleared(stage: Stage) -> str:
@@ -70,6 +43,6 @@ def quick(stage: Stage) -> List[str]:
     stage.make()
     stage.start()
     stage.feed(60)
-    told = [killed(stage), paused(stage)]
+    told = [killed(stage), two_pause(stage, "paused", True)]
     check_whole(stage.log, stage.program, stage.folder, stage.log.last())
     return [*told, "the final lines of every record are those of one `moveledger apply`", cleared(stage)]
