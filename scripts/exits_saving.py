@@ -78,12 +78,14 @@ def sparse(path: Path, front: bytes, size: int) -> Optional[Path]:
     return path
 
 
-# How a text ends that four bytes tell to be no ledger's, and one of which a beginning tells that it isn't that of one with its modules.
-NO_MARK, NO_BODY = (3, b"load refused 1\n", b""), (3, b"load refused 4\n", b"")
+# How a text ends that its first bytes tell to have no head, and one of which a beginning tells that it isn't that of one with its modules.
+NO_HEAD, NO_BODY = (3, b"load refused 1\n", b""), (3, b"load refused 4\n", b"")
 # What texts begin with that are long, or don't end, and have zeros behind; and how they end, by their first bytes.
 FRONTS: List[Tuple[str, bytes, End]] = [
-    ("nothing", b"", NO_MARK),
+    ("nothing", b"", NO_HEAD),
     ("a mark", OLD[:4], NO_BODY),
+    ("a mark and a byte of a number", OLD[:4] + b"\x80", NO_HEAD),
+    ("a mark and the length of a module that is too long", OLD[:4] + bytes.fromhex("0001818004"), NO_HEAD),
     ("an old mark", OLD_FORM[:4], NO_BODY),
     ("a ledger", SAVED, NO_BODY),
     ("a ledger of the old form", OLD_FORM, NO_BODY),
@@ -114,7 +116,7 @@ def much_is_given(shelf: Shelf, audit: Path) -> Cases:
         yield "more bytes than a ledger has", ended(["apply", "--load", wider, audit], preexec_fn=few, timeout=2), NO_BODY
     shelf.file("wide").unlink()
     endless = subprocess.Popen(["yes"], stdout=subprocess.PIPE)
-    yield "a pipe that never ends is loaded", ended(["apply", "--load", "/dev/stdin", audit], stdin=endless.stdout, timeout=60, preexec_fn=few), NO_MARK
+    yield "a pipe that never ends is loaded", ended(["apply", "--load", "/dev/stdin", audit], stdin=endless.stdout, timeout=60, preexec_fn=few), NO_HEAD
     endless.kill()
     endless.communicate()
 

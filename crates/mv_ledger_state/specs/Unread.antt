@@ -3,6 +3,7 @@
 --                                             longer ones
 --   IsUnreadBody form modules count bytes e   the same of what follows the modules of a saved ledger, with nothing after it
 --   unread_by refusal                         as what a reader's refusal counts: more bytes may help
+--   refusal_by e                              the refusal of bytes of which a part was not read
 --   unread_as reason e                        why bytes are not loaded where a part of them was not read
 use Rattle.std.specs.Prelude.{◌≡◌, ℕ, List, ◌++◌, Option, None, ⊤}
 use Rattle.mv_move_types.specs.declared.refusal.Refusal.{Refusal}
@@ -31,6 +32,12 @@ IsUnreadBody form modules count bytes Memory = ⊤
 abbrev pub unread_by : Refusal → Unread
 unread_by (Phase phase) = Cut
 unread_by NoMemory = Memory
+
+-- bytes of which a part was not read are malformed
+abbrev pub refusal_by : Unread → Refusal
+refusal_by Cut = Phase 2
+refusal_by Malformed = Phase 2
+refusal_by Memory = NoMemory
 
 -- why bytes are not loaded where a part of them was not read
 abbrev pub unread_as : LoadError → Unread → LoadError

@@ -8,7 +8,9 @@ ghost use Rattle.mv_module_text.specs.Parsing.{counted_from};
 ghost use Rattle.mv_ledger_state.specs.Asking.{offer_of, offers_of, request_of};
 ghost use Rattle.mv_ledger_state.specs.RecordText.{IsShaped, IsShapeless};
 ghost use Rattle.mv_ledger_state.specs.Payloads.{sized_from, offer_from, bundle_from, leaf_from, argument_from, run_from};
+ghost use Rattle.mv_ledger_state.specs.Unread.{IsUnread};
 
+use crate::unread::{Unread, number, refusal};
 use mv_machine::Arg;
 use mv_module_text::Reader;
 use mv_move_types::limits::{
@@ -46,20 +48,19 @@ pub struct RunRecord<'a> {
 }
 
 /// Bytes after their number.
-fn sized<'a>(reader: &mut Reader<'a>, most: u64) -> Result<&'a [u8], Refusal>
+fn sized<'a>(reader: &mut Reader<'a>, most: u64) -> Result<&'a [u8], Unread>
     ensures ok { IfOk result (λ v. sized_from most reader.old ≡ Some (v.now, reader.new)) }
-    ensures refused { result ≡ Err (Refusal.Phase 2) → sized_from most reader.old ≡ None }
-    ensures errors { IfErr result (λ e. e ≡ Refusal.Phase 2) }
+    ensures refused { IfErr result (IsUnread (sized_from most) reader.old) }
 {
-    let count = reader.number(most)?;
-    reader.bytes(count as usize)
+    let count = number(reader, most)?;
+    let bytes = reader.bytes(count as usize)?;
+    Ok(bytes)
 }
 
 /// Reads a module and its certificate.
-fn offer<'a>(reader: &mut Reader<'a>) -> Result<Offered<'a>, Refusal>
+fn offer<'a>(reader: &mut Reader<'a>) -> Result<Offered<'a>, Unread>
     ensures ok { IfOk result (λ o. offer_from reader.old ≡ Some (offer_of o, reader.new)) }
-    ensures refused { result ≡ Err (Refusal.Phase 2) → offer_from reader.old ≡ None }
-    ensures errors { IfErr result (λ e. e ≡ Refusal.Phase 2) }
+    ensures refused { IfErr result (IsUnread offer_from reader.old) }
 {
     let text = sized(reader, MOST_MODULE_BYTES as u64)?;
     let certificate = sized(reader, MOST_CERTIFICATE_BYTES)?;
@@ -72,12 +73,11 @@ pub fn offers<'a>(
     alloc: Global,
     reader: &mut Reader<'a>,
     most: u64,
-) -> Result<Vec<Offered<'a>>, Refusal>
+) -> Result<Vec<Offered<'a>>, Unread>
     ensures ok { IfOk result (λ v. counted_from most offer_from reader.old ≡ Some (offers_of v.items, reader.new)) }
-    ensures refused { result ≡ Err (Refusal.Phase 2) → counted_from most offer_from reader.old ≡ None }
-    ensures errors { IfErr result (λ e. (e ≡ Refusal.Phase 2) ⊎ (e ≡ Refusal.Memory)) }
+    ensures refused { IfErr result (IsUnread (counted_from most offer_from) reader.old) }
 {
-    let count = reader.number(most)?;
+    let count = number(reader, most)?;
     let mut all = Vec::with_capacity(alloc, count as usize)?;
     'each: for _ in 0..count {
         let next = offer(reader)?;
@@ -93,7 +93,10 @@ fn next_bundle<'a>(alloc: Global, reader: &mut Reader<'a>) -> Result<Bundle<'a>,
     ensures errors { IfErr result (λ e. (e ≡ Refusal.Phase 2) ⊎ (e ≡ Refusal.Memory)) }
 {
     let sender = reader.address()?;
-    let offers = offers(alloc, reader, MOST_OFFERS)?;
+    let offers = match offers(alloc, reader, MOST_OFFERS) {
+        Ok(offers) => offers,
+        Err(unread) => return Err(refusal(unread)),
+    };
     if offers.is_empty() {
         return Err(MALFORMED);
     }

@@ -1,8 +1,10 @@
 // Why bytes are not read, told apart by whether more bytes may help; and numbers that are read so.
-ghost use Rattle.std.specs.Prelude.{◌≡◌, ◌≤◌, Some, IfErr, IfOk};
+ghost use Rattle.std.specs.Prelude.{◌≡◌, ◌≤◌, Some, IfErr, IfOk, OnOk};
 ghost use Rattle.mv_uleb.specs.Parsing.{number_from};
-ghost use Rattle.mv_ledger_state.specs.Unread.{IsUnread};
+ghost use Rattle.mv_module_text.specs.Parsing.{mark_from};
+ghost use Rattle.mv_ledger_state.specs.Unread.{IsUnread, refusal_by};
 
+use crate::payload::MALFORMED;
 use mv_module_text::Reader;
 use mv_move_types::Refusal;
 use std::alloc::AllocError;
@@ -40,6 +42,33 @@ impl From<Refusal> for Unread {
             Refusal::Phase(_) => Unread::Cut,
             Refusal::Memory => Unread::Memory,
         }
+    }
+}
+
+/// The refusal of bytes of which a part was not read.
+pub fn refusal(unread: Unread) -> Refusal
+    ensures { result ≡ refusal_by unread }
+{
+    match unread {
+        Unread::Cut | Unread::Malformed => MALFORMED,
+        Unread::Memory => Refusal::Memory,
+    }
+}
+
+/// Reads a byte that has to be this one.
+///
+/// # Errors
+///
+/// `Cut` if there is no byte; `Malformed` if there is another one.
+pub fn mark(reader: &mut Reader<'_>, byte: u8) -> Result<(), Unread>
+    ensures ok { OnOk result (mark_from byte reader.old ≡ Some reader.new) }
+    ensures refused { IfErr result (IsUnread (mark_from byte) reader.old) }
+{
+    let next = reader.byte()?;
+    if next == byte {
+        Ok(())
+    } else {
+        Err(Unread::Malformed)
     }
 }
 

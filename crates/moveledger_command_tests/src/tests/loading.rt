@@ -101,6 +101,18 @@ fn prints(rt: &impl Abort, alloc: Global, front: &[u8], expected: usize, wanted:
 fn texts_without_end_are_refused(rt: HostRuntime) {
     for (front, wanted) in [
         (b"".as_slice(), b"load refused 1\n".as_slice()),
+        // A number of runs that ends in a needless byte.
+        (b"MVL2\x80".as_slice(), b"load refused 1\n".as_slice()),
+        // More modules than a ledger has, and a module and a certificate of more bytes than there are in one.
+        (b"MVL2\0\x81\x20".as_slice(), b"load refused 1\n".as_slice()),
+        (
+            b"MVL1\0\x01\x81\x80\x04".as_slice(),
+            b"load refused 1\n".as_slice(),
+        ),
+        (
+            b"MVL2\0\x01\0\x81\x80\x40".as_slice(),
+            b"load refused 1\n".as_slice(),
+        ),
         (b"MVL1".as_slice(), b"load refused 4\n".as_slice()),
         (b"MVL2".as_slice(), b"load refused 4\n".as_slice()),
         (b"MVL2\0\0".as_slice(), b"load refused 4\n".as_slice()),

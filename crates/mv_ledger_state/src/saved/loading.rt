@@ -162,6 +162,6 @@ pub fn load(alloc: Global, bytes: &[u8]) -> Result<Loaded, LoadError>
     let mut reader = Reader::new(bytes);
     match read_head(alloc, &mut reader) {
         Ok(head) => load_after(alloc, &mut reader, &head),
-        Err(refusal) => Err(because(refusal, LoadError::Head)),
+        Err(error) => Err(unread(error, LoadError::Head)),
     }
 }

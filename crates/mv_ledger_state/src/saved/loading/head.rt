@@ -1,12 +1,12 @@
 // How the text of a saved ledger begins.
-ghost use Rattle.std.specs.Prelude.{◌≡◌, ◌⊎◌, None, Some, Err, IfOk, IfErr};
-ghost use Rattle.mv_module_text.specs.Reads.{ReadsAs, Marks};
+ghost use Rattle.std.specs.Prelude.{◌≡◌, Some, IfOk, IfErr, OnOk};
 ghost use Rattle.mv_ledger_state.specs.Parts.BodyParts.{form_of};
 ghost use Rattle.mv_ledger_state.specs.Parts.LoadedParts.{form_from, head_from, head_of, marks_from};
+ghost use Rattle.mv_ledger_state.specs.Unread.{IsUnread};
 
-use crate::payload::{MALFORMED, Offered, offers};
+use crate::payload::{Offered, offers};
+use crate::unread::{Unread, mark, number};
 use mv_module_text::Reader;
-use mv_move_types::Refusal;
 use mv_move_types::limits::{MOST_MODULES, MOST_RUNS};
 use std::alloc::Global;
 
@@ -28,22 +28,24 @@ pub struct Head<'a> {
 }
 
 /// Reads the three bytes that each text begins with.
-fn marks(reader: &mut Reader<'_>) -> Result<(), Refusal>
-    ensures { Marks marks_from reader.old result reader.new }
+fn marks(reader: &mut Reader<'_>) -> Result<(), Unread>
+    ensures ok { OnOk result (marks_from reader.old ≡ Some reader.new) }
+    ensures refused { IfErr result (IsUnread marks_from reader.old) }
 {
-    reader.mark(b'M')?;
-    reader.mark(b'V')?;
-    reader.mark(b'L')
+    mark(reader, b'M')?;
+    mark(reader, b'V')?;
+    mark(reader, b'L')
 }
 
 /// Reads the byte of a form.
-fn form(reader: &mut Reader<'_>) -> Result<SavedForm, Refusal>
-    ensures { ReadsAs form_of form_from reader.old result reader.new }
+fn form(reader: &mut Reader<'_>) -> Result<SavedForm, Unread>
+    ensures ok { IfOk result (λ f. form_from reader.old ≡ Some (form_of f, reader.new)) }
+    ensures refused { IfErr result (IsUnread form_from reader.old) }
 {
     match reader.byte()? {
         b'1' => Ok(SavedForm::First),
         b'2' => Ok(SavedForm::Second),
-        _ => Err(MALFORMED),
+        _ => Err(Unread::Malformed),
     }
 }
 
@@ -51,15 +53,14 @@ fn form(reader: &mut Reader<'_>) -> Result<SavedForm, Refusal>
 ///
 /// # Errors
 ///
-/// The phase of malformed bytes, where no such beginning stands at the front; `Memory`, where a growth was refused.
-pub fn read_head<'a>(alloc: Global, reader: &mut Reader<'a>) -> Result<Head<'a>, Refusal>
+/// `Cut` or `Malformed` if no such beginning stands at the front; `Memory` if an allocation failed.
+pub fn read_head<'a>(alloc: Global, reader: &mut Reader<'a>) -> Result<Head<'a>, Unread>
     ensures ok { IfOk result (λ h. head_from reader.old ≡ Some (head_of h, reader.new)) }
-    ensures refused { result ≡ Err (Refusal.Phase 2) → head_from reader.old ≡ None }
-    ensures errors { IfErr result (λ e. (e ≡ Refusal.Phase 2) ⊎ (e ≡ Refusal.Memory)) }
+    ensures refused { IfErr result (IsUnread head_from reader.old) }
 {
     marks(reader)?;
     let form = form(reader)?;
-    let runs = reader.number(MOST_RUNS)?;
+    let runs = number(reader, MOST_RUNS)?;
     let offers = offers(alloc, reader, MOST_MODULES as u64)?;
     Ok(Head { form, runs, offers })
 }

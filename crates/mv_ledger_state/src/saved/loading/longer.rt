@@ -11,18 +11,20 @@ use crate::saved::loading::body::read_body;
 use crate::saved::loading::head::{Head, read_head};
 use crate::unread::Unread;
 use mv_module_text::Reader;
-use mv_move_types::Refusal;
 use std::alloc::{AllocError, Global};
+
+// The number of the refusal of how a text begins.
+const HEAD: u8 = 1;
 
 // The number of the refusal of what follows the modules.
 const BODY: u8 = 4;
 
-/// The number of the refusal of each longer text where what follows the modules wasn't read for this reason.
-fn refusal_by(unread: Unread) -> Result<Option<u8>, AllocError>
-    ensures { IfOk result (λ found. IfSome found (λ number. (number ≡ 4) × (unread ≡ Unread.Malformed))) }
+/// The number of the refusal of each longer text where the part that has this one wasn't read for this reason.
+fn refusal_by(unread: Unread, part: u8) -> Result<Option<u8>, AllocError>
+    ensures { IfOk result (λ found. IfSome found (λ number. (number ≡ part) × (unread ≡ Unread.Malformed))) }
 {
     match unread {
-        Unread::Malformed => Ok(Some(BODY)),
+        Unread::Malformed => Ok(Some(part)),
         Unread::Cut => Ok(None),
         Unread::Memory => Err(AllocError),
     }
@@ -43,7 +45,7 @@ fn refusal_by_body(
         Ok(_storage) => return Ok(Some(BODY)),
         Err(unread) => unread,
     };
-    refusal_by(unread)
+    refusal_by(unread, BODY)
 }
 
 /// The same where the front has this head.
@@ -74,7 +76,6 @@ pub fn refusal_of_longer(alloc: Global, front: &[u8]) -> Result<Option<u8>, Allo
     let mut reader = Reader::new(front);
     match read_head(alloc, &mut reader) {
         Ok(head) => refusal_after(alloc, &mut reader, &head),
-        Err(Refusal::Phase(_)) => Ok(None),
-        Err(Refusal::Memory) => Err(AllocError),
+        Err(unread) => refusal_by(unread, HEAD),
     }
 }

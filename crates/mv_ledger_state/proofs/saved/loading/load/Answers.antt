@@ -1,12 +1,12 @@
-use Rattle.mv_ledger_state.proofs.Common.{◌∙◌, Err, ap, arith, sym, all-bytes, BeginsWith, head_from, head_of, Head}
-use Rattle.mv_ledger_state.proofs.Loads.LoadedHead.{head-none}
-use Rattle.mv_ledger_state.proofs.Loads.Loaded.{refused-as}
+use Rattle.mv_ledger_state.proofs.Common.{◌∙◌, ap, arith, subst, sym, all-bytes, BeginsWith, head_from, head_of}
+use Rattle.mv_ledger_state.specs.Unread.{IsUnread}
+use Rattle.mv_ledger_state.proofs.Loads.UnreadHead.{unread-head}
 use Rattle.mv_ledger_state.proofs.saved.loading.load.Goals as goal
 
 pub returns-in-Err-clause-refused : goal.returns-in-Err-clause-refused
 returns-in-Err-clause-refused c =
-    refused-as c.args.bytes.now Head c.in-Err.refusal c.because.result c.because.ensures c.in-Err.ensures.errors
-    (λ p. head-none c.args.bytes.now (ap head_from (sym c.new-reader.ensures) ∙ c.in-Err.ensures.refused (ap Err p)))
+    unread-head c.args.bytes.now c.in-Err.error c.unread.result c.unread.ensures
+    (subst (λ bytes. IsUnread head_from bytes c.in-Err.error) c.new-reader.ensures c.in-Err.ensures.refused)
 
 pub load_after-requires : goal.load_after-requires
 load_after-requires c = (c.args.bytes.now, record { are = all-bytes c.args.bytes.now (λ i. omega (arith, c.type_inv.bytes i)); begins = ap head_from (sym c.new-reader.ensures) ∙ c.in-Ok.ensures.ok })

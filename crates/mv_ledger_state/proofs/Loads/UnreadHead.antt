@@ -1,0 +1,144 @@
+-- A head that is not read, nor with more bytes behind it where it is malformed: from its parts to the whole.
+use Rattle.mv_ledger_state.proofs.Common.{[], ◌++◌, ◌∙◌, ◌∷◌, ◌≡◌, ◌==◌, ◌>>=◌, Bool, Err, IfOk, IfSome, IsLoadRefusal, List, None, Ok, Offer, Option, Phase, Read, Result, Some, ap, append-nil, bytes_from, byte_from, cond}
+use Rattle.mv_ledger_state.proofs.Common.{Form, First, Second, SavedHead, address_from, bundle_from, counted_from, entries_from, false, form_by, form_from, head_from, mark_from, marks_from, none-some, number_from, offer_from, on_bind, sized_from}
+use Rattle.mv_ledger_state.proofs.Common.{length, nat_le, same_Some, some_pair_parts, subst, sym, then_some, true, ℕ}
+use Rattle.mv_ledger_state.specs.Loading.{LongerFail}
+use Rattle.mv_ledger_state.specs.declared.saved.loading.LoadError.{LoadError}
+use Rattle.mv_ledger_state.specs.declared.saved.loading.LoadError.TheVariants.{Head}
+use Rattle.mv_ledger_state.specs.Unread.{IsUnread, refusal_by, unread_as}
+use Rattle.mv_ledger_state.specs.declared.unread.Unread.{Unread}
+use Rattle.mv_ledger_state.specs.declared.unread.Unread.TheVariants.{Cut, Malformed, Memory}
+use Rattle.mv_ledger_state.proofs.Loads.LoadedHead.{head-none}
+use Rattle.mv_ledger_state.proofs.Loads.Extending.{Extends, extends-bind, extends-shown, byte-extends, bytes-extends, number-extends}
+use Rattle.mv_ledger_state.proofs.Loads.Unreading.{unread-first, unread-next}
+
+-- what isn't read isn't there
+pub unread-none : {A : Type 0} (from : List ℕ → Option A) (bytes : List ℕ) (e : Unread) → IsUnread from bytes e → refusal_by e ≡ Phase 2 → from bytes ≡ None
+unread-none from bytes Cut none is = none
+unread-none from bytes Malformed none is = ap from (sym (append-nil bytes)) ∙ none []
+unread-none from bytes Memory none is = absurd cc
+
+-- a bundle whose modules aren't there
+pub bundle-none : (sender : ℕ) (bytes rest : List ℕ) → address_from bytes ≡ Some (sender, rest) → counted_from 16 offer_from rest ≡ None → bundle_from bytes ≡ None
+bundle-none sender bytes rest is none =
+    ap (λ o. o >>= λ s. (counted_from 16 offer_from s.1 >>= λ os. then_some (nat_le 1 (length os.0)) os) >>= λ os. Some ((s.0, os.0), os.1)) is
+    ∙ ap (λ o. (o >>= λ os. then_some (nat_le 1 (length os.0)) os) >>= λ os. Some ((sender, os.0), os.1)) none
+
+-- ---- modules with their certificates
+
+sized-extends : (most : ℕ) → Extends (sized_from most)
+sized-extends most = extends-bind (number_from most) (λ n. bytes_from n.0 n.1) (number-extends most) bytes-extends
+
+abbrev certified : List ℕ → List ℕ → Read Offer
+certified text bytes = sized_from 1048576 bytes >>= λ certificate. Some (record { text = text; certificate = certificate.0 }, certificate.1)
+
+pub offer-extends : Extends offer_from
+offer-extends =
+    extends-bind (sized_from 65536) (λ text. certified text.0 text.1) (sized-extends 65536)
+    (λ text. extends-shown (sized_from 1048576) (λ certificate. record { text = text; certificate = certificate }) (sized-extends 1048576))
+
+-- the certificate isn't read
+pub certificate-unread : (bytes rest text : List ℕ) (e : Unread) → sized_from 65536 bytes ≡ Some (text, rest) → IsUnread (sized_from 1048576) rest e → IsUnread offer_from bytes e
+certificate-unread bytes rest text e is none =
+    unread-next (sized_from 65536) (λ text. certified text.0 text.1) bytes rest text e (sized-extends 65536) is
+    (unread-first (sized_from 1048576) (λ certificate. Some (record { text = text; certificate = certificate.0 }, certificate.1)) rest e none)
+
+-- so many entries aren't, after their number
+pub counted-unread : {A : Type 0} (each : List ℕ → Read A) (most n : ℕ) (bytes rest : List ℕ) (e : Unread) → number_from most bytes ≡ Some (n, rest) → IsUnread (entries_from each n) rest e
+    → IsUnread (counted_from most each) bytes e
+counted-unread each most n bytes rest e is none = unread-next (number_from most) (λ n. entries_from each n.0 n.1) bytes rest n e (number-extends most) is none
+
+-- ---- the bytes that each text begins with, and its form
+
+-- what follows them is followed by more where the bytes are
+abbrev Follows : (List ℕ → Option (List ℕ)) → Type 0
+Follows from = (bytes rest more : List ℕ) → from bytes ≡ Some rest → from (bytes ++ more) ≡ Some (rest ++ more)
+
+mark-follows : (b : ℕ) → Follows (mark_from b)
+mark-follows b [] rest more is = absurd (none-some rest is)
+mark-follows b (c ∷ bytes) rest more is = by (c == b) is
+  where
+    by : (t : Bool) → then_some t bytes ≡ Some rest → then_some t (bytes ++ more) ≡ Some (rest ++ more)
+    by true is = ap (λ z. Some (z ++ more)) (same_Some bytes rest is)
+    by false is = absurd (none-some rest is)
+
+abbrev last_two : List ℕ → Option (List ℕ)
+last_two bytes = mark_from 0x56 bytes >>= mark_from 0x4C
+
+marks-follow : Follows marks_from
+marks-follow bytes rest more is =
+    on_bind (mark_from 0x4D bytes) last_two rest is (λ m m_is e1.
+    on_bind (mark_from 0x56 m) (mark_from 0x4C) rest e1 (λ v v_is e2.
+    ap (λ o. o >>= last_two) (mark-follows 0x4D bytes m more m_is) ∙ ap (λ o. o >>= mark_from 0x4C) (mark-follows 0x56 m v more v_is) ∙ mark-follows 0x4C v rest more e2))
+
+abbrev picked : Bool → Bool → List ℕ → Read Form
+picked first second bytes = cond first (Some (First, bytes)) (cond second (Some (Second, bytes)) None)
+
+known : (g f : Form) (bytes rest more : List ℕ) → ◌≡◌ {A = Read Form} (Some (g, bytes)) (Some (f, rest)) → ◌≡◌ {A = Read Form} (Some (g, bytes ++ more)) (Some (f, rest ++ more))
+known g f bytes rest more is = let p = some_pair_parts g f bytes rest is in ap (λ z. Some (z, bytes ++ more)) p.0 ∙ ap (λ z. Some (f, z ++ more)) p.1
+
+picked-extends : (first second : Bool) → Extends (picked first second)
+picked-extends true second bytes rest more f is = known First f bytes rest more is
+picked-extends false true bytes rest more f is = known Second f bytes rest more is
+picked-extends false false bytes rest more f is = absurd (none-some (f, rest) is)
+
+by-extends : (b : ℕ) → Extends (form_by b)
+by-extends b = picked-extends (b == 0x31) (b == 0x32)
+
+form-extends : Extends form_from
+form-extends = extends-bind byte_from (λ b. form_by b.0 b.1) byte-extends by-extends
+
+-- ---- the head
+
+abbrev offered_from : Form → ℕ → List ℕ → Read SavedHead
+offered_from form runs bytes = counted_from 4096 offer_from bytes >>= λ offers. Some (record { form = form; runs = runs; offers = offers.0 }, offers.1)
+
+abbrev runs_from : Form → List ℕ → Read SavedHead
+runs_from form bytes = number_from 4294967296 bytes >>= λ runs. offered_from form runs.0 runs.1
+
+abbrev formed_from : List ℕ → Read SavedHead
+formed_from bytes = form_from bytes >>= λ form. runs_from form.0 form.1
+
+module _ (bytes marked : List ℕ) (e : Unread) (marks_are : marks_from bytes ≡ Some marked) where
+  -- what follows the three bytes isn't read
+  pub formed-unread : IsUnread formed_from marked e → IsUnread head_from bytes e
+  formed-unread none = by e none
+    where
+      by : (e : Unread) → IsUnread formed_from marked e → IsUnread head_from bytes e
+      by Cut none = ap (λ o. o >>= formed_from) marks_are ∙ none
+      by Malformed none = λ more. ap (λ o. o >>= formed_from) (marks-follow bytes marked more marks_are) ∙ none more
+      by Memory none = tt
+
+  -- the form isn't
+  pub form-unread : IsUnread form_from marked e → IsUnread head_from bytes e
+  form-unread none = formed-unread (unread-first form_from (λ form. runs_from form.0 form.1) marked e none)
+
+  module _ (form : Form) (formed : List ℕ) (form_is : form_from marked ≡ Some (form, formed)) where
+    after-form : IsUnread (runs_from form) formed e → IsUnread head_from bytes e
+    after-form none = formed-unread (unread-next form_from (λ form. runs_from form.0 form.1) marked formed form e form-extends form_is none)
+
+    -- the number of runs isn't
+    pub runs-unread : IsUnread (number_from 4294967296) formed e → IsUnread head_from bytes e
+    runs-unread none = after-form (unread-first (number_from 4294967296) (λ runs. offered_from form runs.0 runs.1) formed e none)
+
+    -- the modules aren't
+    pub modules-unread : (runs : ℕ) (counted : List ℕ) → number_from 4294967296 formed ≡ Some (runs, counted) → IsUnread (counted_from 4096 offer_from) counted e → IsUnread head_from bytes e
+    modules-unread runs counted runs_are none =
+        after-form (unread-next (number_from 4294967296) (λ runs. offered_from form runs.0 runs.1) formed counted runs e (number-extends 4294967296) runs_are
+        (unread-first (counted_from 4096 offer_from) (λ offers. Some (record { form = form; runs = runs; offers = offers.0 }, offers.1)) counted e none))
+
+-- bytes of which it isn't read are not loaded
+pub unread-head : (bytes : List ℕ) (e : Unread) (r : LoadError) → r ≡ unread_as Head e → IsUnread head_from bytes e → IsLoadRefusal bytes r
+unread-head bytes Cut r is none = subst (IsLoadRefusal bytes) (sym is) (head-none bytes none)
+unread-head bytes Malformed r is none = subst (IsLoadRefusal bytes) (sym is) (head-none bytes (ap head_from (sym (append-nil bytes)) ∙ none []))
+unread-head bytes Memory r is none = subst (IsLoadRefusal bytes) (sym is) tt
+
+-- nor are longer ones where it is malformed
+malformed-head : (bytes : List ℕ) (e : Unread) → e ≡ Malformed → IsUnread head_from bytes e → LongerFail bytes 1
+malformed-head bytes e is none = λ byte more. head-none (bytes ++ byte ∷ more) (subst (IsUnread head_from bytes) is none (byte ∷ more))
+
+pub longer-head : {E : Type 0} (bytes : List ℕ) (r : Result (Option ℕ) E) (e : Unread) → IfOk r (λ found. IfSome found (λ number. (number ≡ 1) × (e ≡ Malformed)))
+    → IsUnread head_from bytes e → IfOk r (λ found. IfSome found (LongerFail bytes))
+longer-head bytes (Err x) e found none = tt
+longer-head bytes (Ok None) e found none = tt
+longer-head bytes (Ok (Some number)) e found none = subst (LongerFail bytes) (sym found.0) (malformed-head bytes e found.1 none)
