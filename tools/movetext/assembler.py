@@ -364,7 +364,7 @@ class Assembler:
         try:
             found = self.types(types, called.path.at)
         except TextError as error:
-            raise TextError(error.at, error.message, "in a Call's parentheses stand types: its arguments are on the stack") from None
+            raise TextError(error.at, error.message, "a Call's parentheses hold types: its arguments are on the stack") from None
         if known is not None and found != known:
             raise TextError(called.path.at, f"`{path_text(called.path)}` {verb} {self.types_text(known)}, and here stands "
                             f"{self.types_text(found)}", "leave the types out, or write those of the function")

@@ -48,7 +48,7 @@ class CodeParser(TermParser):
                 function.is_broken = True
                 self.skip_line(depth)
         if labels and not function.is_broken:
-            self.fail(f"the label `{labels[0].text}` stands before no instruction", labels[0].at,
+            self.fail(f"no instruction follows the label `{labels[0].text}`", labels[0].at,
                       "write an instruction after it, as `Ret`")
 
     def line(self, function: syntax.Function, labels: List[syntax.Name]) -> None:

@@ -29,7 +29,7 @@ COMMAND = CommandLine(
     "Prints a module, a stream of records or a saved ledger as text",
     [Argument("FILE", "The bytes; `-` is standard input"),
      Argument("CERTIFICATE", "A certificate of the module, as its bytes or as `moveledger prove` prints it: "
-                             "what it states of blocks stands beside the code", is_required=False)],
+                             "what it states of each block is printed beside the code", is_required=False)],
     [Option("--explain", "", "Explain the verdict: for a module its phase, place and rule; for a stream each line of its report; for "
                              "a saved ledger why it isn't loaded. moveledger's verdict counts"),
      *showing.OPTIONS,
@@ -116,7 +116,7 @@ def check_together(given: Given) -> None:
     """Wants options that go together."""
     for flag, value in (("--record <N>", given["N"]), ("--load <LEDGER>", given["LEDGER"]), ("--json", given["--json"])):
         if value is not None and given["--explain"] is None and given["--trace"] is None:
-            raise wrong_words(f"'{flag}' is given with '--explain' or '--trace'")
+            raise wrong_words(f"'{flag}' needs '--explain' or '--trace'")
     wrong = showing.wrong_together(given)
     if wrong:
         raise wrong_words(wrong)
@@ -124,7 +124,7 @@ def check_together(given: Given) -> None:
         raise wrong_words(f"invalid value '{given['N']}' for '--record <N>': records are counted from 1")
     if given["INSTRUCTION"] is not None:
         if given["FUNCTION"] is None:
-            raise wrong_words("'--before <INSTRUCTION>' is given with '--dot <FUNCTION>'")
+            raise wrong_words("'--before <INSTRUCTION>' needs '--dot <FUNCTION>'")
         if not re.fullmatch(r"[0-9]{1,5}", given["INSTRUCTION"]):
             raise wrong_words(f"invalid value '{given['INSTRUCTION']}' for '--before <INSTRUCTION>': instructions are counted "
                               "from 0")

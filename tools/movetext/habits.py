@@ -9,9 +9,9 @@ GENERICS = Help("there are no generics", "a struct or a function has no types in
 NO_VECTOR = Help("there are no vectors", "a struct has a fixed number of fields")
 EXPRESSION = Help("there are no expressions", "code is instructions, which take their operands from the stack: `MoveLoc x`, "
                   "`LdU64 1`, `Add` for `x + 1`")
-ASSIGNED = Help("nothing is assigned by `=`", "a local gets its value by instructions, as `LdU64 1` and `StLoc x` for `x = 1`; a "
+ASSIGNED = Help("nothing is assigned with `=`", "a local gets its value from instructions, as `LdU64 1` and `StLoc x` for `x = 1`; a "
                 "`let` has a name and a type alone")
-CONTROL = "control goes by labels: `BrTrue done`, `BrFalse done` or `Branch done`, and `done:` before an instruction"
+CONTROL = "control flow uses labels: `BrTrue done`, `BrFalse done` or `Branch done`, and `done:` before an instruction"
 CONSTANT = "constants have no names: write the value where it is loaded, as `LdU64 7` or `LdConst @0x1`"
 ASSERT = "write `BrTrue fine`, `LdU64 1`, `Abort`, and `fine:` before what follows"
 NUMBERS = "numbers are u8, u16, u32, u64 and u128"
@@ -43,8 +43,8 @@ INSTRUCTIONS = {
     "freeze": "write `FreezeRef`, with the reference on the stack", "spec": "there are no specifications in a module's text",
     "BorrowLoc": "write `ImmBorrowLoc x` or `MutBorrowLoc x`", "BorrowField": "write `ImmBorrowField Coin.value` or "
     "`MutBorrowField Coin.value`", "BorrowGlobal": "write `ImmBorrowGlobal Coin` or `MutBorrowGlobal Coin`",
-    "Push": "a value comes on the stack by `LdU64 1`, `LdConst @0x1`, `CopyLoc x` or `MoveLoc x`",
-    "Load": "a value comes on the stack by `LdU64 1`, `LdConst @0x1`, `CopyLoc x` or `MoveLoc x`",
+    "Push": "a value is put on the stack by `LdU64 1`, `LdConst @0x1`, `CopyLoc x` or `MoveLoc x`",
+    "Load": "a value is put on the stack by `LdU64 1`, `LdConst @0x1`, `CopyLoc x` or `MoveLoc x`",
     "Dup": "no operand is copied: `StLoc x`, and then `CopyLoc x` for each use",
     "Swap": "operands stay in their order: `StLoc` both, and load them in the order that is wanted",
     "CastU256": "the widest number is u128: write `CastU128`", "LdU256": "the widest number is u128: write `LdU128 1`",
@@ -74,7 +74,7 @@ ITEMS = {
     "fn": "a function begins with `fun`, or with its name alone", "func": "a function begins with `fun`, or with its name alone",
     "function": "a function begins with `fun`, or with its name alone", "pub": "what every module may call is `public`",
     "inline": "there are no inline functions", "enum": "there are no enums: a struct has one list of fields",
-    "private": "a function without `public` may be called by its own module alone; there is no word for it",
+    "private": "a function without `public` may be called only by its own module; there is no word for it",
     "let": "locals are declared within a function, before its first instruction",
 }
 

@@ -82,11 +82,11 @@ def wrong_together(given: Given) -> str:
     of_format = [flag for flag in ("--write", "--check") if given[flag] is not None]
     others = [flag for flag in ("-g", "--no-check", "--no-warn") if given[flag] is not None]
     if given["--format"] is None:
-        return f"'{of_format[0]}' is given with '--format'" if of_format else ""
+        return f"'{of_format[0]}' needs '--format'" if of_format else ""
     if others or given["PROGRAM"] is not None:
         return f"'--format' makes no bytes: '{(others + ['--moveledger'])[0]}' isn't given with it"
     if len(of_format) > 1 or of_format and given["OUT"] is not None:
-        return "of '--write', '--check' and '-o' one at most is given with '--format'"
+        return "at most one of '--write', '--check' and '-o' is given with '--format'"
     return "'--write' needs the name of a file" if given["--write"] is not None and given["FILE"] == "-" else ""
 
 

@@ -205,7 +205,7 @@ class ModuleParser(TableParser):
             self.skip_lines()
         elif not self.is_mark("}"):
             if self.is_mark(";"):
-                self.fail("wanted `,`, `}` or the end of the line, found `;`", help="fields are parted by commas or line ends")
+                self.fail("wanted `,`, `}` or the end of the line, found `;`", help="fields are separated by commas or line ends")
             if self.kind not in (scanner.LINE_END, scanner.END):
                 self.wanted("`,`, `}` or the end of the line")
             self.skip_lines()

@@ -83,7 +83,7 @@ def write_standard(data: bytes, kind: Kind) -> None:
     if sys.stdout is None:
         raise OSError(errno.EBADF, "standard output is closed")
     if not kind.is_text and sys.stdout.isatty():
-        raise Kept("bytes aren't written to a terminal: name a file by '-o <OUT>'")
+        raise Kept("bytes aren't written to a terminal: name a file with '-o <OUT>'")
     sys.stdout.buffer.write(data)
     sys.stdout.buffer.flush()
 
@@ -100,7 +100,7 @@ def check_output(name: str, kind: Kind, inputs: Iterable[str] = (), data: Option
             raise Kept(f"'{name}' is read here ({input_name(one)}), and left as it is: give another name")
     if not stat.S_ISREG(there.st_mode):
         if not kind.is_text and stat.S_ISCHR(there.st_mode) and is_terminal(name):
-            raise Kept("bytes aren't written to a terminal: name a file by '-o <OUT>'")
+            raise Kept("bytes aren't written to a terminal: name a file with '-o <OUT>'")
         return
     with open(name, "rb") as file:
         front = file.read(FRONT)

@@ -215,7 +215,7 @@ class WordParser:
         """That a brace closes another line's block, by where it stands."""
         outer = [one for one in self.opened if one < opening and self.indent(one) == self.indent(closing)]
         where = f"closes the block of line {self.line_of(outer[-1])}" if outer else "closes another block"
-        return Note(self.starts[closing], f"by where it stands, this `}}` {where}")
+        return Note(self.starts[closing], f"judging by its indentation, this `}}` {where}")
 
     def indent(self, word: int) -> int:
         """How far the line of a word is indented."""

@@ -20,8 +20,8 @@ OPTIONS = [
     Option("--trace", "", "Show the runs of a stream step by step, and where and why each ends"),
     Option("--until", "STEP", "With --trace: no step of a run after this one"),
     Option("--at", "PLACE", "With --trace: only steps at FUNCTION, FUNCTION:LINE or FUNCTION#INSTRUCTION"),
-    Option("--steps", "STEPS", f"With --trace: at most so many steps; otherwise {MOST_STEPS:,}"),
-    Option("--html", "", "Write a page on which one walks through a module, or a stream's modules, instruction by instruction"),
+    Option("--steps", "STEPS", f"With --trace: at most so many steps; default: {MOST_STEPS:,}"),
+    Option("--html", "", "Write a page to walk through a module, or a stream's modules, instruction by instruction"),
 ]
 WAYS = {"--explain": "'--explain'", "--trace": "'--trace'", "--html": "'--html'", "FUNCTION": "'--dot <FUNCTION>'"}
 PLACE = re.compile(r"(?:(.*)::)?`?([^`:#]+|#[0-9]+)`?(?:([:#])([0-9]{1,9}))?")
@@ -31,7 +31,7 @@ def wrong_together(given: Given) -> str:
     """What is said of options that don't go together, if they don't."""
     ways = [told for flag, told in WAYS.items() if given[flag] is not None]
     if len(ways) > 1:
-        return f"of {' and '.join(ways)} one is given"
+        return f"only one of {' and '.join(ways)} is given"
     if given["--trace"] is not None and (given["CERTIFICATE"] is not None or given["KIND"] not in (None, "stream")):
         return "'--trace' is about a stream"
     for flag, name in (("--until", "STEP"), ("--at", "PLACE"), ("--steps", "STEPS")):
@@ -39,7 +39,7 @@ def wrong_together(given: Given) -> str:
         if value is None:
             continue
         if given["--trace"] is None:
-            return f"'{flag} <{name}>' is given with '--trace'"
+            return f"'{flag} <{name}>' needs '--trace'"
         if name == "PLACE" and not PLACE.fullmatch(value):
             return f"invalid value '{value}' for '--at <PLACE>': a place is FUNCTION, FUNCTION:LINE or FUNCTION#INSTRUCTION"
         if name != "PLACE" and not re.fullmatch(r"[1-9][0-9]{0,17}", value):

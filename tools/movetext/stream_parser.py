@@ -60,7 +60,7 @@ class StreamParser(ModuleParser):
         if read_record is None:
             self.form = TEXT
             if self.is_word("ledger"):
-                self.fail("a saved ledger isn't made of a text", help="`moveledger apply --save` writes one")
+                self.fail("a saved ledger isn't made from a text", help="`moveledger apply --save` writes one")
             self.wanted_one_of(self.records if stream.records else ["module", *self.records])
         self.form = FORMS[self.text]
         stream.records.append(read_record())

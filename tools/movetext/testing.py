@@ -19,16 +19,16 @@ BOUNDS = Bounds(60, 2_000)
 
 COMMAND = CommandLine(
     "movetest",
-    "Does the cases of test files, and compares each report with the one that is wanted. docs/WORKBENCH.md says how a case is written",
+    "Runs the cases of test files, and compares each report with the one that is wanted. docs/WORKBENCH.md says how a case is written",
     [Argument("FILE", "Test files")],
     [Option("--only", "WORDS", "Only the cases whose titles have these words"),
      Option("--runs", "", "Print each run, with how it ended and its steps"),
-     Option("--coverage", "", "Print each line of the modules, with how often it was done"),
+     Option("--coverage", "", "Print each line of the modules, with how often it was executed"),
      Option("--page", "PAGE", "Write the same as a page, for a browser"),
-     Option("--moveledger", "PROGRAM", "The program to compare with; otherwise that of scripts/program, if there is one"),
+     Option("--moveledger", "PROGRAM", "The program to compare with; default: the one that scripts/program finds, if any"),
      Option("--alone", "", "Compare with no program"),
-     SECONDS._replace(help=f"{SECONDS.help}; otherwise after {BOUNDS.seconds}, for each file"),
-     MEGABYTES._replace(help=f"{MEGABYTES.help}; otherwise {BOUNDS.megabytes}")],
+     SECONDS._replace(help=f"{SECONDS.help}; default: {BOUNDS.seconds}, for each file"),
+     MEGABYTES._replace(help=f"{MEGABYTES.help}; default: {BOUNDS.megabytes}")],
     has_version=True, takes_more=True)
 
 Given = Dict[str, Optional[str]]

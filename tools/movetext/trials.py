@@ -111,7 +111,7 @@ class Program:
             found.setdefault(int(number) if number.isdigit() else 0, []).append(words_of if number.isdigit() else line)
         if ended.returncode and not found:
             said = ended.stderr.decode("utf-8", "replace").strip().split("\n")[0]
-            raise NotAsked(f"`{self.path} apply` ends with the status {ended.returncode}: {said[:MOST_LETTERS]}")
+            raise NotAsked(f"`{self.path} apply` ended with status {ended.returncode}: {said[:MOST_LETTERS]}")
         return found
 
 

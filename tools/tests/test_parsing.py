@@ -94,10 +94,10 @@ CODE: Rows = [
     (in_code("f()"), "3:1: no instruction `f`; a function is called by `Call f`, with its arguments on the stack"),
     (in_code("a: Nop", "a: Nop"), "4:1: a second label `a`; give one of them another name"),
     (in_code("4: Nop"), "3:1: this is instruction 0; write `0:`, or leave the number out"),
-    (in_code("a:"), "3:1: the label `a` stands before no instruction; write an instruction after it, as `Ret`"),
+    (in_code("a:"), "3:1: no instruction follows the label `a`; write an instruction after it, as `Ret`"),
     (in_code("Nop", "let x: u64"), "4:1: a local is declared after an instruction; write each `let` before the first instruction"),
     (in_code("x = 1"),
-     "3:3: nothing is assigned by `=`; a local gets its value by instructions, as `LdU64 1` and `StLoc x` for `x = 1`; a "
+     "3:3: nothing is assigned with `=`; a local gets its value from instructions, as `LdU64 1` and `StLoc x` for `x = 1`; a "
      "`let` has a name and a type alone"),
     (in_code("7"), "3:1: wanted an instruction, a label or `}`, found `7`"),
     (in_code("return"), "3:1: no instruction `return`; write `Ret`, with the results on the stack"),
@@ -120,7 +120,7 @@ RECORDS: Rows = [
     ("publsh by 0x1 { }",
      "1:1: wanted `module`, `publish`, `run`, `show`, `audit`, `record` or `bytes`, found `publsh`; did you mean `publish`?"),
     ("show; module 0x1::M { }", "1:7: wanted `publish`, `run`, `show`, `audit`, `record` or `bytes`, found `module`"),
-    ("ledger", "1:1: a saved ledger isn't made of a text; `moveledger apply --save` writes one"),
+    ("ledger", "1:1: a saved ledger isn't made from a text; `moveledger apply --save` writes one"),
     ("publish 0x1 { }", "1:9: wanted `by`, found `0x1`"),
     ("publish by 0x1 { }", "1:1: a bundle has at least one module; write `module ADDRESS::NAME { .. }` within the braces"),
     ("publish by 0x1 { show }", "1:18: wanted `module` or `}`, found `show`"),

@@ -217,9 +217,9 @@ class Words(unittest.TestCase):
     def test_what_goes_together(self) -> None:
         for given, wanted in (
                 (self.given(__trace=""), ""), (self.given(__trace="", PLACE="0x1::M::f#3", STEP="1", STEPS="9"), ""), (self.given(__html=""), ""),
-                (self.given(__trace="", __html=""), "of '--trace' and '--html' one is given"),
+                (self.given(__trace="", __html=""), "only one of '--trace' and '--html' is given"),
                 (self.given(__trace="", CERTIFICATE="x"), "'--trace' is about a stream"),
-                (self.given(STEP="1"), "'--until <STEP>' is given with '--trace'"),
+                (self.given(STEP="1"), "'--until <STEP>' needs '--trace'"),
                 (self.given(__trace="", STEP="0"), "invalid value '0' for '--until <STEP>': a whole number of at least 1"),
                 (self.given(__trace="", PLACE="a:b"), "invalid value 'a:b' for '--at <PLACE>': a place is FUNCTION, FUNCTION:LINE or "
                  "FUNCTION#INSTRUCTION")):
