@@ -366,7 +366,7 @@ class Assembler:
         except TextError as error:
             raise TextError(error.at, error.message, "a Call's parentheses hold types: its arguments are on the stack") from None
         if known is not None and found != known:
-            raise TextError(called.path.at, f"`{path_text(called.path)}` {verb} {self.types_text(known)}, and here stands "
+            raise TextError(called.path.at, f"`{path_text(called.path)}` {verb} {self.types_text(known)}, but this call says "
                             f"{self.types_text(found)}", "leave the types out, or write those of the function")
 
     def types_text(self, types: model.Signature) -> str:

@@ -177,12 +177,12 @@ def attach(found: Cases, line: Wanted) -> None:
     steps = [step for step in found.steps() if step.at < line.at]
     heads = [case.at for case in found.cases if case.at < line.at]
     if not steps or isinstance(steps[-1].what, Loaded) or heads and heads[-1] > steps[-1].at:
-        fail("`=>` stands after a record, with the report that is wanted of it")
+        fail("`=>` stands after a record, with the report that is wanted")
     if line.at < steps[-1].end:
-        fail("`=>` stands after the whole record, with the report that is wanted of it")
+        fail("`=>` stands after the whole record, with the report that is wanted")
     is_file = re.fullmatch('"[^"]+"', line.text) is not None
     if is_file and not isinstance(steps[-1].what, Included):
-        fail('a report in a file is wanted of the records of a file, as `records "my.text" => "my.report"`')
+        fail('a report in a file is wanted for the records of a file, as `records "my.text" => "my.report"`')
     if not is_file and line.text != ANY_LINES and line.text.split(" ")[0] not in REPORT_WORDS:
         told = unknown("line of a report begins with", line.text.split(" ")[0], REPORT_WORDS)
         raise TextError(line.at, told.fact, told.help)

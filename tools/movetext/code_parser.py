@@ -86,7 +86,7 @@ class CodeParser(TermParser):
         if opcode is None:
             self.no_instruction(word)
         if opcode.version > self.version:
-            self.fail(f"`{word}` is of version 6, and this module of version {self.version}",
+            self.fail(f"`{word}` needs version 6, and this module has version {self.version}",
                       help="write `version 6` after the module's name")
         if len(function.code) == INSTRUCTION_COUNT and self.keeps_limits:
             self.fail(f"a function has at most {INSTRUCTION_COUNT:,} instructions", help="move a part into another function")
@@ -107,7 +107,7 @@ class CodeParser(TermParser):
     def not_ended(self, opcode: opcodes.Opcode) -> NoReturn:
         """Fails, since something follows an instruction on its line."""
         if self.text in BY_NAME and self.kind == scanner.NAME:
-            self.fail(f"`{self.text}` stands on the line of another instruction",
+            self.fail(f"`{self.text}` is on the same line as another instruction",
                       help=f"write it on a line of its own, or after a semicolon: `; {self.text}`")
         if self.is_mark(".") and opcode.operand == opcodes.NUMBER:
             self.fail("there are no fractions", help="numbers are whole")

@@ -36,7 +36,7 @@ COMMAND = CommandLine(
      Option("--record", "N", "With --explain and --trace: only record N"),
      Option("--load", "LEDGER", "With --explain and --trace: begin with this saved ledger"),
      Option("--json", "", "With --explain and --trace: one JSON object per line"),
-     Option("--dot", "FUNCTION", "Draw the flow graph of a function, with what is stated of each block, for Graphviz"),
+     Option("--dot", "FUNCTION", "Draw the flow graph of a function, with what is stated about each block, for Graphviz"),
      Option("--before", "INSTRUCTION", "With --dot, draw the borrow graph before the instruction of this number"),
      Option("--names", "NAMES", "The names that `moveasm -g` kept; default: FILE.names, if it exists"),
      Option("--as", "KIND", "Take the bytes for a module, a stream or a ledger, whatever they begin with"),

@@ -300,7 +300,7 @@ def in_form(name: str, text: str) -> bytes:
     except TextError as error:
         raise TextErrors(Source(name, text), [error]) from None
     except NotKept as error:
-        raise NotKept(f"{name}: {error}: it is left as it is; this is a fault of moveasm") from None
+        raise NotKept(f"{name}: {error}: it is left as it is; this is a bug in moveasm") from None
 
 
 def given_out(given: Dict[str, Optional[str]], name: str, data: bytes, made: bytes) -> int:

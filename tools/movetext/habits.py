@@ -46,7 +46,7 @@ INSTRUCTIONS = {
     "Push": "a value is put on the stack by `LdU64 1`, `LdConst @0x1`, `CopyLoc x` or `MoveLoc x`",
     "Load": "a value is put on the stack by `LdU64 1`, `LdConst @0x1`, `CopyLoc x` or `MoveLoc x`",
     "Dup": "no operand is copied: `StLoc x`, and then `CopyLoc x` for each use",
-    "Swap": "operands stay in their order: `StLoc` both, and load them in the order that is wanted",
+    "Swap": "operands keep their order: `StLoc` both, and load them in the order that you want",
     "CastU256": "the widest number is u128: write `CastU128`", "LdU256": "the widest number is u128: write `LdU128 1`",
     "LdAddr": "write `LdConst @0x1`", "LdFalseConst": "write `LdFalse`", "Assert": ASSERT,
 }

@@ -48,7 +48,7 @@ class Names:
         place = None if handle is None else self.modules.places.get(handle)
         if place is None:
             raise Unknown(module.at, unknown("import of the module", module_text(module), ()), [entry_text(module.name)],
-                          f"write `import {module_text(module)} {{ .. }}`, with what is used of it in the braces")
+                          f"write `import {module_text(module)} {{ .. }}`, with what is used from it in the braces")
         return place
 
     def by_alias(self, name: syntax.Entry) -> int:
@@ -59,7 +59,7 @@ class Names:
             if name.text == self.own_name:
                 raise TextError(name.at, f"`{name.text}` is this module itself", "write what follows alone, or `Self::` before it")
             raise Unknown(name.at, unknown("import of a module", name.text, [one for one in self.aliases if one != OWN]), [name.text],
-                          f"write `import ADDRESS::{name.text} {{ .. }}`, with what is used of it in the braces")
+                          f"write `import ADDRESS::{name.text} {{ .. }}`, with what is used from it in the braces")
         return place
 
     def known_handle(self, module: syntax.ModuleName) -> Optional[model.ModuleHandle]:

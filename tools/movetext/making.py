@@ -23,7 +23,7 @@ LINE = CommandLine(
      Option("--no-warn", "", "Don't warn"),
      Option("--moveledger", "PROGRAM", "Ask the program for each certificate too, and compare"),
      Option("--format", "", "Make no bytes, but print the text in the form that all texts have"),
-     Option("--write", "", "With --format: put it in the place of FILE"),
+     Option("--write", "", "With --format: replace FILE with it"),
      Option("--check", "", "With --format: write nothing, and end with status 1 if FILE isn't in that form"), SECONDS, MEGABYTES],
     has_version=True)
 

@@ -320,4 +320,4 @@ class ModuleParser(TableParser):
             # Its labels may stand behind the brace.
             self.whole_functions[-1].is_broken = True
         self.is_unbalanced = True
-        self.fail(f"`{word}` stands outside of a function", self.starts[self.at - 1], help, notes)
+        self.fail(f"`{word}` is outside of a function", self.starts[self.at - 1], help, notes)

@@ -83,7 +83,7 @@ def whole_page(modules: List[Shown], title: str) -> str:
     """The page."""
     parts = [f"<h1>{escaped(title)}</h1>",
              '<p class="quiet">The arrow keys go from instruction to instruction, Enter goes to the target of a branch, and a click '
-             "to any. What is said here is movedis's; moveledger's verdict counts.</p>"]
+             "to any instruction. What is said here is movedis's; moveledger's verdict counts.</p>"]
     told: List[Dict[str, Any]] = []
     body: List[str] = []
     stop = ""

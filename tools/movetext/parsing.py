@@ -436,7 +436,7 @@ class TermParser(WordParser):
     def check_leaf(self, leaf: int, at: int) -> None:
         """Fails where the version of the module hasn't the type."""
         if self.version < 6 and leaf in LATE_KINDS:
-            self.fail(f"`{LEAF_NAMES[leaf]}` is of version 6, and this module of version {self.version}", at,
+            self.fail(f"`{LEAF_NAMES[leaf]}` needs version 6, and this module has version {self.version}", at,
                       "write `version 6` after the module's name")
 
     def types(self) -> List[syntax.Type]:

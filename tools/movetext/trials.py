@@ -385,7 +385,7 @@ def program_differs(step: Step, theirs: Optional[List[str]], ours: List[str]) ->
     """That the program answers something else."""
     told = "`, `".join(theirs) if theirs else ""
     return Problem(step.at, f"the program answers {f'`{told}`' if told else 'nothing'}, and movetest `{'`, `'.join(ours)}`: the program's "
-                   "verdict counts, and this is a fault of one of the two", [])
+                   "verdict counts, and one of the two has a bug", [])
 
 
 def told(source: Source, problem: Problem) -> List[str]:

@@ -90,14 +90,14 @@ class Language(unittest.TestCase):
                 ('then "a"\n', "my.test:1:1: error: `then` goes on from a case, and there is none before it"),
                 ('case a\n', 'my.test:1:6: error: wanted what the case shows, as `"who mints"`, found `a`'),
                 ('case "a"\ncase "a"\n', 'my.test:2:1: error: a second case "a"'),
-                ('case "a" => end 0\nshow', "my.test:1:13: error: `=>` stands after a record, with the report that is wanted of it"),
-                ('case "a"\nshow\ncase "b" => end', "my.test:3:13: error: `=>` stands after a record, with the report that is wanted of it"),
+                ('case "a" => end 0\nshow', "my.test:1:13: error: `=>` stands after a record, with the report that is wanted"),
+                ('case "a"\nshow\ncase "b" => end', "my.test:3:13: error: `=>` stands after a record, with the report that is wanted"),
                 ('case "a"\nshow => retuned', "my.test:2:9: error: no line of a report begins with `retuned`"),
-                ('case "a"\nshow => "my.report"', 'my.test:2:9: error: a report in a file is wanted of the records of a file, as '
+                ('case "a"\nshow => "my.report"', 'my.test:2:9: error: a report in a file is wanted for the records of a file, as '
                  '`records "my.text" => "my.report"`'),
                 ('case "a"\nshow\nload "x"', "my.test:3:1: error: a ledger is loaded where a case begins, before any record"),
                 ('case "a"\nrun 0x1::M::f( => returned\n) by 0x1 budget 3',
-                 "my.test:2:19: error: `=>` stands after the whole record, with the report that is wanted of it"),
+                 "my.test:2:19: error: `=>` stands after the whole record, with the report that is wanted"),
                 ('case "a"\nbytes x"01"', 'my.test:2:1: error: a test has records, and no bytes outside of them: `record 9 x"01"` is a record of any '
                  'kind'),
                 ('case "a"\nrecords "/no/such"', "my.test:2:1: error: `/no/such` can't be read: No such file or directory"),
