@@ -184,8 +184,8 @@ class Programs(unittest.TestCase):
         with tempfile.TemporaryDirectory() as folder:
             self.assertEqual(problems(text, "", self.program(folder, f"1 published 1\n2 returned 10\n{shown}")), [])
             self.assertEqual(problems(text, "", self.program(folder, f"1 published 1\n2 returned 9\n{shown}")), [
-                "my.test:19:1: error: the program answers `returned 9`, and movetest `returned 10`: the program's verdict counts, and this is a fault "
-                "of one of the two"])
+                "my.test:19:1: error: the program answers `returned 9`, and movetest `returned 10`: the program's verdict counts, and one of the two "
+                "has a bug"])
             self.assertIn("answers nothing", problems(text, "", self.program(folder, "1 published 1\n2 returned 10"))[0])
             self.assertEqual(len(problems(text, "a", self.program(folder, "1 published 1\n2 returned 10"))), 0)
 
