@@ -138,8 +138,6 @@ LIBRARIES = [
 # Asked names that don't stand so yet, where no decision says why, each with what there is. One that is mended goes from here.
 OPEN: Dict[str, str] = {
     "mv_binary_format::code": "the cursor borrows the module's list of instructions, so it has another lifetime, and only tests call it",
-    "mv_lattice::check_flow": "locals go by it; borrows go by `check_flow_by_passage`",
-    "mv_lattice::solve": "locals go by it; borrows go by `solve_by_passage`",
     "mv_certificate::Cert": "a list of functions, each with two lists behind `Stated`",
     "mv_storage::Overlay::put": "a run goes by `put_new`; loading goes by it",
     "mv_storage::Overlay::edit": "a run goes by `write`",

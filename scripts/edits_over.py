@@ -6,7 +6,7 @@ import re
 import shutil
 import subprocess
 from pathlib import Path
-from typing import List, NamedTuple, Optional, Set, Tuple
+from typing import Dict, List, NamedTuple, Optional, Set, Tuple
 
 from common import CRATES, TOP, crates, processors
 from must_fail import Edit, Place, functions_of
@@ -39,6 +39,16 @@ def kit() -> Optional[Path]:
     return Path(found).resolve().parent.parent if found else None
 
 
+def sources(folder: Path) -> List[Path]:
+    """The files that a crate in this folder is made of."""
+    return sorted(it for part in PARTS for it in (folder / part).rglob("*") if it.is_file())
+
+
+def texts_below(folder: Path) -> Dict[Path, bytes]:
+    """What stands in each of these files."""
+    return {it.relative_to(folder): it.read_bytes() for it in sources(folder)}
+
+
 class Libraries:
     """The libraries that `rt ci` left below the crates of a repository, and the toolchain."""
 
@@ -62,17 +72,19 @@ class Libraries:
     def rlib(self, crate: str) -> Path:
         return self.folder / crate / f"out/rlib/{crate}.rlib"
 
+    def is_of_these_sources(self, name: str) -> bool:
+        """Whether a crate's library is there, and of the text that the crate has here. A source of that clone which is newer than the
+        library says that it is of an older text; `rt ci` leaves no stamp beside a library, other commands do."""
+        library, folder = self.rlib(name), self.folder / name
+        if not library.is_dir() or texts_below(folder) != texts_below(CRATES / name):
+            return False
+        stamp = library.parent / "stamp"
+        made = (stamp if stamp.exists() else library).stat().st_mtime
+        return all(file.stat().st_mtime <= made for file in sources(folder))
+
     def lacking(self, names: Set[str]) -> List[str]:
-        """The crates of these names and below them whose library isn't there, or is one of other sources. `rt ci` leaves no stamp beside
-        a library; other commands do, and a source that is newer says that theirs is of other sources."""
-        found = []
-        for name in sorted({below for it in names for below in self.below(it)}):
-            stamp = self.rlib(name).parent / "stamp"
-            files = [it for part in PARTS for it in (self.folder / name / part).rglob("*") if it.is_file()]
-            is_old = stamp.exists() and any(it.stat().st_mtime > stamp.stat().st_mtime for it in files)
-            if is_old or not self.rlib(name).is_dir():
-                found.append(name)
-        return found
+        """The crates below those of these names whose library isn't there, or is one of other sources."""
+        return [it for it in sorted({below for name in names for below in self.below(name)}) if not self.is_of_these_sources(it)]
 
     def words(self, crate: str) -> List[str]:
         """What the prover is given for a crate."""

@@ -15,6 +15,8 @@ if TYPE_CHECKING:
 # A record takes two keys, and a transaction 128; 60 records with what stands under their keys are also within MOST_BYTES.
 MOST_APPENDED = 60
 MOST_OPERATIONS = 128
+# What nodes say that take fewer.
+TOO_MANY = "too many operations"
 # It compares at most 128 keys: the last number, the quota, and for each record its id and its pieces, of which a record has at most 32.
 MOST_COMPARED = 126
 
@@ -59,6 +61,8 @@ class Appending:
         self.ids = [offer.id for offer, _ in offered]
         self.last = 0
         self.used: Used = {} if used is None else used
+        # What was cleared of what submitters ever put, where that is counted beside it: read when a quota seems to be used up.
+        self.gone: Dict[str, int] = {}
 
     def put_after(self, last: int) -> List[Outcome]:
         """Puts them after the record that is taken for the last, or after the one that is. What became of each."""
@@ -84,6 +88,7 @@ class Appending:
         """Puts the pieces of those that have any, where the quota has room for them."""
         for one in list(self.left):
             if count_of_pieces(one.offer.record) and self.etcd.get(self.keys.id(one.offer.id)) is None:
+                self.look_at_gone()
                 if one.submitter in self.above_quota():
                     self.refuse(self.over_quota({one.submitter}))
                 else:
@@ -106,11 +111,22 @@ class Appending:
 
     def above_quota(self) -> Set[str]:
         """Those who would have too many bytes in the log."""
-        return {who for who in self.submitters() if 0 < self.settings.quota_of(who) < self.used_then(who)}
+        return {who for who in self.submitters() if 0 < self.settings.quota_of(who) < self.used_then(who) - self.gone.get(who, 0)}
+
+    def look_at_gone(self) -> None:
+        """Reads what was cleared of those who would have too much without that."""
+        above = sorted(self.above_quota()) if self.settings.is_chaining() else []
+        if above:
+            found = self.etcd.transact([], [get(self.keys.gone(who)) for who in above], [])[1]
+            self.gone.update((who, size_in(value_of(entries))) for who, entries in zip(above, found))
+
+    def has(self, submitter: str) -> int:
+        """How many bytes a submitter has in the log."""
+        return size_in(self.used[submitter]) - self.gone.get(submitter, 0)
 
     def over_quota(self, submitters: Set[str]) -> Dict[str, LogError]:
         """Why the records of these aren't put, by their ids."""
-        return {one.offer.id: Refused(f"{one.submitter} has {size_in(self.used[one.submitter])} bytes in the log, and may have "
+        return {one.offer.id: Refused(f"{one.submitter} has {self.has(one.submitter)} bytes in the log, and may have "
                                       f"{self.settings.quota_of(one.submitter)}") for one in self.left if one.submitter in submitters}
 
     def put_left(self) -> None:
@@ -118,6 +134,7 @@ class Appending:
         already is found at the quota too."""
         ids, submitters = [self.keys.id(one.offer.id) for one in self.left], self.submitters()
         asked = [*map(get, ids), get(self.keys.last), *(get(self.keys.used(who)) for who in submitters)]
+        self.look_at_gone()
         if self.above_quota():
             found = self.etcd.transact([], asked, [])[1]
         else:

@@ -1,20 +1,32 @@
 """What removes from a log what is no longer needed, and gives its room back."""
 
+import random
 import time
-from typing import Dict, List, NamedTuple, Optional, Set
+from typing import Dict, List, NamedTuple, Optional, Set, Tuple
 
+from .appending import TOO_MANY
+from .chains import MOST_TOLD
 from .errors import LogError, Unreachable
 from .etcd import Etcd
-from .keys import LINES, PROGRAM, SAVED, number_in, size_in
+from .keys import LINES, PROGRAM, SAVED, TOLD, Keys, number_in, numbered, size_in
 from .log import Log
-from .requests import Body, Entry, absent, after, delete, delete_range, equal, get, put, unchanged, value_of
-from .times import AHEAD_SECONDS, HOUR, marked, marks_in, newest_before, text_of
+from .requests import Body, Entry, absent, after, delete, delete_range, equal, get, get_range, none_since, put, unchanged, value_of
+from .times import AHEAD_SECONDS, HOUR, TIMED, marked, marks_in, newest_before, text_of
 from .votes import votes_in
 from .written import Head, head_of
 
-# So many records are removed in one transaction at most: by one range, each with its id and its pieces, and what their submitters have.
-MOST_REMOVED = 100
-MOST_OPERATIONS = 120
+# So many records are removed in one transaction at most: by one range, with their pieces, the lines by a range for each replica, and what
+# was cleared of their submitters; and so many of them have an id that is removed by itself. Nodes that an older deploy/node started take
+# 128 operations.
+MOST_REMOVED, FEW_REMOVED = 1_000, 100
+MOST_OPERATIONS, FEW_OPERATIONS = 1_000, 120
+MOST_SINGLE = 250
+# Ids that say when they were made are removed by ranges of time, when no record is left that was put by them: one is put at most half as
+# many hours later as records are kept.
+ID_HOURS = 1.5
+# Who clears rests for such a part of the time that it works; and for so many seconds where another one that clears was quicker.
+REST = 0.25
+LOST_SECONDS = (0.1, 1.0)
 # So many of a replica's lines are removed at once.
 MOST_DELETED = 10_000
 # A node is defragmented where its file has so many times what it uses.
@@ -44,7 +56,17 @@ class Clearing:
         self.keys = log.keys
         self.settings = log.settings()
         self.votes = votes_in(log.etcd, log.keys, self.settings)
+        # All that ever put anything, those with them that are in the set no more.
+        self.names = names_in(log.etcd, log.keys)
         self.keep = keep
+        self.most_removed, self.most_operations = MOST_REMOVED, MOST_OPERATIONS
+        # The change that put up to where the log was cleared, when this clearing began.
+        self.changed_before = 0
+        # What is known to be cleared of submitters, as of the change that put up to where the log was; and whether something in the log
+        # isn't as it was taken for.
+        self.gone: Dict[str, int] = {}
+        self.known_at = -1
+        self.is_doubtful = False
 
     def run(self) -> Cleared:
         """Clears the log. LogError where no majority has put the digest of a save."""
@@ -53,17 +75,20 @@ class Clearing:
         if agreed is None:
             raise LogError("no majority of the replicas has put the digest of one save: nothing can be cleared")
         before = self.etcd.entry(self.keys.cleared)
+        self.changed_before = before.changed if before else 0
         unneeded = min(agreed.number, last - self.keep)
         upto = max(self.log.cleared_of(before.value if before else None), min(unneeded, self.old_enough(last)))
-        self.etcd.put(self.keys.cleared, str(upto).encode())
         behind = [name for name in self.votes.replicas if not self.has_answered(name, upto)]
         removed = 0
-        entries = self.oldest(upto)
-        while entries:
-            removed += self.remove(entries)
-            entries = self.oldest(upto)
+        is_left = True
+        while is_left:
+            began = time.monotonic()
+            count, is_left = self.remove(upto)
+            removed += count
+            time.sleep(REST * (time.monotonic() - began) if count else 0.0)
         self.remove_votes(upto, agreed.number)
-        return Cleared(upto, removed, self.remove_orphans(before.changed if before else 0), behind, upto < unneeded)
+        self.remove_ids()
+        return Cleared(upto, removed, self.remove_orphans(self.changed_before), behind, upto < unneeded)
 
     def old_enough(self, last: int) -> int:
         """Up to which record all are older than the hours for which they are kept. Notes when the last record was there. LogError where
@@ -85,64 +110,137 @@ class Clearing:
         saved = self.votes.newest(name, SAVED)
         return number == 0 or any(vote.number >= number for vote in saved) or self.votes.newest_lines(name, self.log.last()) >= number
 
-    def oldest(self, upto: int) -> List[Entry]:
-        """The oldest keys of records up to one, those that are no number with them."""
-        return self.etcd.range(self.keys.records, self.keys.record(upto + 1), MOST_REMOVED).entries
-
-    def owned(self, entries: List[Entry]) -> List[Head]:
+    def owned(self, heads: Dict[int, Head]) -> Dict[int, Head]:
         """What stands before those records whose ids are their own: what was put by hand may name another one's."""
-        heads = [(entry, head_of(entry.value)) for entry in entries]
-        told = [(entry, head) for entry, head in heads if head is not None]
-        ids = map(value_of, self.etcd.transact([], [get(self.keys.id(head.id)) for _, head in told], [])[1])
-        return [head for (entry, head), text in zip(told, ids) if text and number_in(text) == number_in(entry.key)]
+        ids = map(value_of, self.etcd.transact([], [get(self.keys.id(head.id)) for head in heads.values()], [])[1])
+        return {number: head for (number, head), text in zip(heads.items(), ids) if text and number_in(text) == number}
+
+    def is_timed(self, name: str) -> bool:
+        """Whether an id goes by the time that it says, and not with its record."""
+        found = TIMED.fullmatch(name)
+        return self.settings.is_chaining() and self.settings.hours > 0 and bool(found and int(found.group(1), 16) <= self.now + AHEAD_SECONDS)
 
     def fitting(self, entries: List[Entry]) -> List[Entry]:
         """As many of the first as one transaction removes."""
-        operations = 1
+        operations, single, compared = 3 + 2 * len(self.names), 0, 2
         submitters: Set[str] = set()
         for count, entry in enumerate(entries):
             head = head_of(entry.value)
             if head is not None:
-                operations += 2 if head.is_in_pieces else 1
+                single += not self.is_timed(head.id)
+                operations += (not self.is_timed(head.id)) + head.is_in_pieces
                 submitters.add(head.submitter)
-            if operations + len(submitters) > MOST_OPERATIONS or count + len(submitters) > MOST_OPERATIONS:
+            # An old clear may go on at the same time, where it knows the log's protocol: then each record is compared as well.
+            compared = 2 + single + (0 if self.settings.is_chaining() else count + 1)
+            if max(operations, compared) + len(submitters) > self.most_operations or single > MOST_SINGLE:
                 return entries[:max(1, count)]
         return entries
 
-    def remove(self, entries: List[Entry]) -> int:
-        """Removes records, their ids and pieces, and takes their bytes off what their submitters have: all at once, if they all stand, so
-        that nothing is taken off twice where two clear, or an answer is lost. How many it removed."""
-        entries = self.fitting(entries)
-        heads = self.owned(entries)
-        while True:
-            used = {self.keys.used(head.submitter): self.etcd.get(self.keys.used(head.submitter)) for head in heads}
-            compare = [*(unchanged(entry.key, entry.changed) for entry in entries), *(equal(key, value) for key, value in used.items())]
-            done: List[Body] = [delete_range(entries[0].key, entries[-1].key + b"\0")]
-            for head in heads:
-                done.append(delete(self.keys.id(head.id)))
-                if head.is_in_pieces:
-                    done.append(delete_range(self.keys.pieces(head.id), after(self.keys.pieces(head.id))))
-            if self.etcd.transact(compare, done + self.given_back(heads, used), [])[0]:
-                return len(entries)
-            now = self.etcd.range(entries[0].key, entries[-1].key + b"\0", 0, keys_only=True).entries
-            if [(one.key, one.changed) for one in now] != [(one.key, one.changed) for one in entries]:
-                return 0
+    def remove(self, upto: int) -> Tuple[int, bool]:
+        """Removes the oldest records up to one, as many as one transaction does. How many it removed, and whether there may be more."""
+        try:
+            found = self.tried(upto)
+        except LogError as why:
+            if TOO_MANY not in str(why) or self.most_operations == FEW_OPERATIONS:
+                raise
+            self.most_removed, self.most_operations, self.known_at = FEW_REMOVED, FEW_OPERATIONS, -1
+            return 0, True
+        self.is_doubtful = found is None and not self.is_doubtful
+        if found is None:
+            time.sleep(random.uniform(*LOST_SECONDS) if not self.is_doubtful else 0.0)
+        return found or (0, True)
 
-    def given_back(self, heads: List[Head], used: Dict[bytes, Optional[bytes]]) -> List[Body]:
-        """What submitters have in the log without these records."""
-        left = {key: size_in(value) for key, value in used.items()}
-        for head in heads:
-            left[self.keys.used(head.submitter)] -= head.size()
-        return [put(key, str(size).encode()) if size > 0 else delete(key) for key, size in left.items()]
+    def tried(self, upto: int) -> Optional[Tuple[int, bool]]:
+        """Removes records with their ids, pieces and lines, and counts their bytes as cleared: all at once, where nobody has cleared since,
+        so that nothing is counted twice where two clear, or an answer is lost. None where somebody has."""
+        asked = [get(self.keys.cleared), get(self.keys.log), get_range(self.keys.records, self.keys.record(upto + 1), self.most_removed)]
+        cleared, log, found = self.etcd.transact([], asked, [])[1]
+        self.settings = self.log.understood(value_of(log))
+        entries = self.fitting(found)
+        numbers = [number for number in (number_in(entry.key) for entry in entries) if number is not None]
+        is_last = len(entries) == len(found) < self.most_removed
+        already, changed = self.log.cleared_of(value_of(cleared)), cleared[0].changed if cleared else 0
+        to = max(already, upto if is_last else max(numbers, default=0))
+        if not entries and to == already and changed != self.changed_before:
+            return 0, False
+        compare = [unchanged(self.keys.cleared, changed), unchanged(self.keys.log, log[0].changed)]
+        done: List[Body] = [put(self.keys.cleared, str(to).encode())]
+        if changed != self.known_at:
+            self.gone.clear()
+        if entries:
+            more, ways = self.removal(entries)
+            compare, done = compare + more, done + ways
+        for name in self.names:
+            done.append(delete_range(self.keys.by(name, LINES), self.keys.vote(name, LINES, to + 1)))
+            done.append(delete_range(self.keys.by(name, TOLD), self.keys.vote(name, TOLD, max(0, to + 2 - MOST_TOLD))))
+        is_done, _, revision = self.etcd.transacted(compare, done, [])
+        self.known_at = revision if is_done else -1
+        return (len(entries), not is_last) if is_done else None
+
+    def removal(self, entries: List[Entry]) -> Tuple[List[Body], List[Body]]:
+        """What is compared, and done, to remove these records."""
+        found = {number_in(entry.key): head_of(entry.value) for entry in entries}
+        heads = {number: head for number, head in found.items() if number is not None and head is not None}
+        # The first try takes it that each id is its record's own.
+        heads = self.owned(heads) if self.is_doubtful or not self.settings.is_chaining() else heads
+        single = {number: head for number, head in heads.items() if not self.is_timed(head.id)}
+        compare = [equal(self.keys.id(head.id), numbered(number)) for number, head in single.items()]
+        done: List[Body] = [delete_range(self.keys.records, entries[-1].key + b"\0"), *(delete(self.keys.id(head.id)) for head in single.values())]
+        for head in heads.values():
+            if head.is_in_pieces:
+                done.append(delete_range(self.keys.pieces(head.id), after(self.keys.pieces(head.id))))
+        sizes: Dict[str, int] = {}
+        for head in heads.values():
+            sizes[head.submitter] = sizes.get(head.submitter, 0) + head.size()
+        if self.settings.is_chaining():
+            return compare, done + self.counted(sizes)
+        used, given_back = self.given_back(sizes)
+        return [*compare, *used, *(unchanged(entry.key, entry.changed) for entry in entries)], done + given_back
+
+    def counted(self, sizes: Dict[str, int]) -> List[Body]:
+        """What was cleared of all that submitters ever put, with these bytes: nobody else counts it while `cleared` is as it was."""
+        unknown = [who for who in sizes if who not in self.gone]
+        found = self.etcd.transact([], [get(self.keys.gone(who)) for who in unknown], [])[1] if unknown else []
+        self.gone.update((who, size_in(value_of(entries))) for who, entries in zip(unknown, found))
+        for who, size in sizes.items():
+            self.gone[who] += size
+        return [put(self.keys.gone(who), str(self.gone[who]).encode()) for who in sizes]
+
+    def given_back(self, sizes: Dict[str, int]) -> Tuple[List[Body], List[Body]]:
+        """What submitters have in the log, where that is counted alone, and have without these bytes."""
+        used = {who: self.etcd.get(self.keys.used(who)) for who in sizes}
+        left = {who: size_in(value) - sizes[who] for who, value in used.items()}
+        return ([equal(self.keys.used(who), value) for who, value in used.items()],
+                [put(self.keys.used(who), str(size).encode()) if size > 0 else delete(self.keys.used(who)) for who, size in left.items()])
 
     def remove_votes(self, upto: int, saved: int) -> None:
-        """Removes the lines of the cleared records, digests of saves before the one that counts, and programs before the last."""
-        for name in self.votes.replicas:
-            for kind, end in ((LINES, upto + 1), (SAVED, saved)):
-                self.delete_up_to(name, kind, end)
+        """Removes digests of saves before the one that counts, and programs before the last."""
+        for name in self.names:
+            self.delete_up_to(name, SAVED, saved)
             programs = self.votes.newest(name, PROGRAM)
             if programs:
                 self.delete_up_to(name, PROGRAM, min(programs[0].number, upto))
+
+    def remove_ids(self) -> None:
+        """Removes the ids that are so old that no record is left that was put by them. Others stand among them, and stay."""
+        if not self.settings.is_chaining() or self.settings.hours == 0:
+            return
+        first, end = self.keys.id("t"), self.keys.id(f"t{max(0, int(self.now - ID_HOURS * self.settings.hours * HOUR)):08x}")
+        while first < end:
+            found = self.etcd.range(first, end, self.most_removed, keys_only=True)
+            runs: List[List[bytes]] = [[]]
+            for entry in found.entries:
+                if TIMED.fullmatch(entry.key[len(self.keys.ids):].decode("ascii", "replace")):
+                    runs[-1].append(entry.key)
+                elif runs[-1]:
+                    runs.append([])
+            spans = [(run[0], run[-1] + b"\0") for run in runs if run][:FEW_OPERATIONS]
+            compare = [none_since(*span, found.revision) for span in spans]
+            is_done = not spans or self.etcd.transact(compare, [delete_range(*span) for span in spans], [])[0]
+            if len(found.entries) < self.most_removed and len(runs) <= FEW_OPERATIONS and is_done:
+                return
+            if is_done:
+                first = spans[-1][1] if len(runs) > FEW_OPERATIONS else found.entries[-1].key + b"\0"
 
     def delete_up_to(self, name: str, kind: str, end: int) -> None:
         """Removes what a replica has put for the numbers before one, some at a time, so that no node is busy with it for long."""
@@ -165,6 +263,19 @@ class Clearing:
             prefix = self.keys.all_pieces + name + b"/"
             count += self.etcd.transact([absent(self.keys.ids + name)], [delete_range(prefix, after(prefix))], [])[0]
         return count
+
+
+def names_in(etcd: Etcd, keys: Keys) -> List[str]:
+    """The replicas under whose names anything stands."""
+    names: List[str] = []
+    first = keys.by_replicas
+    while True:
+        found = etcd.range(first, after(keys.by_replicas), 1, keys_only=True).entries
+        if not found:
+            return names
+        name = found[0].key[len(keys.by_replicas):].partition(b"/")[0]
+        names.append(name.decode("ascii", "replace"))
+        first = keys.by_replicas + name + b"0"
 
 
 def patient(etcd: Etcd, addresses: List[str]) -> Etcd:

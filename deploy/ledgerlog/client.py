@@ -2,13 +2,27 @@
 
 import json
 import os
+import re
 import secrets
+import select
 import socket
+import ssl
 import threading
 import time
 from typing import Any, Dict, List, NamedTuple, Optional
 
 PAUSE_SECONDS = 0.1
+CONNECT_SECONDS = 5.0
+PART, LINE_BYTES = 1 << 16, 1 << 26
+ADDRESS = re.compile(r"([^/]+):(\d{1,5})")
+
+
+class Tls(NamedTuple):
+    """Files: the authority that vouches for the service, and this side's own certificate and key, whose name is the submitter's."""
+
+    authority: str
+    certificate: str
+    key: str
 
 
 class Placed(NamedTuple):
@@ -23,7 +37,7 @@ class Unknown(Exception):
 
     def __init__(self, record_id: str, why: str) -> None:
         super().__init__(f"it isn't known whether {record_id} is put ({why}): try again with this id")
-        self.id = record_id
+        self.id, self.why = record_id, why
 
 
 class Refused(Exception):
@@ -34,17 +48,115 @@ class Lost(Exception):
     """The connection ended before the answer."""
 
 
+def connected(place: str, tls: Optional[Tls]) -> socket.socket:
+    """A connection to the socket of a service, or to its address, HOST:PORT. OSError where there is none."""
+    address = ADDRESS.fullmatch(place)
+    if address is None:
+        made = socket.socket(socket.AF_UNIX)
+        try:
+            made.connect(place)
+        except OSError:
+            made.close()
+            raise
+        return made
+    plain = socket.create_connection((address.group(1).strip("[]"), int(address.group(2))), CONNECT_SECONDS)
+    plain.setsockopt(socket.IPPROTO_TCP, socket.TCP_NODELAY, 1)
+    try:
+        if tls is not None:
+            context = ssl.create_default_context(cafile=tls.authority)
+            context.load_cert_chain(tls.certificate, tls.key)
+            plain = context.wrap_socket(plain, server_hostname=address.group(1).strip("[]"))
+        plain.settimeout(None)
+        return plain
+    except OSError:
+        plain.close()
+        raise
+
+
+class Stream:
+    """A connection over which one thread reads while others write. TLS takes no two at once: whoever would wait lets the others go on."""
+
+    def __init__(self, connection: socket.socket, seconds: Optional[float] = None) -> None:
+        """`seconds` is for how long the other side may take nothing of what is written."""
+        self.connection = connection
+        self.seconds = seconds
+        self.is_tls = isinstance(connection, ssl.SSLSocket)
+        self.busy, self.writing = threading.Lock(), threading.Lock()
+        self.buffer = b""
+        if self.is_tls:
+            connection.setblocking(False)
+
+    def wait(self, what: int) -> None:
+        """Waits until the connection may be read, or written. OSError where it can't be written for too long."""
+        place = select.poll()
+        place.register(self.connection.fileno(), what)
+        limit = self.seconds if what == select.POLLOUT else None
+        if not place.poll(None if limit is None else 1000 * limit):
+            raise OSError("the other side takes nothing")
+
+    def more(self) -> bytes:
+        """The bytes that come next; none at the end. OSError where the connection is lost."""
+        while self.is_tls:
+            with self.busy:
+                try:
+                    return self.connection.recv(PART)
+                except ssl.SSLWantReadError:
+                    what = select.POLLIN
+                except ssl.SSLWantWriteError:
+                    what = select.POLLOUT
+            self.wait(what)
+        return self.connection.recv(PART)
+
+    def line(self, most: int) -> bytes:
+        """The next line, of at most so many bytes; none at the end."""
+        while b"\n" not in self.buffer[:most] and len(self.buffer) < most:
+            part = self.more()
+            if not part:
+                return b""
+            self.buffer += part
+        end = self.buffer.find(b"\n", 0, most) + 1 or most
+        found, self.buffer = self.buffer[:end], self.buffer[end:]
+        return found
+
+    def read(self, size: int) -> bytes:
+        """So many bytes, or fewer at the end."""
+        parts = [self.buffer]
+        left = size - len(self.buffer)
+        while left > 0:
+            part = self.more()
+            if not part:
+                break
+            parts.append(part)
+            left -= len(part)
+        found = b"".join(parts)
+        self.buffer = found[size:]
+        return found[:size]
+
+    def write(self, data: bytes) -> None:
+        """Writes all of it. OSError where the connection is lost, or the other side takes nothing."""
+        with self.writing:
+            if not self.is_tls:
+                self.connection.sendall(data)
+                return
+            left = memoryview(data)
+            while left:
+                with self.busy:
+                    try:
+                        left = left[self.connection.send(left):]
+                        continue
+                    except ssl.SSLWantWriteError:
+                        what = select.POLLOUT
+                    except ssl.SSLWantReadError:
+                        what = select.POLLIN
+                self.wait(what)
+
+
 class Line:
     """One connection, over which any number of threads ask at once."""
 
-    def __init__(self, path: str) -> None:
-        self.socket = socket.socket(socket.AF_UNIX)
-        try:
-            self.socket.connect(path)
-        except OSError:
-            self.socket.close()
-            raise
-        self.lock = threading.Lock()
+    def __init__(self, place: str, tls: Optional[Tls] = None) -> None:
+        self.socket = connected(place, tls)
+        self.stream = Stream(self.socket)
         self.told: Dict[str, List[Dict[str, Any]]] = {}
         self.changed = threading.Condition()
         self.is_lost = False
@@ -52,12 +164,11 @@ class Line:
 
     def read(self) -> None:
         try:
-            with self.socket.makefile("rb") as lines:
-                for line in lines:
-                    told = json.loads(line)
-                    with self.changed:
-                        self.told.setdefault(told["id"], []).append(told)
-                        self.changed.notify_all()
+            for line in iter(lambda: self.stream.line(LINE_BYTES), b""):
+                told = json.loads(line)
+                with self.changed:
+                    self.told.setdefault(told["id"], []).append(told)
+                    self.changed.notify_all()
         except (OSError, ValueError):
             pass
         with self.changed:
@@ -65,8 +176,7 @@ class Line:
             self.changed.notify_all()
 
     def send(self, head: Dict[str, Any], record: bytes) -> None:
-        with self.lock:
-            self.socket.sendall(json.dumps(head).encode() + b"\n" + record)
+        self.stream.write(json.dumps(head).encode() + b"\n" + record)
 
     def answer(self, record_id: str, ends: float) -> Dict[str, Any]:
         """The next that is told of an id. Lost where that doesn't come in time."""
@@ -90,11 +200,13 @@ class Line:
 
 
 class Ledger:
-    """A ledger's log, over the socket of its submit service. Any number of threads may use one."""
+    """A ledger's log, by its submit service. Any number of threads may use one."""
 
-    def __init__(self, path: str, submitter: str = "anyone", seconds: float = 60.0) -> None:
-        """`seconds` is for how long a record is tried, and its lines waited for."""
-        self.path = os.path.abspath(path)
+    def __init__(self, place: str, submitter: str = "anyone", seconds: float = 60.0, tls: Optional[Tls] = None) -> None:
+        """`place` is the service's socket, or its address, HOST:PORT; with TLS the submitter is the name in the certificate. `seconds` is
+        for how long a record is tried, and its lines waited for."""
+        self.place = place if ADDRESS.fullmatch(place) else os.path.abspath(place)
+        self.tls = tls
         self.submitter = submitter
         self.seconds = seconds
         self.lock = threading.Lock()
@@ -134,7 +246,7 @@ class Ledger:
                 self.line.close()
                 self.line = None
             if self.line is None:
-                self.line = Line(self.path)
+                self.line = Line(self.place, self.tls)
             return self.line
 
     def drop(self, line: Line) -> None:

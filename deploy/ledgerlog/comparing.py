@@ -35,6 +35,11 @@ class Comparing:
         self.held = {key: value for key, value in self.held.items() if key[1] < number}
         self.next = {key: min(at, number) for key, at in self.next.items()}
 
+    def forget_lines(self) -> None:
+        """Forgets the lines of single records: they are compared by chain from now on."""
+        self.made[LINES] = {}
+        self.held = {key: value for key, value in self.held.items() if key[0] != LINES}
+
     def put(self, kind: str, made: List[Vote]) -> bool:
         """Puts what this replica made, and keeps it to be compared. False where something else stands in its name. Differs where
         a majority has put something else."""

@@ -7,6 +7,10 @@ class LogError(Exception):
     """The log answers what it can't have answered, or says that it can't do what was asked."""
 
 
+class NoLog(LogError):
+    """The log says nothing of a ledger."""
+
+
 class Unreachable(LogError):
     """No node of the log answered for as long as was waited. What was asked may be done yet."""
 
@@ -41,10 +45,10 @@ class RulesChanged(Exception):
 
 
 class GoesBack(Exception):
-    """A record is to be skipped that a replica has answered."""
+    """What a replica has answered from a record on doesn't hold any more."""
 
-    def __init__(self, number: int) -> None:
-        super().__init__(f"record {number} is skipped")
+    def __init__(self, number: int, why: str) -> None:
+        super().__init__(why)
         self.number = number
 
 
@@ -62,6 +66,10 @@ class Differs(NeedsPerson):
 
 class OtherHistory(NeedsPerson):
     """The log isn't the one that the ledger was made of, or is behind it."""
+
+
+class Behind(OtherHistory):
+    """What is asked for was cleared: a newer save is needed."""
 
 
 class ProgramEnded(Exception):

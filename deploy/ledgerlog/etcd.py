@@ -88,6 +88,10 @@ class Etcd:
     def addresses(self) -> List[str]:
         return self.nodes.addresses
 
+    def another(self) -> "Etcd":
+        """A client of the same nodes, for another thread."""
+        return Etcd(list(self.addresses), self.patience, self.access)
+
     def close(self) -> None:
         self.nodes.close()
 

@@ -1,29 +1,35 @@
-"""What a replica does: it answers the records of the log in order, puts the lines of each, and saves now and then."""
+"""What a replica does: it answers the records of the log in order, votes on their lines, and has a second run of the program save now and
+then."""
 
 import os
 import sys
 import time
 from typing import Callable, Dict, List, NamedTuple, Optional, Set, Tuple, TypeVar
 
+from .chains import START, OwnChain, Point
 from .comparing import Comparing, shown
-from .errors import Full, GoesBack, NeedsPerson, OtherHistory, ProgramEnded, RulesChanged, Unreachable
-from .keys import LINES, SAVED
+from .errors import Behind, Differs, Full, GoesBack, NeedsPerson, NoLog, OtherHistory, ProgramEnded, RulesChanged, Unreachable
+from .fetching import Fetching, say
+from .final import Final
+from .keys import AT, LINES, PROTOCOL as PROTOCOL_KEY, SAVED
 from .log import Log, Read
 from .program import Program, identity, skipped_line
-from .saves import Save, Saves, vote_on
-from .settings import ASKED, Settings
+from .saves import Save, SavedVote, Saves, saved_vote_in, vote_on
+from .saving import MOST_PATIENCE, REST, Base, SecondRun, common_number
+from .settings import ASKED, PROTOCOL, Settings
 from .status import Asked, LogValues, Status
 from .votes import Vote, Votes, form_of, votes_in
+from .voting import Voting
 from .written import Taken
 
 # For so long at most is waited for a record before it's looked again whether the replica is to stop or is asked something.
 WAIT_SECONDS = 0.5
 LEAST_SECONDS = 0.01
+# A log to which nothing came for so long is at rest: all replicas are at its last record.
+IDLE_SECONDS = 1.0
 FULL_SECONDS = 5.0
 # So often the values of the log are read that the metrics tell.
 LOOK_SECONDS = 15.0
-# After saves that failed the next one is up to so many times as late.
-MOST_PATIENCE = 64
 # A program that is killed is started again, later and later, and so often without getting any further.
 MOST_RESTARTS = 8
 FIRST_PAUSE, MOST_PAUSE = 0.25, 30.0
@@ -32,12 +38,18 @@ LOAD_REFUSED, READ_FAULT = 3, "fault: read"
 Answer = TypeVar("Answer")
 
 
+# With no save: the empty ledger.
+EMPTY = Base(None, Point(0, START))
+
+
 class Plan(NamedTuple):
-    """Whose ledger a replica keeps, with which program, and so many seconds after the first record that isn't saved it saves."""
+    """Whose ledger a replica keeps, with which program, so many seconds after the first record that isn't saved it saves, and where it gives
+    its saves to others."""
 
     name: str
     program: str
     seconds: float
+    gives_at: Optional[str] = None
 
 
 class Replica:
@@ -55,6 +67,14 @@ class Replica:
         self.unread: Set[str] = set()
         # What one outside the set saved itself: it puts nothing that it could be compared with.
         self.own_saves: Dict[str, bytes] = {}
+        # What a second run begins with, and the one that runs; when the first record was answered that isn't saved, and the last one; before
+        # which time none begins; and whether the program itself has to save, since the log has no more what a second run would need.
+        self.base = EMPTY
+        self.second: Optional[SecondRun] = None
+        self.unsaved_since: Optional[float] = None
+        self.answered_at = 0.0
+        self.rests_until = 0.0
+        self.must_save = False
         self.is_stopping = False
         self.has_caught_up = False
         self.looks_at = 0.0
@@ -63,6 +83,9 @@ class Replica:
         self.settings: Settings
         self.votes: Votes
         self.comparing: Comparing
+        self.chain = OwnChain(0, EMPTY.at)
+        # Where the log has votes by chain.
+        self.voting: Optional[Voting] = None
 
     def stop(self) -> None:
         """Lets it stop after the records at work, and save."""
@@ -102,96 +125,215 @@ class Replica:
             if save.log_id == self.settings.id and save.number > last:
                 raise OtherHistory(f"{save.path} is ahead of the log, which ends with record {last}: it has lost records, or was "
                                    "restored (deploy/log restored)")
+        self.say_itself()
         for number in sorted(self.settings.skips):
-            own = self.patiently(self.votes.of, LINES, number).get(self.plan.name)
+            own = None if self.is_chained(number) else self.patiently(self.votes.of, LINES, number).get(self.plan.name)
             if own is not None and own != skipped_line(number, ASKED):
-                self.go_back(number)
+                self.go_back(number, f"has answered record {number}, which is to be skipped")
                 break
+
+    def say_itself(self) -> None:
+        """Says which protocol it knows, and where it gives its saves."""
+        if self.votes.own is not None:
+            self.patiently(say, self.log, self.plan.name, PROTOCOL_KEY, str(PROTOCOL))
+            self.patiently(say, self.log, self.plan.name, AT, self.plan.gives_at)
+
+    def is_chained(self, number: int) -> bool:
+        return self.settings.is_chaining() and number > self.settings.chained
 
     def start_anew(self) -> None:
         """Sets aside what no majority has put, where this replica differed and a person has looked since."""
         for save in self.saves.all():
-            if self.patiently(self.votes.final, SAVED, save.number) != save.vote():
+            final = self.patiently(self.votes.final, SAVED, save.number)
+            if final is None or saved_vote_in(final).ledger != save.vote():
                 self.tell(f"{save.path} is set aside, since no majority has put its digest")
                 self.saves.set_aside(save)
         self.saves.start_again()
 
-    def choose(self) -> Optional[Save]:
-        """The newest save that is believed. Sets aside those that aren't."""
+    def choose(self) -> Base:
+        """The newest save that is believed, or the empty ledger. Sets aside those that aren't."""
         for save in self.saves.all():
             if save.path in self.unread:
                 continue
             try:
                 vote = save.vote()
             except OSError as why:
-                self.is_unread(save, str(why))
+                self.is_unread(save.path, str(why))
                 continue
-            if self.is_believed(save, vote):
-                return save
+            at = self.believed(save, vote)
+            if at is not None:
+                return Base(save.path, at)
             self.saves.set_aside(save)
-        return None
+        return EMPTY
 
-    def is_unread(self, save: Save, why: str) -> None:
-        self.tell(f"{save.path} can't be read ({why}): takes the one before")
-        self.unread.add(save.path)
+    def is_unread(self, path: str, why: str) -> None:
+        self.tell(f"{path} can't be read ({why}): takes the one before")
+        self.unread.add(path)
 
-    def is_believed(self, save: Save, vote: bytes) -> bool:
-        """Whether a file is what the log has for its number."""
+    def believed(self, save: Save, vote: bytes) -> Optional[Point]:
+        """The digest of the lines up to a save, where the file is what the log has for its number."""
         if not self.settings.has_save(save.log_id, save.number):
             self.tell(f"{save.path} goes on behind record {save.number} of a log that was restored since: it is set aside")
-            return False
+            return None
         votes = self.patiently(self.votes.of, SAVED, save.number)
         final = self.votes.decided(SAVED, save.number, votes)
         own = self.own_saves.get(save.path) if self.votes.own is None else votes.get(self.plan.name)
         is_decided = final is not None and form_of(SAVED, final) == form_of(SAVED, vote)
         wanted = final if is_decided else own
-        if vote != wanted:
+        said = saved_vote_in(wanted or b"")
+        if vote != said.ledger:
             self.tell(f"{save.path} isn't believed: its digest is {shown(vote)}, and the log has "
                       f"{shown(wanted) if wanted else 'none'} for record {save.number}; it is set aside, and the one before "
                       "taken")
-        return vote == wanted
+            return None
+        if not self.is_chained(save.number):
+            return Point(save.number, START)
+        if said.chain is None or said.skips != self.skips_up_to(save.number):
+            self.tell(f"{save.path} was saved before " + ("lines were chained" if said.chain is None else "a record of it was skipped")
+                      + ": it is set aside, and the one before taken")
+            return None
+        return Point(save.number, said.chain)
 
-    def turn(self, save: Optional[Save]) -> None:
-        """Goes on from a saved ledger, or from an empty one, up to the next save."""
-        number = save.number if save else 0
+    def skips_up_to(self, number: int) -> int:
+        return sum(one <= number for one in self.settings.skips)
+
+    def turn(self, start: Base) -> None:
+        """Goes on from a saved ledger, or from an empty one, until the replica is to stop."""
+        number = start.at.number
         self.patiently(self.votes.put_program, number, self.status.program.encode())
-        running = Program(self.plan.program, number, save.path if save else None, self.saves.new())
+        self.base, self.unsaved_since, self.must_save = start, None, False
+        self.chain = OwnChain(self.settings.chained, start.at)
+        self.voting = self.new_voting()
+        running = Program(self.plan.program, number, start.path, self.saves.new())
         self.status.program_id = running.process.pid
-        if save:
-            self.status.saved = save.number
-            self.status.saved_at = self.status.saved_at or os.path.getmtime(save.path)
+        if start.path:
+            self.status.saved = number
+            self.status.saved_at = self.status.saved_at or os.path.getmtime(start.path)
         try:
             self.follow(running)
-            if running.number > running.base:
+            self.end_second()
+            if running.number > self.base.at.number and self.is_all_told(running.number):
                 began = time.monotonic()
                 running.finish()
-                self.keep(running.number, began)
+                self.keep(self.saves.new(), self.chain.end, began)
         except ProgramEnded as ended:
-            self.went_wrong(ended, running, save)
+            self.went_wrong(ended, running, start)
         except GoesBack as why:
-            self.go_back(why.number)
+            self.go_back(why.number, str(why))
+        except Behind as why:
+            self.fetch(why)
         finally:
+            self.end_second()
             running.end()
 
+    def new_voting(self) -> Optional[Voting]:
+        if not self.settings.is_chaining():
+            return None
+        final = Final(self.log.etcd, self.log.keys, self.settings)
+        return Voting(final, self.plan.name, self.chain, self.tell, self.comparing.differing)
+
+    def fetch(self, why: Behind) -> None:
+        """Gets a save of another replica, where the log doesn't have any more what comes next. Behind where none gives one."""
+        self.patiently(Fetching(self.log, self.saves, self.plan.name, self.tell, lambda: self.is_stopping).fetch, self.settings, self.votes,
+                       why)
+
     def follow(self, running: Program) -> None:
-        """Answers records until the ledger is to be saved, or the replica is to stop."""
-        every = self.settings.every
-        due_at = (running.base // every + self.patience) * every
-        due_time = None
-        while not self.is_stopping and running.number < due_at and (due_time is None or time.monotonic() < due_time):
+        """Answers records and votes on their lines until the replica is to stop."""
+        while not self.is_stopping and not self.must_save:
             self.answer_questions(running)
-            read = self.patiently(self.log.read, running.number + 1)
+            self.look_after_saves(running.number)
+            read = self.patiently(self.log.read, running.number + 1, self.votes.replicas if self.voting else ())
+            is_same_set = read.settings.replicas == self.votes.replicas
             self.check_history(read, running.number)
             self.look_at_log(read.last)
             if read.taken:
-                due_time = due_time or time.monotonic() + self.patience * self.plan.seconds
-                self.answer(running, read.taken[:due_at - running.number])
+                self.answered_at = time.monotonic()
+                self.unsaved_since = self.unsaved_since or self.answered_at
+                self.answer(running, read)
             else:
                 running.check()
                 self.caught_up(running.number)
-                self.patiently(self.comparing.look)
-                left = WAIT_SECONDS if due_time is None else due_time - time.monotonic()
-                self.log.wait(read.revision, min(max(left, LEAST_SECONDS), WAIT_SECONDS))
+            if not (is_same_set and self.is_voted(read)) or read.taken:
+                continue
+            self.patiently(self.comparing.look)
+            self.log.wait(read.revision, WAIT_SECONDS)
+
+    def is_voted(self, read: Read) -> bool:
+        """Votes for all that was answered, where the log has votes by chain; whether nothing is left to vote for now."""
+        if self.voting is None:
+            return True
+        self.patiently(self.voting.see, read.votes, read.last)
+        done = self.patiently(self.voting.vote, self.votes.rules)
+        self.status.held = len(self.comparing.held) + (self.voting.held is not None)
+        return done
+
+    def is_all_told(self, number: int) -> bool:
+        """Has the lines up to a record told, so that none is lost with this replica; whether that is done."""
+        voting = self.voting
+        while voting is not None and voting.own is not None and not voting.is_told(number):
+            read = self.patiently(self.log.read, self.chain.end.number + 1, self.votes.replicas)
+            self.check_history(read, self.chain.end.number)
+            if self.voting is not voting:
+                return False
+            self.patiently(voting.see, read.votes, read.last)
+            before = voting.votes.get(voting.own)
+            if self.patiently(voting.vote, self.votes.rules, True) and voting.votes.get(voting.own) == before:
+                return False
+        return voting is None or voting.held is None
+
+    def look_after_saves(self, number: int) -> None:
+        """Takes what a second run has saved, and begins one when it is time."""
+        if self.second is not None and self.second.is_over():
+            self.take_second(self.second)
+        is_held = self.voting is not None and self.voting.held is not None
+        if self.second is not None or is_held or time.monotonic() < self.rests_until:
+            return
+        wanted = common_number(self.base.at.number, number, self.settings.every)
+        if wanted == 0 and self.unsaved_since and time.monotonic() > self.unsaved_since + self.plan.seconds:
+            # While records come, replicas are at different ones.
+            is_idle = time.monotonic() > self.answered_at + IDLE_SECONDS
+            wanted = number if is_idle else common_number(self.base.at.number, number, 1)
+        point = self.chain.point(wanted)
+        if point is not None and wanted > self.base.at.number:
+            self.unsaved_since = time.monotonic() if number > wanted else None
+            self.second = SecondRun(self.log.another(), self.plan.program, self.base, point, self.chain.begins, self.saves.second())
+
+    def settings_now(self) -> Tuple[Settings, int]:
+        """What the log says of itself by now. OtherHistory where that isn't of this log any more."""
+        try:
+            settings, rules = self.patiently(self.log.settings_at)
+        except NoLog as why:
+            raise OtherHistory(f"{why}; it was made anew, or lost") from None
+        if settings.id != self.settings.id:
+            raise OtherHistory(f"the log {self.settings.id} is the log {settings.id} now")
+        return settings, rules
+
+    def end_second(self) -> None:
+        """Ends a second run that hasn't saved yet."""
+        if self.second is not None:
+            self.second.end()
+        self.second = None
+
+    def take_second(self, second: SecondRun) -> None:
+        """Keeps what a second run has saved. Differs where it made other lines than the first one."""
+        if second.is_other:
+            settings, rules = self.settings_now()
+            if rules == self.votes.rules:
+                raise Differs(f"a second run of the program makes other lines for records {second.base.at.number + 1} to "
+                              f"{second.wanted.number} than the first one")
+            self.second = None
+            self.take_rules(settings, rules, self.chain.end.number)
+        elif isinstance(second.error, Behind):
+            # Others have saved and cleared meanwhile.
+            self.must_save = True
+        elif second.is_saved:
+            if not self.is_all_told(second.wanted.number):
+                return
+            self.rests_until = time.monotonic() + REST * second.seconds()
+            self.keep(second.path, second.wanted, second.began)
+        else:
+            self.save_failed(second.wanted.number, str(second.error))
+        self.second = None
 
     def check_history(self, read: Read, number: int) -> None:
         """OtherHistory where the log isn't the one that was followed up to now, or is behind."""
@@ -205,30 +347,38 @@ class Replica:
             raise OtherHistory("the log's nodes were made anew while this replica ran, from a backup or from nothing: what it "
                                "has answered may not be in the log any more; started again, it begins with a save that the log "
                                "knows")
-        if read.settings.replicas != self.votes.replicas:
-            self.tell(f"the log's set of replicas is {', '.join(read.settings.replicas)} now")
-            self.votes.replicas = read.settings.replicas
-            self.votes.own = self.plan.name if self.plan.name in read.settings.replicas else None
-            self.status.is_counted = self.votes.own is not None
         if read.settings.more.keys() - self.settings.more.keys():
             self.tell_unknown(read.settings)
         self.status.last, self.status.read_at = read.last, time.time()
         self.take_rules(read.settings, read.rules, number)
 
     def take_rules(self, settings: Settings, rules: int, number: int) -> None:
-        """Goes by what the log says of itself from now on. GoesBack where a record that was answered is skipped now."""
+        """Goes by what the log says of itself from now on. GoesBack where a record that was answered is skipped now, or lines are chained
+        from one on that was."""
         new = settings.skips.keys() - self.settings.skips.keys()
+        is_chained_now = settings.is_chaining() and not self.settings.is_chaining()
         self.settings, self.votes.rules = settings, rules
         self.votes.carry(settings)
+        if settings.replicas != self.votes.replicas:
+            self.tell(f"the log's set of replicas is {', '.join(settings.replicas)} now")
+            self.votes.replicas = settings.replicas
+            self.votes.own = self.plan.name if self.plan.name in settings.replicas else None
+            self.status.is_counted = self.votes.own is not None
+            self.voting = self.new_voting()
+            self.say_itself()
         for one in sorted(new):
             self.tell(f"record {one} is to be skipped: {settings.skips[one]}")
+        if is_chained_now:
+            self.comparing.forget_lines()
+            raise GoesBack(settings.chained + 1, f"the log goes by protocol {settings.protocol} now, and chains the lines behind record "
+                           f"{settings.chained}")
         answered = [one for one in new if one <= number]
         if answered:
-            raise GoesBack(min(answered))
+            raise GoesBack(min(answered), f"has answered record {min(answered)}, which is to be skipped")
 
-    def go_back(self, number: int) -> None:
-        """Sets aside what was saved behind a record that is to be skipped, and forgets what was made since."""
-        self.tell(f"has answered record {number}, which is to be skipped: goes on from a save before it")
+    def go_back(self, number: int, why: str) -> None:
+        """Sets aside what was saved from a record on, and forgets what was made since."""
+        self.tell(f"{why}: goes on from a save before record {number}")
         for save in self.saves.all():
             if save.number >= number:
                 self.saves.set_aside(save)
@@ -240,9 +390,7 @@ class Replica:
             try:
                 return self.patiently(self.comparing.put, kind, made)
             except RulesChanged:
-                settings, rules = self.patiently(self.log.settings_at)
-                if settings.id != self.settings.id:
-                    raise OtherHistory(f"the log {self.settings.id} is the log {settings.id} now") from None
+                settings, rules = self.settings_now()
                 self.take_rules(settings, rules, number)
 
     def tell_unknown(self, settings: Settings) -> None:
@@ -260,17 +408,18 @@ class Replica:
         except (Unreachable, Full) as why:
             self.tell(f"{why}: the metrics have the log's values of before")
 
-    def answer(self, running: Program, given: List[Taken]) -> None:
-        """Answers what the log has, and puts the lines; those before a record at which the program ends too."""
-        first = running.number + 1
+    def answer(self, running: Program, read: Read) -> None:
+        """Answers what the log has, and votes for the lines; for those before a record at which the program ends too."""
+        first, given = running.number + 1, read.taken
         try:
             self.put_lines(first, running.answer(given), given)
         except ProgramEnded as ended:
             self.put_lines(first, ended.made, given)
+            self.is_voted(read)
             self.status.stuck = running.number + 1
             raise
         self.status.answered = running.number
-        self.status.held = len(self.comparing.held)
+        self.status.held = len(self.comparing.held) + (self.voting is not None and self.voting.held is not None)
         self.status.stuck = self.status.stuck if self.status.stuck > running.number else 0
 
     def put_lines(self, first: int, lines: List[bytes], given: List[Taken]) -> None:
@@ -278,9 +427,11 @@ class Replica:
             if one.why is not None:
                 self.status.skipped += 1
                 self.tell(f"record {number} is skipped: {one.why}" + (f" ({self.settings.skips[number]})" if one.why == ASKED else ""))
-        if lines:
-            self.put_votes(LINES, [Vote(first + at, one) for at, one in enumerate(lines)], first + len(lines) - 1)
-        self.patiently(self.comparing.look)
+        self.chain.add(lines)
+        if self.voting is None:
+            if lines:
+                self.put_votes(LINES, [Vote(first + at, one) for at, one in enumerate(lines)], first + len(lines) - 1)
+            self.patiently(self.comparing.look)
 
     def answer_questions(self, running: Program) -> None:
         """Answers the shows and audits that wait."""
@@ -315,16 +466,19 @@ class Replica:
             self.tell(f"has answered the log up to its end, record {number}")
         self.has_caught_up = True
 
-    def keep(self, number: int, began: float) -> None:
+    def keep(self, path: str, at: Point, began: float) -> None:
         """Keeps the ledger that was saved after a record, where what is put for it may stand in this replica's name."""
+        number = at.number
         try:
-            vote = vote_on(self.saves.new())
-            if not self.put_votes(SAVED, [Vote(number, vote)], number):
-                self.saves.forget_new()
+            chain = at.digest if self.is_chained(number) else None
+            vote = SavedVote(vote_on(path), chain, os.path.getsize(path), self.skips_up_to(number)).value()
+            if not self.put_votes(SAVED, [Vote(number, vote)], self.chain.end.number):
+                self.saves.forget(path)
                 self.save_failed(number, "another digest stands under this replica's name")
                 return
             agreed = {one.number for one in self.patiently(lambda: list(self.votes.agreed_saves(number)))}
-            save = self.saves.keep(number, self.settings.id, self.settings.every, agreed)
+            save = self.saves.keep(path, number, self.settings.id, self.settings.every, agreed)
+            self.base = Base(save.path, at)
             self.status.save_bytes = os.path.getsize(save.path)
         except OSError as error:
             self.save_failed(number, str(error))
@@ -336,18 +490,19 @@ class Replica:
         self.status.save_seconds = time.monotonic() - began
 
     def save_failed(self, number: int, why: str) -> None:
-        """The next turn goes on from the last ledger that was saved, and saves later than this one."""
+        """The next save is tried later than this one."""
+        self.rests_until = time.monotonic() + self.patience * self.plan.seconds
         self.patience = min(2 * self.patience, MOST_PATIENCE)
         self.tell(f"the ledger after record {number} isn't saved ({why}): tries again later")
 
-    def went_wrong(self, ended: ProgramEnded, running: Program, save: Optional[Save]) -> None:
+    def went_wrong(self, ended: ProgramEnded, running: Program, start: Base) -> None:
         """Takes the save before one that can't be read, goes on from the last one where a save failed, and starts a program again
         that ended otherwise."""
-        is_loading = save is not None and running.number == running.base
-        if save and is_loading and READ_FAULT in ended.words:
-            self.is_unread(save, ended.words)
-        elif save and is_loading and ended.status == LOAD_REFUSED:
-            raise NeedsPerson(f"the program refuses {save.path}, whose digest is the one that the log has ({ended.words}): it is "
+        is_loading = start.path is not None and running.number == running.base
+        if start.path and is_loading and READ_FAULT in ended.words:
+            self.is_unread(start.path, ended.words)
+        elif is_loading and ended.status == LOAD_REFUSED:
+            raise NeedsPerson(f"the program refuses {start.path}, whose digest is the one that the log has ({ended.words}): it is "
                               "another program than the one that saved it")
         elif running.is_finishing:
             self.save_failed(running.number, str(ended))

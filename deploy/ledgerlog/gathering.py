@@ -6,8 +6,9 @@ import threading
 import time
 from typing import Callable, Dict, List, NamedTuple, Optional, Set
 
-from .appending import MOST_APPENDED, MOST_OPERATIONS, Appending, Offer, Outcome, Used, operations
+from .appending import MOST_APPENDED, MOST_OPERATIONS, TOO_MANY, Appending, Offer, Outcome, Used, operations
 from .errors import Full, LogError, Refused, Unreachable
+from .final import Final
 from .keys import LINES
 from .log import NO_MORE, Log
 from .settings import Settings
@@ -17,6 +18,10 @@ from .written import count_of_pieces
 # So often the settings and the room are read again.
 LOOK_SECONDS = 1.0
 IDLE_SECONDS = 0.2
+# The lines of so many records are looked up at once.
+MOST_FINAL = 5_000
+# So many records, of so many bytes, go in one transaction, and so many operations, unless the nodes take no more than those of a submitter.
+MOST_GATHERED, MOST_BYTES, MOST_AT_ONCE = 400, 900_000, 1_000
 # So many may wait; who comes then waits before it's heard.
 MOST_WAITING = 10_000
 
@@ -56,6 +61,7 @@ class Writer:
         self.left: List[Wanted] = []
         self.last = 0
         self.used: Used = {}
+        self.most_gathered, self.most_operations = MOST_GATHERED, MOST_AT_ONCE
         self.is_stopping = False
         self.thread = threading.Thread(target=self.work, daemon=True)
 
@@ -75,15 +81,18 @@ class Writer:
         try:
             if not waiting:
                 waiting.append(self.waiting.get(timeout=IDLE_SECONDS))
-            while len(waiting) < MOST_APPENDED:
+            while len(waiting) < self.most_gathered:
                 waiting.append(self.waiting.get_nowait())
         except queue.Empty:
             pass
         batch: List[Wanted] = []
         ids: Set[str] = set()
         submitters: Set[str] = set()
+        size = 0
         for one in waiting:
-            is_too_much = operations(len(batch) + 1, len(submitters | {one.submitter})) > MOST_OPERATIONS
+            size += len(one.offer.record)
+            is_too_much = (operations(len(batch) + 1, len(submitters | {one.submitter})) > self.most_operations
+                           or len(batch) == self.most_gathered or size > MOST_BYTES)
             if self.left or is_too_much or one.offer.id in ids:
                 self.left.append(one)
             else:
@@ -102,6 +111,10 @@ class Writer:
             self.last = appending.last
         except Exception as why:  # noqa: BLE001
             self.used.clear()
+            if TOO_MANY in str(why) and self.most_operations > MOST_OPERATIONS:
+                self.most_gathered, self.most_operations = MOST_APPENDED, MOST_OPERATIONS
+                self.left = batch + self.left
+                return
             error = why if isinstance(why, LogError) else Unreachable(repr(why))
             outcomes = [error] * len(batch)
         for one, outcome in zip(batch, outcomes):
@@ -133,6 +146,9 @@ class Finals:
     def __init__(self, log: Log) -> None:
         self.log = log
         self.waiting: Dict[int, List[Callable[[bytes], None]]] = {}
+        # What is final by the settings that were read last, and until when they count.
+        self.final: Optional[Final] = None
+        self.until = 0.0
         self.lock = threading.Lock()
         self.is_stopping = False
         self.thread = threading.Thread(target=self.work, daemon=True)
@@ -157,7 +173,15 @@ class Finals:
 
     def look(self, first: int) -> int:
         """Tells what is final from a number on. How many are."""
-        votes = votes_in(self.log.etcd, self.log.keys, self.log.settings())
+        if self.final is None or time.monotonic() > self.until:
+            settings = self.log.settings()
+            self.until = time.monotonic() + LOOK_SECONDS
+            if self.final is None or self.final.settings != settings:
+                self.final = Final(self.log.etcd, self.log.keys, settings)
+        settings = self.final.settings
+        if settings.is_chaining():
+            return sum(self.told(number, lines) for number, lines in enumerate(self.final.lines(first, MOST_FINAL), first))
+        votes = votes_in(self.log.etcd, self.log.keys, settings)
         found: List[List[Vote]] = votes.since([(name, LINES, first, first + MOST_COMPARED - 1) for name in votes.replicas])
         given: Dict[int, Dict[str, bytes]] = {}
         for name, those in zip(votes.replicas, found):
@@ -166,9 +190,13 @@ class Finals:
         told = 0
         for number, by in given.items():
             lines = majority(LINES, by, len(votes.replicas))
-            with self.lock:
-                waiting = self.waiting.pop(number, []) if lines is not None else []
-            for done in waiting:
-                done(lines or b"")
-            told += len(waiting)
+            told += self.told(number, lines) if lines is not None else 0
         return told
+
+    def told(self, number: int, lines: bytes) -> int:
+        """Tells the lines of a record to those who wait for them. How many do."""
+        with self.lock:
+            waiting = self.waiting.pop(number, [])
+        for done in waiting:
+            done(lines)
+        return len(waiting)

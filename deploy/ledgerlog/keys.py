@@ -6,8 +6,10 @@ from typing import Optional
 NUMBER = re.compile(rb"[0-9a-f]{16}")
 # Names of submitters and ids, as they stand before a record.
 NAME_TEXT = re.compile(r"[A-Za-z0-9-]{1,64}")
-# What replicas put under their own names.
-LINES, SAVED, PROGRAM = "lines", "saved", "program"
+# What replicas put under their own names for a number: lines of one record each, saves, programs, and lines of many records behind each other.
+LINES, SAVED, PROGRAM, TOLD = "lines", "saved", "program", "told"
+# And once each: up to where it has answered, where it gives its saves, and the newest protocol that it knows.
+VOTE, AT, PROTOCOL = "vote", "at", "protocol"
 
 
 class Keys:
@@ -40,6 +42,13 @@ class Keys:
 
     def used(self, submitter: str) -> bytes:
         return self.all + f"used/{submitter}".encode()
+
+    def gone(self, submitter: str) -> bytes:
+        return self.all + f"gone/{submitter}".encode()
+
+    def own(self, replica: str, what: str) -> bytes:
+        """What a replica puts once."""
+        return self.by_replicas + f"{replica}/{what}".encode()
 
     def by(self, replica: str, kind: str) -> bytes:
         """What the keys of a kind begin with that a replica puts."""

@@ -32,6 +32,7 @@ PASSWORD = Option("--password", "PASSWORD", "A file with that user's password")
 REACHED_BY = [LOG, LEDGER, CA, CERTIFICATE, KEY, USER, PASSWORD]
 FIRST_PORT = 23_791
 NODES = 3
+LOOPBACK = ("127.0.0.1", "localhost", "::1")
 NAME = re.compile(r"[A-Za-z0-9-]{1,64}")
 ADDRESSES = ",".join(f"127.0.0.1:{FIRST_PORT + at}" for at in range(NODES))
 

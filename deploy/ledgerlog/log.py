@@ -1,16 +1,16 @@
 """The log: records under their numbers, from 1 on and without a gap, with an id for each and a quota for each submitter."""
 
-from typing import Iterator, List, NamedTuple, Optional, Tuple
+from typing import Dict, Iterator, List, NamedTuple, Optional, Sequence, Tuple
 
 from .appending import MOST_APPENDED, MOST_COMPARED, Appending, Offer
-from .errors import LogError, OtherHistory
+from .errors import Behind, LogError, NoLog, OtherHistory
 from .etcd import Etcd
-from .keys import Keys, number_in
-from .requests import after, get, get_range, value_of
+from .keys import VOTE, Keys, number_in
+from .requests import Entry, after, get, get_range, value_of
 from .settings import Settings, settings_of
 from .written import MISSING, PIECES, Taken, count_of_pieces, taken
 
-MOST_READ = 100
+MOST_READ = 500
 # No more records are taken at once when these have so many bytes.
 ENOUGH_BYTES = 8 << 20
 # Above these parts of its room a log is nearly full, and is given no more records.
@@ -19,7 +19,7 @@ NEARLY_FULL, NO_MORE = 0.75, 0.9
 
 class Read(NamedTuple):
     """What follows each other in the log, the number of the last record, what the log says of itself and the change that put this, the
-    number of the store's last change, all at one moment, and the id of the nodes that answered."""
+    number of the store's last change, and the votes that were asked for, all at one moment, and the id of the nodes that answered."""
 
     taken: List[Taken]
     last: int
@@ -27,6 +27,7 @@ class Read(NamedTuple):
     rules: int
     revision: int
     cluster: str
+    votes: Dict[str, Entry] = {}
 
 
 class Room(NamedTuple):
@@ -57,7 +58,7 @@ class Log:
 
     def understood(self, text: Optional[bytes], is_read_only: bool = False) -> Settings:
         if text is None:
-            raise LogError(f"there is no log of the ledger {self.keys.ledger}: deploy/log make makes one")
+            raise NoLog(f"there is no log of the ledger {self.keys.ledger}: deploy/log make makes one")
         settings = settings_of(text)
         if not is_read_only:
             settings.check_protocol()
@@ -86,6 +87,10 @@ class Log:
         """How much of the log's room is used, as etcd counts it: what was cleared counts until the log is defragmented."""
         return Room(int(self.etcd.ask("/v3/maintenance/status", {}).get("dbSize", 0)), settings.room)
 
+    def another(self) -> "Log":
+        """The same log by a client of its own, for another thread."""
+        return Log(self.etcd.another(), self.keys.ledger)
+
     def append(self, offers: List[Offer], submitter: str, settings: Settings) -> Iterator[int]:
         """Puts records at the end, in this order, and gives their numbers, each when it is durable. A record whose id stands
         in the log already keeps the number that it has there. OtherRecord where another record has the id, Refused at a quota,
@@ -98,12 +103,12 @@ class Log:
                 last = max(last, outcome)
                 yield outcome
 
-    def read(self, first: int) -> Read:
-        """What the log has from this number on, as much as is taken at once. OtherHistory where that was cleared, or the log
-        says nothing of itself any more."""
+    def read(self, first: int, names: Sequence[str] = ()) -> Read:
+        """What the log has from this number on, as much as is taken at once, and the votes by chain of these. Behind where that was
+        cleared, OtherHistory where the log says nothing of itself any more."""
         keys = self.keys
         asked = [get(keys.last), get(keys.log), get(keys.cleared),
-                 get_range(keys.record(first), keys.record(first + MOST_READ), MOST_READ)]
+                 get_range(keys.record(first), keys.record(first + MOST_READ), MOST_READ), *(get(keys.own(name, VOTE)) for name in names)]
         _, found, revision = self.etcd.transacted([], asked, [])
         cluster = self.etcd.cluster
         last, told, cleared = (value_of(part) for part in found[:3])
@@ -127,15 +132,16 @@ class Log:
                 break
         if any(one.why in (MISSING, PIECES) for one in made):
             self.check_kept(first)
-        return Read(made, self.last_of(last), settings, found[1][0].changed, revision, cluster)
+        votes = {name: entries[0] for name, entries in zip(names, found[4:]) if entries}
+        return Read(made, self.last_of(last), settings, found[1][0].changed, revision, cluster, votes)
 
     def check_behind(self, first: int, cleared: int) -> None:
-        """OtherHistory where a record was cleared."""
+        """Behind where a record was cleared."""
         if first <= cleared:
-            raise OtherHistory(f"record {first} isn't in the log any more: begin with a newer save (deploy/snapshot)")
+            raise Behind(f"record {first} isn't in the log any more: begin with a newer save (deploy/snapshot)")
 
     def check_kept(self, first: int) -> None:
-        """OtherHistory where the log was cleared while it was read, so that what wasn't found may have been there."""
+        """Behind where the log was cleared while it was read, so that what wasn't found may have been there."""
         self.check_behind(first, self.cleared())
 
     def wait(self, revision: int, seconds: float) -> None:

@@ -36,8 +36,9 @@ def skipped_line(number: int, why: str) -> bytes:
 class Program:
     """A program that answers the records after one number, from a saved ledger on or from an empty one."""
 
-    def __init__(self, program: str, number: int, load: Optional[str], save: Optional[str]) -> None:
-        """`number` is that of the last record in the ledger to load, 0 with none."""
+    def __init__(self, program: str, number: int, load: Optional[str], save: Optional[str], is_nice: bool = False) -> None:
+        """`number` is that of the last record in the ledger to load, 0 with none. A nice one leaves the processors to others."""
+        nice = ["nice", "-n", "19"] if is_nice else []
         options = [*(["--load", load] if load else []), *(["--save", save] if save else [])]
         self.base = number
         self.number = number
@@ -46,7 +47,7 @@ class Program:
         self.is_finishing = False
         self.lines: "queue.Queue[Optional[bytes]]" = queue.Queue()
         # In a session of its own, so that an interrupt from a terminal doesn't reach it before what it has is saved.
-        self.process = subprocess.Popen([program, "apply", *options, "-"], stdin=subprocess.PIPE, stdout=subprocess.PIPE,
+        self.process = subprocess.Popen([*nice, program, "apply", *options, "-"], stdin=subprocess.PIPE, stdout=subprocess.PIPE,
                                         stderr=subprocess.PIPE, start_new_session=True)
         assert self.process.stdin and self.process.stdout and self.process.stderr
         self.input: IO[bytes] = self.process.stdin

@@ -44,6 +44,11 @@ def unchanged(key: bytes, revision: int) -> Body:
     return {"key": coded(key), "target": "MOD", "result": "EQUAL", "mod_revision": str(revision)}
 
 
+def none_since(first: bytes, end: bytes, revision: int) -> Body:
+    """A comparison: no key from one on and before another one was put after this change."""
+    return {"key": coded(first), "range_end": coded(end), "target": "MOD", "result": "LESS", "mod_revision": str(revision + 1)}
+
+
 def equal(key: bytes, value: Optional[bytes]) -> Body:
     """A comparison: this value stands there, or nothing does."""
     if value is None:

@@ -1,12 +1,13 @@
 """Changes of what the log says of itself, which all replicas follow."""
 
-from typing import Dict, List
+from typing import Dict, List, Tuple
 
+from .chains import vote_in
 from .errors import LogError
-from .keys import LINES, SAVED, numbered
+from .keys import LINES, PROTOCOL as PROTOCOL_KEY, SAVED, VOTE, numbered
 from .log import Log
-from .requests import equal, put, unchanged
-from .settings import SKIPPING_PROTOCOL, Agreed, Limit, Settings
+from .requests import Body, equal, get, put, unchanged, value_of
+from .settings import CHAINING_PROTOCOL, SKIPPING_PROTOCOL, Agreed, Limit, Settings
 from .votes import Vote, Votes, votes_in
 
 # How often a change is tried that has to come between two records.
@@ -66,12 +67,47 @@ def skip_record(log: Log, number: int, reason: str) -> None:
         raise LogError(f"record {number} is skipped already: {settings.skips[number]}")
     if not log.cleared() < number <= log.last():
         raise LogError(f"the log has no record {number}")
-    votes = Votes(log.etcd, log.keys, settings.replicas).of(LINES, number)
-    if 2 * len(votes) > len(settings.replicas):
-        raise LogError(f"record {number} is answered by {', '.join(sorted(votes))}: what a majority has answered isn't skipped any more")
     new = with_skipping(settings)._replace(skips={**settings.skips, number: reason})
-    # At the same moment none of them may have put more: replicas put lines only by the settings that stand.
-    compare = [unchanged(log.keys.log, changed),
-               *(equal(log.keys.vote(name, LINES, number), votes.get(name)) for name in settings.replicas)]
-    if not log.etcd.transact(compare, [put(log.keys.log, new.text())], [])[0]:
-        raise LogError("a replica answered it meanwhile, or what the log says of itself was changed: try again")
+    # Replicas before the record vote on: only votes on it count.
+    for _ in range(MOST_TRIES):
+        voted, compare = votes_on(log, settings, number)
+        if 2 * len(voted) > len(settings.replicas):
+            raise LogError(f"record {number} is answered by {', '.join(sorted(voted))}: what a majority has answered isn't skipped any more")
+        # At the same moment none of them may have put more: replicas vote only by the settings that stand.
+        if log.etcd.transact([unchanged(log.keys.log, changed), *compare], [put(log.keys.log, new.text())], [])[0]:
+            return
+        if not settings.is_chaining() or log.settings_at()[1] != changed:
+            break
+    raise LogError("a replica answered it meanwhile, or what the log says of itself was changed: try again")
+
+
+def votes_on(log: Log, settings: Settings, number: int) -> Tuple[List[str], List[Body]]:
+    """Who of the set has voted on a record, and comparisons that hold as long as nobody votes again."""
+    if not settings.is_chaining() or number <= settings.chained:
+        votes = Votes(log.etcd, log.keys, settings.replicas).of(LINES, number)
+        return list(votes), [equal(log.keys.vote(name, LINES, number), votes.get(name)) for name in settings.replicas]
+    keys = [log.keys.own(name, VOTE) for name in settings.replicas]
+    found = log.etcd.transact([], [get(key) for key in keys], [])[1]
+    said = [(name, vote_in(value_of(entries))) for name, entries in zip(settings.replicas, found)]
+    compare = [unchanged(key, entries[0].changed if entries else 0) for key, entries in zip(keys, found)]
+    return [name for name, vote in said if vote is not None and vote.made.number >= number], compare
+
+
+def upgrade(log: Log) -> Settings:
+    """Has all go by the newest protocol from the newest agreed save on. LogError where they do already, or a replica of the set doesn't know
+    it."""
+    settings, changed = log.settings_at()
+    if settings.is_chaining():
+        raise LogError(f"the log goes by protocol {settings.protocol} already")
+    asked = [get(log.keys.own(name, PROTOCOL_KEY)) for name in settings.replicas]
+    found = [value_of(entries) or b"" for entries in log.etcd.transact([], asked, [])[1]]
+    old = [name for name, text in zip(settings.replicas, found) if not text.isdigit() or int(text) < CHAINING_PROTOCOL]
+    if old:
+        raise LogError(f"{', '.join(old)} was never started with a version of deploy/ that knows protocol {CHAINING_PROTOCOL}: upgrade deploy/ on "
+                       "the machines of all replicas and submitters, start the replicas one by one, and try again")
+    agreed = votes_in(log.etcd, log.keys, settings).newest_agreed_save(log.last())
+    if agreed is None and log.cleared() > 0:
+        raise LogError("no majority has put the digest of a save behind what was cleared: wait until the replicas have saved")
+    new = settings._replace(protocol=CHAINING_PROTOCOL, chained=agreed.number if agreed else 0)
+    exchange(log, changed, new)
+    return new

@@ -10,6 +10,8 @@ import shutil
 import time
 from typing import AbstractSet, List, NamedTuple, Optional
 
+from .chains import DIGEST_TEXT
+
 NAME = re.compile(r"ledger-(\d{16})-([0-9a-f]{32})")
 REFUSED = ".refused"
 # So many of the newest saves are kept, and so many of those that all replicas make.
@@ -44,6 +46,29 @@ def vote_on(path: str) -> bytes:
             sha.update(part)
     form = mark if mark.isalnum() else mark.hex().encode() or b"-"
     return form + b" " + sha.hexdigest().encode()
+
+
+class SavedVote(NamedTuple):
+    """What is put for a saved ledger: its form and SHA-256, and where lines are chained the digest at its last record, its bytes, and how
+    many of its records the keeper had skipped."""
+
+    ledger: bytes
+    chain: Optional[bytes] = None
+    size: int = 0
+    skips: int = 0
+
+    def value(self) -> bytes:
+        if self.chain is None:
+            return self.ledger
+        return b"%s %s %d %d" % (self.ledger, self.chain.hex().encode(), self.size, self.skips)
+
+
+def saved_vote_in(value: bytes) -> SavedVote:
+    """What a value says; what isn't told as it has to be is no ledger's."""
+    words = value.split(b" ")
+    if len(words) == 5 and DIGEST_TEXT.fullmatch(words[2]) and words[3].isdigit() and words[4].isdigit():
+        return SavedVote(b" ".join(words[:2]), bytes.fromhex(words[2].decode()), int(words[3]), int(words[4]))
+    return SavedVote(value)
 
 
 def name_of(number: int, log_id: str) -> str:
@@ -111,13 +136,26 @@ class Saves:
         """Where the program is to save: the number isn't known yet."""
         return os.path.join(self.unnumbered, "ledger")
 
-    def keep(self, number: int, log_id: str, every: int, agreed: AbstractSet[int] = frozenset()) -> Save:
-        """Gives the ledger that was saved its name, and forgets those that are too old, when the disk has the new one. `every` is
-        that of the log, and `agreed` has the numbers of those that are final: the newest of them stays, since others may need it."""
+    def second(self) -> str:
+        """Where a second run of the program is to save."""
+        return os.path.join(self.unnumbered, "second")
+
+    def fetched(self) -> str:
+        """Where a save of another replica comes in."""
+        return os.path.join(self.unnumbered, "fetched")
+
+    def named(self, path: str, number: int, log_id: str) -> Save:
+        """Gives a saved ledger its name, when the disk has it."""
         save = Save(number, log_id, self.path(name_of(number, log_id)))
-        sync_file(self.new())
-        os.rename(self.new(), save.path)
+        sync_file(path)
+        os.rename(path, save.path)
         sync_folder(self.folder)
+        return save
+
+    def keep(self, path: str, number: int, log_id: str, every: int, agreed: AbstractSet[int] = frozenset()) -> Save:
+        """Gives the ledger that was saved its name, and forgets those that are too old. `every` is that of the log, and `agreed` has the
+        numbers of those that are final: the newest of them stays, since others may need it."""
+        save = self.named(path, number, log_id)
         there = self.all()
         common = [one for one in there if one.number % every == 0]
         final = [one for one in there if one.number in agreed]
@@ -126,10 +164,10 @@ class Saves:
                 os.remove(old.path)
         return save
 
-    def forget_new(self) -> None:
+    def forget(self, path: str) -> None:
         """Removes what was saved and has no name yet."""
-        if os.path.exists(self.new()):
-            os.remove(self.new())
+        if os.path.exists(path):
+            os.remove(path)
 
     def set_aside(self, save: Save) -> None:
         """Takes a saved ledger away that isn't believed, and removes those that were set aside long ago."""

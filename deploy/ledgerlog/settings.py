@@ -10,9 +10,11 @@ from .records import budget_of
 # The form of all that stands in the log, and the newest rules that this code knows: who writes has to know the log's. A log that names
 # none goes by the first ones.
 FORM = 2
-FIRST_PROTOCOL, PROTOCOL = 2, 3
+FIRST_PROTOCOL, PROTOCOL = 2, 4
 # From this one on, replicas skip what the log says, and put no line by settings that aren't the log's any more.
 SKIPPING_PROTOCOL = 3
+# From this one on, a replica votes once for many records, and what was cleared is counted beside what a submitter ever put.
+CHAINING_PROTOCOL = 4
 
 
 # Why whole records are skipped: since that was asked for, for their size, or for their budget.
@@ -48,8 +50,8 @@ class Agreed(NamedTuple):
 
 
 class Settings(NamedTuple):
-    """What stands under NAME/log. `room` and `quota` are bytes; 0 is no limit. Records and ids are kept for so many `hours`. `more` is what
-    this code doesn't know: it is kept."""
+    """What stands under NAME/log. `room` and `quota` are bytes; 0 is no limit. Records and ids are kept for so many `hours`. The lines of
+    the records behind `chained` are chained. `more` is what this code doesn't know: it is kept."""
 
     id: str
     replicas: Tuple[str, ...]
@@ -63,7 +65,12 @@ class Settings(NamedTuple):
     limits: Tuple[Limit, ...] = ()
     skips: Dict[int, str] = {}
     agreed: Optional[Agreed] = None
+    chained: int = 0
     more: Dict[str, Any] = {}
+
+    def is_chaining(self) -> bool:
+        """Whether replicas vote once for many records."""
+        return self.protocol >= CHAINING_PROTOCOL
 
     def quota_of(self, submitter: str) -> int:
         return self.quotas.get(submitter, self.quota)
@@ -104,7 +111,7 @@ class Settings(NamedTuple):
 
 
 # The fields that came later.
-LATER = ("protocol", "hours", "limits", "skips", "agreed")
+LATER = ("protocol", "hours", "limits", "skips", "agreed", "chained")
 
 
 def new_id() -> str:
@@ -130,7 +137,8 @@ READ: Dict[str, Callable[[Any], Any]] = {
     "hours": number,
     "limits": lambda value: tuple(Limit(number(first, 1), number(size), number(budget)) for first, size, budget in value),
     "skips": lambda value: {number(int(which), 1): str(why) for which, why in value.items()},
-    "agreed": lambda value: Agreed(number(value[0], 1), str(value[1]))}
+    "agreed": lambda value: Agreed(number(value[0], 1), str(value[1])),
+    "chained": number}
 
 
 def settings_of(text: bytes) -> Settings:

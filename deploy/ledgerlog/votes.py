@@ -5,8 +5,10 @@ from typing import Dict, Iterator, List, NamedTuple, Optional, Sequence, Tuple
 
 from .errors import RulesChanged
 from .etcd import Etcd
-from .keys import LINES, PROGRAM, SAVED, Keys, number_in
+from .chains import vote_in
+from .keys import LINES, PROGRAM, SAVED, VOTE, Keys, number_in
 from .requests import Body, absent, after, equal, get, get_range, none_between, put, unchanged, value_of
+from .saves import saved_vote_in
 from .settings import Settings
 
 # A transaction takes 128 operations.
@@ -61,9 +63,12 @@ class Votes:
         self.rules = 0
         # The save that an earlier set has agreed on: what it decided stays decided.
         self.carried: Optional[Vote] = None
+        # Behind which record lines are chained, where they are.
+        self.chained: Optional[int] = None
 
     def carry(self, settings: Settings) -> None:
         agreed = settings.agreed
+        self.chained = settings.chained if settings.is_chaining() else None
         self.carried = Vote(agreed.number, agreed.value.encode()) if agreed else None
 
     def others(self) -> List[str]:
@@ -140,8 +145,11 @@ class Votes:
         return [Vote(number, entry.value) for entry in entries for number in [number_in(entry.key)] if number is not None]
 
     def newest_lines(self, name: str, last: int) -> int:
-        """The newest record up to the last one for which a replica has put lines; 0 where there is none. A node reads and sorts all that a
+        """The newest record up to the last one for which a replica has voted; 0 where there is none. A node reads and sorts all that a
         range has, so the range grows from its end."""
+        if self.chained is not None:
+            vote = vote_in(self.etcd.get(self.keys.own(name, VOTE)))
+            return min(vote.made.number, last) if vote else 0
         width = LEAST_WIDTH
         while True:
             first = max(0, last - width)
@@ -166,8 +174,12 @@ class Votes:
             counted.setdefault(self.carried.number, {})
         for number in sorted((number for number in counted if number <= most), reverse=True):
             value = self.decided(SAVED, number, counted[number])
-            if value is not None:
+            if value is not None and self.is_usable(number, value):
                 yield Vote(number, value)
+
+    def is_usable(self, number: int, value: bytes) -> bool:
+        """Whether one may go on from a save: where lines are chained, the digest there has to be known."""
+        return self.chained is None or number <= self.chained or saved_vote_in(value).chain is not None
 
     def put_program(self, number: int, identity: bytes) -> None:
         """Says with which program this replica answers the records after a number, where that is another one than before."""

@@ -39,7 +39,11 @@ class Store(Etcd):
         self.revision = 1
         self.used = 0
         self.is_full = False
+        self.most_operations = MOST_OPERATIONS
         self.lock = threading.RLock()
+
+    def another(self) -> "Store":
+        return self
 
     def ask(self, path: str, body: Body) -> Body:
         json.dumps(body)
@@ -95,27 +99,33 @@ class Store(Etcd):
         value, created, changed = self.there.get(keys[0], (None, 0, 0))
         if one["target"] == "VALUE":
             return value is not None and value == decoded(one["value"])
+        if one["target"] == "MOD" and one["result"] == "LESS":
+            return all(self.there[key][2] < int(one["mod_revision"]) for key in self.keys_of(one))
         if one["target"] == "MOD":
             return changed == int(one["mod_revision"])
         wanted = int(one["create_revision"])
         return created > wanted if one["result"] == "GREATER" else created == wanted
 
     def done(self, body: Body) -> Body:
-        assert all(len(body[part]) <= MOST_OPERATIONS for part in ("compare", "success", "failure"))
+        if any(len(body[part]) > self.most_operations for part in ("compare", "success", "failure")):
+            raise LogError("etcdserver: too many operations in txn request")
         puts = [one["request_put"]["key"] for one in body["success"] if "request_put" in one]
         if len(set(puts)) < len(puts):
             raise LogError("duplicate key given in txn request")
         is_done = all(map(self.holds, body["compare"]))
         before = self.revision
         responses: List[Any] = []
+        changes = 0
         for one in body["success" if is_done else "failure"]:
             (kind, words), = one.items()
+            # All that a transaction puts has the same change.
+            changes, self.revision = max(changes, self.revision), before
             responses.append({"response_range": self.ranged(words)} if kind == "request_range" else {})
             if kind == "request_put":
                 self.asked_put(words)
             elif kind == "request_delete_range":
                 self.deleted(words)
-        self.revision = min(self.revision, before + 1)
+        self.revision = max(changes, self.revision)
         return {"succeeded": is_done, "responses": responses}
 
 

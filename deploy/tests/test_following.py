@@ -6,11 +6,15 @@ import time
 import unittest
 from typing import Any, Callable, Dict, List, Optional
 
+from ledgerlog import following
+from ledgerlog.chains import told_in
 from ledgerlog.comparing import Comparing
 from ledgerlog.errors import Differs, NeedsPerson, OtherHistory
+from ledgerlog.final import Final, Walk
 from ledgerlog.following import Plan, Replica
-from ledgerlog.keys import LINES, PROGRAM, SAVED, numbered
+from ledgerlog.keys import LINES, PROGRAM, SAVED, TOLD, VOTE, numbered
 from ledgerlog.log import Log
+from ledgerlog.requests import after
 from ledgerlog.saves import SOCKET, Saves
 from ledgerlog.settings import Past
 from ledgerlog.status import Asked, Status, ask
@@ -68,12 +72,16 @@ class Running:
 class OverStandIn(unittest.TestCase):
     """Replicas over a store in memory."""
 
+    protocol = 2
+
     def setUp(self) -> None:
+        self.addCleanup(setattr, following, "REST", following.REST)
+        setattr(following, "REST", 0.0)
         holder = tempfile.TemporaryDirectory()
         self.addCleanup(holder.cleanup)
         self.folder = holder.name
         self.store = Store()
-        self.log = made_log(self.store)
+        self.log = made_log(self.store, protocol=self.protocol)
         self.running: Dict[str, Running] = {}
         self.addCleanup(self.stop_all)
 
@@ -85,7 +93,7 @@ class OverStandIn(unittest.TestCase):
         return os.path.join(self.folder, name)
 
     def start(self, name: str = "a", **given: Any) -> Running:
-        log = made_log(self.store) if not self.store.there else type(self.log)(self.store, "L")
+        log = type(self.log)(self.store, "L")
         self.running[name] = Running(log, self.path(name), name, **given)
         return self.running[name]
 
@@ -98,6 +106,10 @@ class OverStandIn(unittest.TestCase):
         return path
 
     def lines(self, number: int, name: str = "a") -> Optional[bytes]:
+        """The lines on which a replica has voted."""
+        settings = self.log.settings()
+        if settings.is_chaining() and number > settings.chained:
+            return lines_by_chain(self.log, number, name)
         return self.store.get(self.log.keys.vote(name, LINES, number))
 
     def answered(self, number: int, *names: str) -> None:
@@ -111,6 +123,20 @@ class OverStandIn(unittest.TestCase):
 
     def saved_at(self, number: int, *names: str) -> None:
         until(lambda: all(any(save.number == number for save in self.running[name].saves.all()) for name in names))
+
+
+def lines_by_chain(log: Log, number: int, name: str) -> Optional[bytes]:
+    """The lines of a record on the chain that a replica is on, whoever told them; None where it hasn't voted on the record."""
+    final = Final(log.etcd, log.keys, log.settings())
+    votes = final.votes()
+    if name not in votes:
+        return None
+    walk = Walk({name: votes[name]}, range(number, number + 1))
+    for one in final.replicas:
+        prefix = log.keys.by(one, TOLD)
+        for told in sorted(filter(None, map(told_in, log.etcd.range(prefix, after(prefix), 0).entries))):
+            walk.take(told)
+    return next((chain.lines.get(number) for chain in walk.chains if chain.on.get(name, 0) >= number), None)
 
 
 class Following(OverStandIn):
@@ -185,9 +211,12 @@ class Following(OverStandIn):
         self.answered(7)
         until(lambda: self.lines(7) == self.lines(7, "b") and not again.replica.comparing.held)
 
-    def test_wrong_lines_in_its_name_stop_nobody(self) -> None:
+    def forge(self) -> None:
         for number in (3, 4):
             put_vote(self.log, "a", LINES, number, b"%d forged\n" % number)
+
+    def test_wrong_lines_in_its_name_stop_nobody(self) -> None:
+        self.forge()
         self.three(8)
         until(lambda: self.lines(3) == self.lines(3, "b") and self.lines(4) == self.lines(4, "b"))
         self.assertTrue(all(one.thread.is_alive() for one in self.running.values()))
@@ -221,7 +250,7 @@ class Following(OverStandIn):
         self.answered(4)
         self.running["a"].stop()
         self.store.there.clear()
-        self.log = made_log(self.store)
+        self.log = made_log(self.store, protocol=self.protocol)
         self.store.put(self.log.keys.log, self.log.settings()._replace(id="f" * 32).text())
         error = self.start().ends()
         self.assertIsInstance(error, OtherHistory)
@@ -231,6 +260,7 @@ class Following(OverStandIn):
         self.start()
         fill(self.log, 4)
         self.answered(4)
+        self.saved_at(4, "a")
         self.store.put(self.log.keys.last, numbered(2))
         self.assertRegex(str(self.running["a"].ends()), "ahead of the log: it has answered record 4, and the log ends with 2")
         self.assertRegex(str(self.start().ends()), "ahead of the log, which ends with record 2")
@@ -268,6 +298,7 @@ class Following(OverStandIn):
 
     def test_one_outside_the_set_follows_and_puts_nothing(self) -> None:
         self.three(5)
+        self.saved_at(4, *SET)
         before = self.store.count(b"L/by/")
         other = self.start("other")
         until(lambda: other.status.answered == 5)
@@ -307,7 +338,6 @@ class Following(OverStandIn):
         self.assertEqual(os.stat(path).st_mode & 0o777, 0o660)
 
     def test_a_full_log_is_waited_for(self) -> None:
-        import ledgerlog.following as following
         before, following.FULL_SECONDS = following.FULL_SECONDS, 0.05
         self.addCleanup(setattr, following, "FULL_SECONDS", before)
         running = self.start()
@@ -315,7 +345,8 @@ class Following(OverStandIn):
         self.answered(1)
         fill(self.log, 1)
         self.store.is_full = True
-        self.store.there.pop(self.log.keys.vote("a", LINES, 2), None)
+        for key in (self.log.keys.vote("a", LINES, 2), self.log.keys.own("a", VOTE)):
+            self.store.there.pop(key, None)
         running.stop()
         self.store.is_full = False
         again = self.start()

@@ -20,7 +20,7 @@ class Folder(unittest.TestCase):
     def save(self, number: int, every: int = 4) -> Save:
         with open(self.saves.new(), "wb") as file:
             file.write(b"MVL2 %d" % number)
-        return self.saves.keep(number, LOG_ID, every)
+        return self.saves.keep(self.saves.new(), number, LOG_ID, every)
 
     def test_a_save_is_named_by_its_number_and_its_log(self) -> None:
         save = self.save(3)

@@ -1,19 +1,23 @@
 import os
+import socket
+import subprocess
 import tempfile
 import threading
 import unittest
 from functools import partial
-from typing import Any, Callable, Dict, List
+from typing import Any, Callable, Dict, List, Optional
 
-from ledgerlog.client import Ledger, Placed, Refused, Unknown
+from ledgerlog.client import Ledger, Placed, Refused, Tls, Unknown
 from ledgerlog.errors import Unreachable
+from ledgerlog.etcd import Access
 from ledgerlog.gathering import Wanted, Writer
 from ledgerlog.keys import LINES
 from ledgerlog.log import Log, Offer
-from ledgerlog.service import Service
+from ledgerlog.service import Port, Service
 from ledgerlog.written import INLINE_BYTES
 
 from .store import Store, made_log, put_vote, run
+from .test_commands import done
 from .test_log import large
 
 
@@ -151,6 +155,115 @@ class Serving(unittest.TestCase):
         self.assertEqual(self.store.get(self.log.keys.used("anyone")), b"40")
 
 
+def certified(folder: str, *names: str) -> None:
+    """An authority, a certificate of it for a service on this machine, and one for each of these submitters."""
+    def openssl(*words: str) -> None:
+        subprocess.run(["openssl", *words], cwd=folder, check=True, stdout=subprocess.DEVNULL, stderr=subprocess.DEVNULL)
+
+    new = ("-newkey", "rsa:2048", "-nodes", "-keyout")
+    openssl("req", "-x509", *new, "ca.key", "-out", "ca.pem", "-days", "2", "-subj", "/O=ca")
+    for name in ("service", *names):
+        use = "subjectAltName=IP:127.0.0.1\nextendedKeyUsage=serverAuth,clientAuth\n" if name == "service" else "extendedKeyUsage=clientAuth\n"
+        with open(os.path.join(folder, "use"), "w", encoding="ascii") as file:
+            file.write(use)
+        openssl("req", *new, f"{name}.key", "-out", f"{name}.csr", "-subj", f"/CN={name}")
+        openssl("x509", "-req", "-in", f"{name}.csr", "-CA", "ca.pem", "-CAkey", "ca.key", "-CAcreateserial", "-days", "2", "-out",
+                f"{name}.pem", "-extfile", "use")
+
+
+class OverTls(unittest.TestCase):
+    """A service that takes submitters of other machines."""
+
+    holder: "tempfile.TemporaryDirectory[str]"
+
+    @classmethod
+    def setUpClass(cls) -> None:
+        cls.holder = tempfile.TemporaryDirectory()
+        certified(cls.holder.name, "alice", "no name")
+
+    @classmethod
+    def tearDownClass(cls) -> None:
+        cls.holder.cleanup()
+
+    def setUp(self) -> None:
+        folder = tempfile.TemporaryDirectory()
+        self.addCleanup(folder.cleanup)
+        self.store = Store()
+        self.log = made_log(self.store, quotas={"alice": 8})
+        self.socket = os.path.join(folder.name, "socket")
+        access = Access(self.file("ca.pem"), self.file("service.pem"), self.file("service.key"))
+        self.service = Service(self.socket, lambda: Log(self.store, "L"), Port("127.0.0.1", 0, access))
+        self.service.start()
+        threading.Thread(target=self.service.serve, daemon=True).start()
+        self.addCleanup(self.service.close)
+        assert self.service.port is not None
+        self.place = f"127.0.0.1:{self.service.port.getsockname()[1]}"
+
+    def file(self, name: str) -> str:
+        return os.path.join(self.holder.name, name)
+
+    def tls(self, name: str) -> Tls:
+        return Tls(self.file("ca.pem"), self.file(f"{name}.pem"), self.file(f"{name}.key"))
+
+    def ledger(self, name: str, seconds: float = 120.0, submitter: str = "bob") -> Ledger:
+        made = Ledger(self.place, submitter, seconds, self.tls(name))
+        self.addCleanup(made.close)
+        return made
+
+    def test_a_submitter_is_who_its_certificate_names(self) -> None:
+        alice = self.ledger("alice")
+        self.assertEqual([alice.submit(run(at)).number for at in (1, 2)], [1, 2])
+        with self.assertRaisesRegex(Refused, "alice has 8 bytes in the log, and may have 8"):
+            alice.submit(run(3))
+        self.assertEqual(self.store.get(self.log.keys.used("alice")), b"8")
+        self.assertIsNone(self.store.get(self.log.keys.used("bob")))
+
+    def test_nobody_else_gets_in(self) -> None:
+        rows = [Ledger(self.place, "bob", 0.5), self.ledger("no name", 0.5)]
+        for ledger in rows:
+            with self.assertRaises(Unknown):
+                ledger.submit(run(1))
+            ledger.close()
+        self.assertEqual(self.log.last(), 0)
+
+    def test_who_says_nothing_or_takes_nothing_holds_up_nobody(self) -> None:
+        host, _, port = self.place.rpartition(":")
+        with socket.create_connection((host, int(port))), socket.create_connection((host, int(port))) as other:
+            other.sendall(b"\x16\x03")
+            self.assertEqual(self.ledger("alice").submit(run(1)).number, 1)
+
+    def submitted(self, record: bytes, *words: str, place: Optional[str] = None) -> "subprocess.CompletedProcess[bytes]":
+        tls = ["--ca", self.file("ca.pem"), "--certificate", self.file("alice.pem"), "--key", self.file("alice.key")] if place is None else []
+        return done(["submit", "--service", place or self.place, *tls, *words, "-"], record)
+
+    def test_submit_is_a_client(self) -> None:
+        it = self.submitted(run(1), "--id", "pay-1")
+        self.assertEqual((it.returncode, it.stdout), (0, b"1\n"), it.stderr)
+        self.assertEqual(self.submitted(run(1), "--id", "pay-1").stdout, b"1\n")
+        self.assertEqual(self.submitted(run(2), "--id", "pay-2").stdout, b"2\n")
+        it = self.submitted(run(3), "--id", "pay-3")
+        self.assertEqual(it.returncode, 3)
+        self.assertIn(b"submit: refused: alice has 8 bytes in the log, and may have 8", it.stderr)
+        it = self.submitted(run(4) + run(5), "--stream", "--as", "carol", place=self.socket)
+        self.assertEqual((it.returncode, it.stdout), (0, b"3\n4\n"), it.stderr)
+        self.assertEqual(self.store.get(self.log.keys.used("carol")), b"8")
+
+    def test_submit_waits_for_final_lines_and_says_what_is_not_known(self) -> None:
+        def vote() -> None:
+            for name in "ab":
+                put_vote(self.log, name, LINES, 1, b"1 returned 5\n")
+
+        threading.Timer(0.5, vote).start()
+        it = self.submitted(run(1), "--wait", place=self.socket)
+        self.assertEqual((it.returncode, it.stdout), (0, b"1\n1 returned 5\n"), it.stderr)
+        it = self.submitted(run(2), "--wait", "--seconds", "1", place=self.socket)
+        self.assertEqual((it.returncode, it.stdout), (1, b"2\n"))
+        self.assertIn(b"record 2 is in the log, and no majority has answered it alike within 1 seconds", it.stderr)
+        it = self.submitted(run(3), "--id", "pay-9", "--seconds", "1", place=self.socket + "-none")
+        self.assertEqual(it.returncode, 1)
+        self.assertIn(b"it isn't known what was put: try again with --id pay-9", it.stderr)
+
+
 class Batches(unittest.TestCase):
     def test_a_transaction_has_no_more_operations_than_it_takes(self) -> None:
         writer = Writer(made_log(Store()))
@@ -160,6 +273,23 @@ class Batches(unittest.TestCase):
         while len(told) < 200:
             writer.put(writer.next())
         self.assertEqual(told, list(range(1, 201)))
+
+    def test_as_many_as_the_nodes_take_and_no_more_bytes(self) -> None:
+        store = Store()
+        store.most_operations = 1024
+        writer = Writer(made_log(store))
+        told: List[Any] = []
+        for at in range(400):
+            writer.waiting.put(Wanted(Offer(f"x{at}", run(at)), f"s{at % 20}", told.append))
+        before = store.revision
+        writer.put(writer.next())
+        self.assertEqual((told, store.revision), (list(range(1, 401)), before + 1))
+        large_ones = [b"\2" + b"\x80\x7d" + bytes(16_000)] * 100
+        for at, record in enumerate(large_ones):
+            writer.waiting.put(Wanted(Offer(f"y{at}", record), "s", told.append))
+        batch = writer.next()
+        self.assertLess(sum(len(one.offer.record) for one in batch), 1_000_000)
+        self.assertEqual(len(batch) + len(writer.left), 100)
 
     def test_in_one_transaction_each_id_is_once_and_a_quota_binds_its_submitter_alone(self) -> None:
         store = Store()

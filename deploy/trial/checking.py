@@ -4,14 +4,14 @@ import subprocess
 from pathlib import Path
 from typing import Dict, List, Tuple
 
-from ledgerlog.keys import LINES
+from ledgerlog.final import Final
 from ledgerlog.log import Log
-from ledgerlog.votes import MOST_COMPARED, Votes, majority
 from ledgerlog.written import Taken
 
 from .processes import Failed, ReplicaProcess, until
 
-SAVE_SECONDS = 60.0
+SAVE_SECONDS = 180.0
+MOST_LINES = 5_000
 
 
 def taken_from(log: Log, first: int = 1) -> List[Taken]:
@@ -44,19 +44,13 @@ def applied(program: str, records: List[bytes], folder: Path) -> Tuple[Path, Lis
 
 def final_lines(log: Log, last: int) -> List[bytes]:
     """What is final for the records from 1 on. Failed where something isn't."""
-    votes = Votes(log.etcd, log.keys, log.settings().replicas)
+    final = Final(log.etcd, log.keys, log.settings())
     lines: List[bytes] = []
     while len(lines) < last:
-        first = len(lines) + 1
-        end = min(last, first + MOST_COMPARED - 1)
-        found = votes.since([(name, LINES, first, end) for name in votes.replicas])
-        there = [{vote.number: vote.value for vote in one} for one in found]
-        for number in range(first, end + 1):
-            given = {name: one[number] for name, one in zip(votes.replicas, there) if number in one}
-            value = majority(LINES, given, len(votes.replicas))
-            if value is None:
-                raise Failed(f"record {number} isn't answered by a majority: {given}")
-            lines.append(value)
+        found = final.lines(len(lines) + 1, min(MOST_LINES, last - len(lines)))
+        if not found:
+            raise Failed(f"record {len(lines) + 1} isn't answered by a majority: {final.votes()}")
+        lines += found
     return lines
 
 

@@ -3,7 +3,9 @@
 import os
 from typing import List
 
-from ledgerlog.keys import LINES
+from ledgerlog.chains import START, ChainVote, Point, Told, told_in
+from ledgerlog.keys import TOLD, VOTE
+from ledgerlog.requests import after
 
 from .processes import DEPLOY, Failed, ReplicaProcess, done, until
 from .stage import PATIENCE, Stage
@@ -57,8 +59,7 @@ def wrong_program(stage: Stage, name: str) -> str:
     before = len(wrong.told())
     again = stage.again(name, "--again")
     stage.all_answered(stage.feed(10))
-    votes = stage.votes()
-    until(lambda: len(set(votes.of(LINES, number).values())) == 1, PATIENCE, f"{name} has put what the others have put, too")
+    stage.all_answered(number)
     again.check()
     if "set aside" not in again.told()[before:] and not again.saves():
         raise Failed(f"{name} says {again.told()[before:]}")
@@ -66,35 +67,52 @@ def wrong_program(stage: Stage, name: str) -> str:
             "back by --again")
 
 
+def forge(stage: Stage, name: str, first: int, last: int) -> None:
+    """Puts a wrong vote on all records up to one in a replica's name, and wrong lines from another one on."""
+    keys, etcd = stage.log.keys, stage.log.etcd
+    lines = [b"%d returned 999\n" % number for number in range(first, last + 1)]
+    etcd.put(keys.vote(name, TOLD, first), Told(first, START, lines).value())
+    etcd.put(keys.own(name, VOTE), ChainVote(Point(last, b"\1" * 32), Point(last, b"\1" * 32), last).text())
+
+
 def forged_lines(stage: Stage, name: str) -> str:
-    """Puts wrong lines under the next numbers in a replica's name: the right ones have to be answered, and nobody to stop."""
+    """Puts wrong votes and lines in a replica's name, on records to come and on some that it has answered: the right ones have to be
+    answered, and nobody to stop."""
     first = stage.log.last() + 1
-    numbers = range(first, first + 5)
-    for number in numbers:
-        stage.log.etcd.put(stage.log.keys.vote(name, LINES, number), b"%d returned 999\n" % number)
-    answers: List[str] = [stage.submit(stage.given.fresh_mint())[1] for _ in numbers]
+    forge(stage, name, first, first + 4)
+    answers: List[str] = [stage.submit(stage.given.fresh_mint())[1] for _ in range(5)]
+    stage.all_answered(first + 4)
+    forge(stage, name, first, first + 4)
+    stage.replicas[name].says("others than it made stand under this replica's own name")
+    answers += [stage.submit(stage.given.fresh_mint())[1] for _ in range(5)]
     wrong = [lines for lines in answers if "999" in lines]
     if wrong:
         raise Failed(f"submit printed forged lines: {wrong}")
-    votes = stage.votes()
-    until(lambda: all(len(set(votes.of(LINES, number).values())) == 1 for number in numbers), PATIENCE,
-          f"{name} puts its own lines in the place of the forged ones")
+    stage.all_answered(first + 9)
     stage.check_running()
-    return (f"wrong lines in {name}'s name under the next {len(answers)} numbers: submit printed the right ones, {name} replaced "
-            "them, nobody stopped")
+    return (f"wrong votes and lines in {name}'s name, on records to come and on answered ones: submit printed the right ones, {name} voted "
+            "again, nobody stopped")
 
 
-def verified(stage: Stage, name: str) -> str:
-    """Has the log answered again, before and after one line is altered in a replica's name."""
+def verified(stage: Stage) -> str:
+    """Has the log answered again, before and after one line is altered that a replica has told."""
     told = stage.verify()
-    number = stage.random.randrange(1, stage.log.last() + 1)
-    key = stage.log.keys.vote(name, LINES, number)
-    before = stage.log.etcd.get(key)
-    stage.log.etcd.put(key, b"%d returned 999\n" % number)
-    stage.verify(LOOK, f"{name} differs 1 times")
-    assert before is not None
-    stage.log.etcd.put(key, before)
-    return f"--verify: {told}; with one line altered under record {number} it names {name}"
+    etcd, keys = stage.log.etcd, stage.log.keys
+    entries = [(entry, lines) for name in stage.replicas for entry in etcd.range(keys.by(name, TOLD), after(keys.by(name, TOLD)), 0).entries
+               for lines in [told_in(entry)] if lines is not None and b"999" not in entry.value]
+    entry, lines = stage.random.choice(entries)
+    number = stage.random.randrange(lines.first, lines.last() + 1)
+    # Others may have told it too.
+    for other, those in entries:
+        if those.first <= number <= those.last():
+            etcd.delete(other.key, other.key + b"\0")
+    altered = [b"%d returned 999\n" % at if at == number else one for at, one in enumerate(lines.lines, lines.first)]
+    etcd.put(entry.key, lines._replace(lines=altered).value())
+    stage.verify(LOOK, f"the lines of record {number}: it has put '{number} returned 999")
+    for other, _ in entries:
+        etcd.put(other.key, other.value)
+    stage.verify()
+    return f"--verify: {told}; with one line altered under record {number} it says so"
 
 
 def newcomer(stage: Stage) -> str:
@@ -115,5 +133,5 @@ def differing(stage: Stage) -> List[str]:
     """All of this on one ledger."""
     stage.make()
     first, _, _ = stage.start()
-    return [flipped_save(stage, first), wrong_program(stage, "second"), forged_lines(stage, "third"), verified(stage, "first"),
+    return [flipped_save(stage, first), wrong_program(stage, "second"), forged_lines(stage, "third"), verified(stage),
             newcomer(stage)]

@@ -6,7 +6,7 @@ from pathlib import Path
 from typing import Dict, List
 
 from ledgerlog.client import Ledger
-from ledgerlog.keys import LINES, size_in
+from ledgerlog.keys import size_in
 from ledgerlog.log import Offer
 
 from .checking import check_whole, taken_from
@@ -110,7 +110,7 @@ def served(stage: Stage) -> List[str]:
             raise Failed(f"{clients.count()} of {len(records)} records are put: {clients.errors}")
         checked(stage, clients, before + len(records) + others, sum(map(len, records)))
         placed = Ledger(str(services.socket)).submit(stage.given.fresh_mint(), wait=True)
-        if placed.lines != stage.votes().final(LINES, placed.number) or services.started.stop() != 0:
+        if placed.lines != stage.line(placed.number) or services.started.stop() != 0:
             raise Failed(f"the service tells {placed.lines!r} as the lines of record {placed.number}, or doesn't stop")
     finally:
         services.close()

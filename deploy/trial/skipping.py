@@ -4,7 +4,6 @@ import os
 from pathlib import Path
 from typing import List
 
-from ledgerlog.keys import LINES
 from ledgerlog.log import Offer
 
 from .checking import check_whole
@@ -29,10 +28,9 @@ def stuck(stage: Stage) -> int:
     list(stage.log.append(offers, "trial", stage.log.settings()))
     for name in NAMES:
         until(lambda: stage.replicas[name].status().get("stuck at record") == str(number), PATIENCE, f"{name} names record {number}")
-    votes = stage.votes()
-    until(lambda: votes.final(LINES, number - 1), PATIENCE, "the lines before it are final")
-    if votes.of(LINES, number):
-        raise Failed(f"record {number} is answered: {votes.of(LINES, number)}")
+    until(lambda: stage.line(number - 1), PATIENCE, "the lines before it are final")
+    if stage.final().answered_by(number):
+        raise Failed(f"record {number} is answered by {stage.final().answered_by(number)}")
     return number
 
 
@@ -43,8 +41,8 @@ def skipped(stage: Stage) -> List[str]:
     done("log", *stage.words("keeper"), "skip", number, "--reason", "too much for all")
     last = stage.log.last()
     stage.all_answered(last)
-    if stage.votes().final(LINES, number) != b"%d skipped asked\n" % number:
-        raise Failed(f"record {number} is answered {stage.votes().final(LINES, number)!r}")
+    if stage.line(number) != b"%d skipped asked\n" % number:
+        raise Failed(f"record {number} is answered {stage.line(number)!r}")
     stage.check_running()
     check_whole(stage.log, stage.program, stage.folder, last)
     for name in NAMES:

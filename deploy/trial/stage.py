@@ -5,9 +5,8 @@ from pathlib import Path
 from typing import Dict, List, NamedTuple, Optional, Sequence, Tuple
 
 from ledgerlog.etcd import Access, Etcd
-from ledgerlog.keys import LINES
+from ledgerlog.final import Final
 from ledgerlog.log import Log, Offer
-from ledgerlog.votes import Votes
 
 from .given import Given
 from .processes import NODES, Node, ReplicaProcess, command, done, end_all, free_ports, until
@@ -117,18 +116,27 @@ class Stage:
         self.put.append(record)
         return int(number), lines
 
-    def votes(self) -> Votes:
-        return Votes(self.log.etcd, self.log.keys, self.log.settings().replicas)
+    def final(self) -> Final:
+        return Final(self.log.etcd, self.log.keys, self.log.settings())
+
+    def line(self, number: int) -> Optional[bytes]:
+        """The final lines of a record; None where there are none yet."""
+        return next(iter(self.final().lines(number, 1)), None)
 
     def answered(self, number: int) -> bytes:
         """Waits until the lines of a record are final."""
-        votes = self.votes()
-        return bytes(until(lambda: votes.final(LINES, number), ANSWER_SECONDS, f"record {number} of {self.ledger} is answered"))
+        return bytes(until(lambda: self.line(number), ANSWER_SECONDS, f"record {number} of {self.ledger} is answered"))
 
     def all_answered(self, number: int) -> None:
-        """Waits until every replica of the set has put lines for a record."""
-        votes = self.votes()
-        until(lambda: len(votes.of(LINES, number)) == len(votes.replicas), ANSWER_SECONDS, f"all have answered record {number}")
+        """Waits until every replica of the set has voted on a record, alike."""
+        def is_answered() -> bool:
+            final = self.final()
+            if not final.settings.is_chaining():
+                return len(final.answered_by(number)) == len(final.replicas)
+            walked = final.walked(number, 1)
+            return walked is not None and all(walked.on.get(name, 0) >= number for name in final.replicas)
+
+        until(is_answered, ANSWER_SECONDS, f"all have answered record {number} alike")
 
     def saved(self, name: str, number: int) -> None:
         """Waits until a replica has saved behind a record."""

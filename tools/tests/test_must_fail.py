@@ -1,14 +1,19 @@
 """The functions of a file, as the scripts find them for the must-fail edits, and what a check says of their proofs."""
 
+import os
+import shutil
 import sys
+import tempfile
 import unittest
+from pathlib import Path
+from typing import List
 
 from . import TOP
 
 sys.path.insert(0, str(TOP / "scripts"))
 
 from edits_listed import clauses  # noqa: E402
-from edits_over import owner_of  # noqa: E402
+from edits_over import PARTS, Libraries, owner_of  # noqa: E402
 from must_fail import complaints, functions_of  # noqa: E402
 
 TRAIT = """/// What is known.
@@ -145,6 +150,40 @@ class Owners(unittest.TestCase):
 
     def test_a_function_of_no_type(self) -> None:
         self.assertEqual(owner_of(["fn call() {}"], 0), ("", ""))
+
+
+class OfTheseSources(unittest.TestCase):
+    """Edits are tried over libraries of the text of today alone."""
+
+    def setUp(self) -> None:
+        self.room = Path(tempfile.mkdtemp())
+        self.addCleanup(shutil.rmtree, self.room)
+        self.crate = self.room / "crates/mv_edges"
+        for below in "mv_move_types", "mv_edges":
+            for part in PARTS:
+                if (TOP / "crates" / below / part).is_dir():
+                    shutil.copytree(TOP / "crates" / below / part, self.room / "crates" / below / part)
+            (self.room / f"crates/{below}/out/rlib/{below}.rlib").mkdir(parents=True)
+
+    def lacking(self) -> List[str]:
+        return Libraries(self.room, self.room).lacking({"mv_ways"})
+
+    def test_a_library_of_the_same_sources_serves(self) -> None:
+        self.assertEqual(self.lacking(), [])
+
+    def test_a_library_of_another_text_does_not(self) -> None:
+        with open(self.crate / "src/lib.rt", "a", encoding="utf-8") as file:
+            file.write("// Another line.\n")
+        os.utime(self.crate / "src/lib.rt", (0, 0))
+        self.assertEqual(self.lacking(), ["mv_edges"])
+
+    def test_nor_does_one_that_is_older_than_its_sources(self) -> None:
+        os.utime(self.crate / "out/rlib/mv_edges.rlib", (0, 0))
+        self.assertEqual(self.lacking(), ["mv_edges"])
+
+    def test_nor_one_that_is_gone(self) -> None:
+        shutil.rmtree(self.crate / "out")
+        self.assertEqual(self.lacking(), ["mv_edges"])
 
 
 class Clauses(unittest.TestCase):

@@ -15,7 +15,8 @@ use Rattle.mv_edges.specs.Ascending.{are_ascending}
 use Rattle.mv_lattice.specs.Flow.{IsRisen}
 use Rattle.mv_lattice.specs.Work.{HasLarge, HasChain}
 use Rattle.mv_certificate_rules.specs.LocalsRules.{locals_leq}
-use Rattle.mv_locals_safety.specs.Domain.{IsOfLocals}
+use Rattle.mv_locals_safety.specs.Domain.{IsOfLocals, locals_order}
+use Rattle.mv_borrow_graph.specs.Domain.{edges_order}
 use Rattle.mv_certificate_rules.proofs.LocalsOrder.{leq_reflexive}
 use Rattle.mv_certificate_rules.specs.BorrowRules.{is_reference_token}
 use Rattle.mv_certificate_rules.specs.Nodes.{leads_in, edge_is_there, may_begin_with, are_few}
@@ -64,7 +65,7 @@ module _ (P : List Availability → Type 0) where
       ⊎_elim (λ h. omega (arith, h, low)) (λ e. absurd (r.1.1.2 (subst (λ x. Leq x r.1.0) e (leq_reflexive r.1.0)))) (grows r.1.0 s r.1.1.1)
 
 -- availabilities of so few locals do not rise so often
-pub few_rises : (m : Module) (d : FunctionDefinition) → local_count m d ≤ 64 → HasChain (IsOfLocals m d) (λ s. ⊤) (λ a b. IsTrue (locals_leq a b)) → ⊥
+pub few_rises : (m : Module) (d : FunctionDefinition) → local_count m d ≤ 64 → HasChain (locals_order m d) → ⊥
 few_rises m d few chain =
     let is = (risen_has (λ s. IsOfLocals m d s × ⊤) Leq 256 chain.0 chain.1).0 in
     let h = risen_few (λ s. IsOfLocals m d s × ⊤) 256 chain.0 chain.1 in
@@ -96,8 +97,8 @@ unfolding IsRisen
 never_risen m d plain n s r = r.1.1.2 (subst (λ x. edges_leq x r.1.0 ≡ true) (sym (no_edges m d plain s r.0.1)) refl)
 
 -- such edges are few, and do not rise
-pub never_large : (m : Module) (d : FunctionDefinition) → HasPlainLocals m d → HasLarge (λ s. IsTrue (are_ascending s)) (λ s. IsTrue (may_begin_with m d s)) (λ s. IsTrue (are_few s)) → ⊥
+pub never_large : (m : Module) (d : FunctionDefinition) → HasPlainLocals m d → HasLarge (edges_order m d) → ⊥
 never_large m d plain large = large.1.1.1 (subst (λ x. are_few x ≡ true) (sym (no_edges m d plain large.0 large.1.1.0)) refl)
 
-pub never_rises : (m : Module) (d : FunctionDefinition) → HasPlainLocals m d → HasChain (λ s. IsTrue (are_ascending s)) (λ s. IsTrue (may_begin_with m d s)) (λ a b. IsTrue (edges_leq a b)) → ⊥
+pub never_rises : (m : Module) (d : FunctionDefinition) → HasPlainLocals m d → HasChain (edges_order m d) → ⊥
 never_rises m d plain chain = never_risen m d plain 255 chain.0 chain.1

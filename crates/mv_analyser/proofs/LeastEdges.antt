@@ -1,27 +1,26 @@
 -- What is stated of a function, with the least edges, fits it, and holds.
-use Rattle.std.proofs.Common.{◌≡◌, ◌==◌, ℕ, zero, suc, Bool, true, false, not, ◌&&◌, List, [], ◌∷◌, ◌++◌, length, map, take, drop, get_or, ◌<◌, ◌+◌}
+use Rattle.std.proofs.Common.{◌≡◌, ◌==◌, ℕ, zero, suc, Bool, true, false, not, ◌&&◌, List, [], ◌∷◌, ◌++◌, length, map, drop, get_or, ◌<◌, ◌+◌}
 use Rattle.std.proofs.Common.{Option, Some, None, IsSome, is_some, option_map, slice_get, nat_le, IsTrue, refl, sym, ap, ◌∙◌, subst, arith}
 use Rattle.std.proofs.Common.{true≢false}
 use Rattle.std.specs.List.{list_all}
 use Rattle.std.specs.Option.{option_map_or}
-use Rattle.std.specs.Prelude.{⊤, nat_lt}
+use Rattle.std.specs.Prelude.{⊤}
 use Rattle.std.proofs.lemmas.Bool.{and_parts, and_from}
-use Rattle.std.proofs.lemmas.List.{length-map}
-use Rattle.std.proofs.lemmas.Option.{same_Some}
-use Rattle.mv_move_types.specs.declared.borrow.Node.{Node}
-use Rattle.mv_move_types.specs.declared.borrow.Node.TheVariants.{Slot, Own, Glob, Temp}
+use Rattle.std.proofs.lemmas.List.{append-nil, append_assoc, length_push}
+use Rattle.std.proofs.lemmas.Option.{same_Some, slice_get_within}
 use Rattle.mv_move_types.specs.Module.{Module, FunctionDefinition, StructDefinition, local_tokens}
 use Rattle.mv_cfg.specs.declared.Cfg.{Cfg}
 use Rattle.mv_cfg.specs.Blocks.{blocks}
-use Rattle.mv_cfg.specs.FlowGraph.{IsFlowGraph, basic_block_of}
+use Rattle.mv_cfg.specs.FlowGraph.{IsFlowGraph}
 use Rattle.mv_type_rules.specs.TypesHold.{function_is_typed, point_at}
 use Rattle.mv_lattice.specs.Flow.{IsFlow, IsClosed, IsStated, IsFlowBelow}
+use Rattle.mv_lattice.specs.Order.{Order}
 use Rattle.mv_lattice.specs.Work.{AllStated}
 use Rattle.mv_certificate_rules.specs.LocalsRules.{locals_after, locals_leq}
-use Rattle.mv_edges.specs.Edges.{Edge, same_node, edges_leq}
+use Rattle.mv_edges.specs.Edges.{Edge, edges_leq}
 use Rattle.mv_edges.specs.Ascending.{are_ascending}
 use Rattle.mv_certificate_rules.specs.BorrowRules.{is_reference_token}
-use Rattle.mv_borrow_graph.specs.Domain.{edges_step}
+use Rattle.mv_borrow_graph.specs.Domain.{edges_order}
 use Rattle.mv_certificate_rules.specs.Nodes.{edge_is_there, may_begin_with, are_few, IsGraphOf}
 use Rattle.mv_certificate_rules.specs.Certificate.{Known, Stated, flow_holds, known_at_start}
 use Rattle.mv_certificate.specs.Functions.{LocalsHoldAt, EdgesHoldAt}
@@ -76,22 +75,54 @@ with_these (None ∷ ss) (Some e ∷ es) p = absurd (true≢false (sym p.0))
 with_these (Some k ∷ ss) (None ∷ es) p = absurd (true≢false p.0)
 with_these (Some k ∷ ss) (Some e ∷ es) p = ap (λ r. Some e ∷ r) (with_these ss es p.1)
 
--- one more of them
-pub with_more : (ss : Stated) (es : List (Option (List Edge))) (i : ℕ) (k : Option Known) (e : Option (List Edge)) → i < length ss → i < length es
-    → with_edges (take (i + 1) ss) (take (i + 1) es) ≡ with_edges (take i ss) (take i es) ++ known_with (get_or ss i k) (get_or es i e) ∷ []
-with_more [] es i k e h g = absurd (omega arith)
-with_more (s ∷ ss) [] i k e h g = absurd (omega arith)
-with_more (s ∷ ss) (x ∷ es) zero k e h g = refl
-with_more (s ∷ ss) (x ∷ es) (suc i) k e h g =
-    let next : suc i + 1 ≡ suc (i + 1) = omega arith in
-    ap (λ n. with_edges (take n (s ∷ ss)) (take n (x ∷ es))) next ∙ ap (λ r. known_with s x ∷ r) (with_more ss es i k e (omega arith) (omega arith))
+with_none : (ss : Stated) → with_edges ss [] ≡ []
+with_none [] = refl
+with_none (k ∷ ss) = refl
 
--- the same of what was read of both lists
-pub with_next : (blocks new ss : Stated) (es : List (Option (List Edge))) (i : ℕ) (x : Option Known) (e : Option (List Edge)) → new ≡ blocks ++ x ∷ [] → x ≡ known_with (get_or ss i None) e
-    → i < length ss → i < length es → e ≡ get_or es i e → blocks ≡ with_edges (take i ss) (take i es) → new ≡ with_edges (take (i + 1) ss) (take (i + 1) es)
-with_next blocks new ss es i x e pushed made low high read before =
-    let x_is : x ≡ known_with (get_or ss i None) (get_or es i e) = made ∙ ap (known_with (get_or ss i None)) read in
-    pushed ∙ ap (λ z. z ++ x ∷ []) before ∙ ap (λ z. with_edges (take i ss) (take i es) ++ z ∷ []) x_is ∙ sym (with_more ss es i None e low high)
+-- what is stated at a place, and after it
+stated_there : (ss : Stated) (n m : ℕ) → length (drop n ss) ≡ suc m → (s : Option Known) × ((slice_get ss n ≡ Some s) × (drop n ss ≡ s ∷ drop (n + 1) ss))
+stated_there [] zero m h = absurd (omega (arith, h))
+stated_there [] (suc n) m h = absurd (omega (arith, h))
+stated_there (s ∷ ss) zero m h = (s, (refl, refl))
+stated_there (s ∷ ss) (suc n) m h =
+    let rest = stated_there ss n m h in
+    let next : suc n + 1 ≡ suc (n + 1) = omega arith in
+    (rest.0, (rest.1.0, rest.1.1 ∙ ap (λ k. rest.0 ∷ drop k (s ∷ ss)) (sym next)))
+
+-- some blocks have their edges, and those that are left make the whole with the edges that are left
+pub record IsLeft (ss blocks : Stated) (left : List (Option (List Edge))) (whole : Stated) : Type 0 where
+  pub long : length (drop (length blocks) ss) ≡ length left
+  pub same : blocks ++ with_edges (drop (length blocks) ss) left ≡ whole
+
+pub left_first : (ss blocks : Stated) (left es : List (Option (List Edge))) → blocks ≡ [] → left ≡ es → length es ≡ length ss → IsLeft ss blocks left (with_edges ss es)
+left_first ss blocks left es none is long =
+    subst (λ bs. IsLeft ss bs left (with_edges ss es)) (sym none) (subst (λ xs. IsLeft ss [] xs (with_edges ss es)) (sym is) (record { long = sym long; same = refl }))
+
+module _ (ss blocks : Stated) (left coming : List (Option (List Edge))) (e : Option (List Edge)) (whole : Stated) (is : IsLeft ss blocks coming whole) (taken : coming ≡ e ∷ left) where
+  here : (s : Option Known) × ((slice_get ss (length blocks) ≡ Some s) × (drop (length blocks) ss ≡ s ∷ drop (length blocks + 1) ss))
+  here = stated_there ss (length blocks) (length left) (is.long ∙ ap length taken)
+
+  pub left_low : length blocks < length ss
+  left_low = slice_get_within ss (length blocks) here.0 here.1.0
+
+  pub left_next : (new : Stated) (k : Option Known) → ((known : Option Known) → slice_get ss (length blocks) ≡ Some known → k ≡ known_with known e) → new ≡ blocks ++ k ∷ [] → IsLeft ss new left whole
+  left_next new k made pushed =
+      let behind : drop (length new) ss ≡ drop (length blocks + 1) ss = ap (λ n. drop n ss) (ap length pushed ∙ length_push blocks k) in
+      let all : length (drop (length blocks) ss) ≡ suc (length left) = is.long ∙ ap length taken in
+      let one : length (drop (length blocks) ss) ≡ suc (length (drop (length blocks + 1) ss)) = ap length here.1.1 in
+      record {
+        long = ap length behind ∙ omega (arith, all, one);
+        same =
+            ap (λ z. z ++ with_edges (drop (length new) ss) left) pushed ∙ append_assoc blocks (k ∷ []) (with_edges (drop (length new) ss) left)
+            ∙ ap (λ z. blocks ++ z)
+            (ap (λ x. x ∷ with_edges (drop (length new) ss) left) (made here.0 here.1.0) ∙ ap (λ d. known_with here.0 e ∷ with_edges d left) behind ∙ ap (λ d. with_edges d (e ∷ left)) (sym here.1.1)
+            ∙ ap (with_edges (drop (length blocks) ss)) (sym taken))
+            ∙ is.same;
+      }
+
+pub left_done : (ss blocks : Stated) (left : List (Option (List Edge))) (whole : Stated) → IsLeft ss blocks left whole → left ≡ [] → blocks ≡ whole
+left_done ss blocks left whole is none =
+    sym (append-nil blocks) ∙ ap (λ z. blocks ++ z) (sym (ap (with_edges (drop (length blocks) ss)) none ∙ with_none (drop (length blocks) ss))) ∙ is.same
 
 -- ---- the shape
 
@@ -134,9 +165,6 @@ with_shape m d (Some k ∷ ss) (Some e ∷ es) h each =
 
 -- ---- a function at a place
 
-abbrev Ascend : List Edge → Type 0
-Ascend s = IsTrue (are_ascending s)
-
 module _ (m m' : Module) (f : ℕ) (d d' : FunctionDefinition) (g : Cfg) (home : m' ≡ m) (at : slice_get m.functions f ≡ Some d) (at' : slice_get m.functions f ≡ Some d')
     (fg : IsFlowGraph d.code g) (typed : IsTrue (function_is_typed m d))
   where
@@ -153,12 +181,9 @@ module _ (m m' : Module) (f : ℕ) (d d' : FunctionDefinition) (g : Cfg) (home :
     pub plain_locals : IsSimpleAt m f → HasPlainLocals m' d'
     plain_locals simple = subst (λ z. HasPlainLocals z d') (sym home) (simple d' at')
 
-    pub blocks_counted : (old : Stated) → FitsAt m f old → length old ≡ length g.blocks.items
-    blocks_counted old fits = (fits d at).long ∙ ap length (sym fg.basic_blocks) ∙ length-map g.blocks.items (basic_block_of g)
-
-    module _ (v : List (Option (List Edge))) (old stated : Stated) (is : stated ≡ with_edges old v) (fits : FitsAt m f old) (flow : IsFlow Ascend g v) where
+    module _ (v : List (Option (List Edge))) (old stated : Stated) (is : stated ≡ with_edges old v) (fits : FitsAt m f old) (flow : IsFlow (edges_order m' d') g v) where
       pairs : Paired old v
-      pairs = paired old v (marks-fit m d g old fg (fits d at) ∙ sym (flow-marks Ascend g (length d.code) v fg.graph flow))
+      pairs = paired old v (marks-fit m d g old fg (fits d at) ∙ sym (flow-marks (edges_order m' d') g (length d.code) v fg.graph flow))
 
       pub edges_fit : AllStated (λ s. IsTrue (may_begin_with m' d' s)) v → AllStated (λ s. IsTrue (are_few s)) v → FitsAt m f stated
       edges_fit begin few =
@@ -174,7 +199,7 @@ module _ (m m' : Module) (f : ℕ) (d d' : FunctionDefinition) (g : Cfg) (home :
           subst (LocalsHoldAt m f) (sym is)
           (λ x e. subst (λ z. option_map_or (λ (start : Known). flow_holds locals_after locals_leq m x start.locals z) (known_at_start m x) false ≡ true) (sym (with_locals old v pairs)) (holds x e))
 
-      pub edges_hold_there : (start : List Edge) → start ≡ [] → IsSome (known_at_start m d) → IsClosed (λ a b. IsTrue (edges_leq a b)) (edges_step m' d') g start v → EdgesHoldAt m f stated
+      pub edges_hold_there : (start : List Edge) → start ≡ [] → IsSome (known_at_start m d) → IsClosed (edges_order m' d') g start v → EdgesHoldAt m f stated
       edges_hold_there start none known closed =
           subst (EdgesHoldAt m f) (sym is)
           ((edges_exact_at m m' f d d' g (with_edges old v) home at at' fg typed start v none known (sym (with_these old v pairs)) flow).0 closed)
@@ -184,29 +209,29 @@ module _ (m m' : Module) (f : ℕ) (d d' : FunctionDefinition) (g : Cfg) (home :
           subst (λ z. IsFlowBelow (λ a b. IsTrue (locals_leq a b)) z (stated_locals other)) (sym (ap stated_locals is ∙ with_locals old v pairs)) (least other fit holds)
 
       pub edges_are_least : (start : List Edge) → start ≡ [] → IsSome (known_at_start m d)
-          → ((w : List (Option (List Edge))) → IsFlow Ascend g w → IsClosed (λ a b. IsTrue (edges_leq a b)) (edges_step m' d') g start w → IsFlowBelow (λ a b. IsTrue (edges_leq a b)) v w)
+          → ((w : List (Option (List Edge))) → IsFlow (edges_order m' d') g w → IsClosed (edges_order m' d') g start w → IsFlowBelow (λ a b. IsTrue (edges_leq a b)) v w)
           → HasLeastEdges m f stated
       edges_are_least start none known least = λ other fit holds.
           let all : List (Option (List Edge)) = stated_edges other in
-          let other_flow = edges-flow-at m f d g other all at fg fit refl in
+          let other_flow = edges-flow-at m m' f d d' g other all home at at' fg fit refl in
           let below = least all other_flow ((edges_exact_at m m' f d d' g other home at at' fg typed start all none known refl other_flow).1 holds) in
           subst (λ z. IsFlowBelow (λ a b. IsTrue (edges_leq a b)) z all) (sym (ap stated_edges is ∙ with_these old v pairs)) below
 
     -- where there is no closed flow, no edges hold
     pub no_edges_hold : (start : List Edge) → start ≡ [] → IsSome (known_at_start m d)
-        → ((flow : List (Option (List Edge))) → IsFlow Ascend g flow → IsClosed (λ a b. IsTrue (edges_leq a b)) (edges_step m' d') g start flow → ⊥)
+        → ((flow : List (Option (List Edge))) → IsFlow (edges_order m' d') g flow → IsClosed (edges_order m' d') g start flow → ⊥)
         → (stated : Stated) → FitsAt m f stated → EdgesHoldAt m f stated → ⊥
     no_edges_hold start none known never stated fits holds =
         let all : List (Option (List Edge)) = map (option_map (λ k. k.edges)) stated in
-        let flow = edges-flow-at m f d g stated all at fg fits refl in
+        let flow = edges-flow-at m m' f d d' g stated all home at at' fg fits refl in
         never all flow ((edges_exact_at m m' f d d' g stated home at at' fg typed start all none known refl flow).1 holds)
 
     -- how the search ends in the domain's function, it ends in the function at the place
-    pub edges_end : (Q : (ℕ → List Edge → Option (List Edge)) → Cfg → List Edge → Type 0) → (start : List Edge) → start ≡ [] → Q (edges_step m' d') g start → HoldsAt (λ x h. Q (edges_step m x) h []) m f
+    pub edges_end : (Q : Order (List Edge) → Cfg → List Edge → Type 0) → (start : List Edge) → start ≡ [] → Q (edges_order m' d') g start → HoldsAt (λ x h. Q (edges_order m x) h []) m f
     edges_end Q start none holds = record {
       function = d;
       at = at;
       graph = g;
       is_graph = fg;
-      holds = subst (λ s. Q (edges_step m d) g s) none (subst (λ z. Q (edges_step m z) g start) same (subst (λ z. Q (edges_step z d') g start) home holds));
+      holds = subst (λ s. Q (edges_order m d) g s) none (subst (λ z. Q (edges_order m z) g start) same (subst (λ z. Q (edges_order z d') g start) home holds));
     }

@@ -1,6 +1,6 @@
 -- The least availabilities of a function fit it, and hold.
-use Rattle.std.proofs.Common.{◌≡◌, ◌==◌, ℕ, zero, suc, true, false, ◌&&◌, List, [], ◌∷◌, ◌++◌, length, map, take, get_or, ◌<◌, ◌≤◌, ◌+◌, Option, Some}
-use Rattle.std.proofs.Common.{None, is_some, option_map, slice_get, nat_le, IsTrue, Err, IsErrOf, refl, sym, ap, ◌∙◌, subst, arith, eq-eqb}
+use Rattle.std.proofs.Common.{◌≡◌, ◌==◌, ℕ, suc, true, false, ◌&&◌, List, [], ◌∷◌, length, map, ◌≤◌, Option, Some}
+use Rattle.std.proofs.Common.{None, is_some, option_map, slice_get, nat_le, IsTrue, Err, IsErrOf, refl, sym, ap, ◌∙◌, subst, eq-eqb}
 use Rattle.std.specs.List.{list_all}
 use Rattle.std.specs.Option.{option_map_or}
 use Rattle.std.proofs.lemmas.Bool.{and_from}
@@ -14,10 +14,11 @@ use Rattle.mv_cfg.specs.declared.Cfg.{Cfg}
 use Rattle.mv_cfg.specs.FlowGraph.{IsFlowGraph}
 use Rattle.mv_type_rules.specs.TypesHold.{function_is_typed}
 use Rattle.mv_lattice.specs.Flow.{IsFlow, IsClosed, IsStated, IsFlowBelow}
+use Rattle.mv_lattice.specs.Order.{Order}
 use Rattle.mv_lattice.specs.declared.search.SolveError.{SolveError}
 use Rattle.mv_lattice.specs.declared.search.SolveError.TheVariants.{Need as NeedFails, TooComplex as SearchTooComplex, Memory as MemoryOut}
-use Rattle.mv_certificate_rules.specs.LocalsRules.{locals_leq, start_locals}
-use Rattle.mv_locals_safety.specs.Domain.{IsOfLocals, locals_step}
+use Rattle.mv_certificate_rules.specs.LocalsRules.{start_locals}
+use Rattle.mv_locals_safety.specs.Domain.{IsOfLocals, locals_order}
 use Rattle.mv_certificate_rules.specs.Certificate.{Stated}
 use Rattle.mv_certificate.specs.Functions.{LocalsHoldAt}
 use Rattle.mv_certificate.specs.Reads.{FitsAt}
@@ -43,15 +44,6 @@ pub alone_locals : (v : List (Option (List Availability))) → map (option_map (
 alone_locals [] = refl
 alone_locals (None ∷ v) = ap (λ r. None ∷ r) (alone_locals v)
 alone_locals (Some s ∷ v) = ap (λ r. Some s ∷ r) (alone_locals v)
-
--- one more of them
-pub alone_more : (v : List (Option (List Availability))) (i : ℕ) (d : Option (List Availability)) → i < length v
-    → locals_alone (take (i + 1) v) ≡ locals_alone (take i v) ++ option_map without_edges (get_or v i d) ∷ []
-alone_more [] i d h = absurd (omega arith)
-alone_more (x ∷ v) zero d h = refl
-alone_more (x ∷ v) (suc i) d h =
-    let next : suc i + 1 ≡ suc (i + 1) = omega arith in
-    ap (λ n. locals_alone (take n (x ∷ v))) next ∙ ap (λ r. option_map without_edges x ∷ r) (alone_more v i d (omega arith))
 
 module _ (m : Module) (d : FunctionDefinition) (tokens : List Token) (known : local_tokens m d ≡ Some tokens) where
   one_fits : (s : List Availability) → IsOfLocals m d s → known_fits m d (without_edges s) ≡ true
@@ -82,25 +74,25 @@ module _ (m m' : Module) (f : ℕ) (d d' : FunctionDefinition) (g : Cfg) (home :
   few_locals few = subst (λ z. local_count z d' ≤ 64) (sym home) (subst (λ z. local_count m z ≤ 64) (sym same) few)
 
   -- the least availabilities fit the function
-  pub least_fits : (v : List (Option (List Availability))) (stated : Stated) → stated ≡ locals_alone v → IsFlow (IsOfLocals m' d') g v → FitsAt m f stated
+  pub least_fits : (v : List (Option (List Availability))) (stated : Stated) → stated ≡ locals_alone v → IsFlow (locals_order m' d') g v → FitsAt m f stated
   least_fits v stated is flow =
-      let here : IsFlow (IsOfLocals m d) g v = subst (λ z. IsFlow (IsOfLocals m z) g v) same (subst (λ z. IsFlow (IsOfLocals z d') g v) home flow) in
+      let here : IsFlow (locals_order m d) g v = subst (λ z. IsFlow (locals_order m z) g v) same (subst (λ z. IsFlow (locals_order z d') g v) home flow) in
       let begin1 : start_locals m d ≡ Some start = subst (λ z. start_locals m z ≡ Some start) same (subst (λ z. start_locals z d' ≡ Some start) home begin) in
       let parameters = bind_some (parameter_tokens m d) _ start begin1 in
       let tokens = bind_some (local_tokens m d) _ start parameters.1.1 in
       subst (FitsAt m f) (sym is)
       (at_function m f d (λ x. StatedFits m x (locals_alone v)) at
-      (stated-fits m d g (locals_alone v) fg (alone_marks v ∙ flow-marks (IsOfLocals m d) g (length d.code) v fg.graph here) (alone_fits m d tokens.0 tokens.1.0 v here.states)))
+      (stated-fits m d g (locals_alone v) fg (alone_marks v ∙ flow-marks (locals_order m d) g (length d.code) v fg.graph here) (alone_fits m d tokens.0 tokens.1.0 v here.states)))
 
   -- and they hold
-  pub least_holds : (v : List (Option (List Availability))) (stated : Stated) → stated ≡ locals_alone v → IsFlow (IsOfLocals m' d') g v → IsClosed Leq (locals_step m' d') g start v
+  pub least_holds : (v : List (Option (List Availability))) (stated : Stated) → stated ≡ locals_alone v → IsFlow (locals_order m' d') g v → IsClosed (locals_order m' d') g start v
       → LocalsHoldAt m f stated
   least_holds v stated is flow closed =
       subst (LocalsHoldAt m f) (sym is) ((locals_exact_at m m' f d d' g (locals_alone v) home at at' fg typed start v begin (sym (alone_locals v)) flow).0 closed)
 
   -- and they are below all that fit and hold
   pub least_of_all : (v : List (Option (List Availability))) (stated : Stated) → stated ≡ locals_alone v
-      → ((flow : List (Option (List Availability))) → IsFlow (IsOfLocals m' d') g flow → IsClosed Leq (locals_step m' d') g start flow → IsFlowBelow Leq v flow) → HasLeastLocals m f stated
+      → ((flow : List (Option (List Availability))) → IsFlow (locals_order m' d') g flow → IsClosed (locals_order m' d') g start flow → IsFlowBelow Leq v flow) → HasLeastLocals m f stated
   least_of_all v stated is least = λ other fits holds.
       let all : List (Option (List Availability)) = stated_locals other in
       let flow = locals-flow-at m m' f d d' g other all home at at' fg fits refl in
@@ -109,7 +101,7 @@ module _ (m m' : Module) (f : ℕ) (d d' : FunctionDefinition) (g : Cfg) (home :
       subst (λ z. IsFlowBelow Leq z all) (sym same_states) below
 
   -- where there is no closed flow, none holds
-  pub none_holds : ((flow : List (Option (List Availability))) → IsFlow (IsOfLocals m' d') g flow → IsClosed Leq (locals_step m' d') g start flow → ⊥) → (stated : Stated) → FitsAt m f stated
+  pub none_holds : ((flow : List (Option (List Availability))) → IsFlow (locals_order m' d') g flow → IsClosed (locals_order m' d') g start flow → ⊥) → (stated : Stated) → FitsAt m f stated
       → LocalsHoldAt m f stated → ⊥
   none_holds never stated fits holds =
       let all : List (Option (List Availability)) = map (option_map (λ k. k.locals)) stated in
@@ -117,8 +109,8 @@ module _ (m m' : Module) (f : ℕ) (d d' : FunctionDefinition) (g : Cfg) (home :
       never all flow ((locals_exact_at m m' f d d' g stated home at at' fg typed start all begin refl flow).1 holds)
 
   -- how the search ends in the domain's function, it ends in the function at the place
-  pub locals_end : (Q : (ℕ → List Availability → Option (List Availability)) → Cfg → List Availability → Type 0) → Q (locals_step m' d') g start
-      → HoldsAt (λ x h. (s : List Availability) × ((start_locals m x ≡ Some s) × Q (locals_step m x) h s)) m f
+  pub locals_end : (Q : Order (List Availability) → Cfg → List Availability → Type 0) → Q (locals_order m' d') g start
+      → HoldsAt (λ x h. (s : List Availability) × ((start_locals m x ≡ Some s) × Q (locals_order m x) h s)) m f
   locals_end Q holds = record {
     function = d;
     at = at;
@@ -128,7 +120,7 @@ module _ (m m' : Module) (f : ℕ) (d d' : FunctionDefinition) (g : Cfg) (home :
       start,
       (
         subst (λ z. start_locals m z ≡ Some start) same (subst (λ z. start_locals z d' ≡ Some start) home begin),
-        subst (λ z. Q (locals_step m z) g start) same (subst (λ z. Q (locals_step z d') g start) home holds),
+        subst (λ z. Q (locals_order m z) g start) same (subst (λ z. Q (locals_order z d') g start) home holds),
       ),
     );
   }

@@ -12,7 +12,7 @@
 --   IsProvable m                                some certificate passes phases 10 to 12
 --   PassesCheck m c                             nothing but want of memory refuses the certificate
 -- AllBefore is a part of these.
-use Rattle.std.specs.Prelude.{◌≡◌, ⊤, ℕ, ◌<◌, false, List, [], ◌++◌, length, Option, Some, slice_get, IsTrue}
+use Rattle.std.specs.Prelude.{◌≡◌, ⊤, ℕ, ◌<◌, false, List, [], length, Option, Some, slice_get, IsTrue}
 use Rattle.mv_move_types.specs.declared.borrow.Availability.{Availability}
 use Rattle.mv_move_types.specs.declared.refusal.Refusal.{Refusal}
 use Rattle.mv_move_types.specs.declared.refusal.Refusal.TheVariants.{Memory as OutOfMemory}
@@ -22,13 +22,11 @@ use Rattle.mv_acquires.specs.Acquires.{AcquiresHold}
 use Rattle.mv_cfg.specs.declared.Cfg.{Cfg}
 use Rattle.mv_cfg.specs.FlowGraph.{IsFlowGraph}
 use Rattle.mv_lattice.specs.Search.{EndsWith, MeetsNeed, MeetsLimit}
-use Rattle.mv_certificate_rules.specs.LocalsRules.{locals_leq, start_locals}
-use Rattle.mv_locals_safety.specs.Domain.{joined, locals_step}
-use Rattle.mv_edges.specs.Edges.{Edge, edges_leq}
-use Rattle.mv_edges.specs.Sorted.{sorted}
+use Rattle.mv_certificate_rules.specs.LocalsRules.{start_locals}
+use Rattle.mv_locals_safety.specs.Domain.{locals_order}
+use Rattle.mv_edges.specs.Edges.{Edge}
 use Rattle.mv_certificate_rules.specs.BorrowRules.{is_reference_token}
-use Rattle.mv_borrow_graph.specs.Domain.{edges_step}
-use Rattle.mv_certificate_rules.specs.Nodes.{are_few}
+use Rattle.mv_borrow_graph.specs.Domain.{edges_order}
 use Rattle.mv_certificate.specs.Answers.{IsRefusedByCertificate}
 use Rattle.mv_certificate_rules.specs.Certificate.{Certificate, all_locals_hold, all_edges_hold}
 use Rattle.mv_certificate_rules.specs.Shape.{AllStatedFit}
@@ -56,23 +54,22 @@ pub record HoldsAt (P : FunctionDefinition → Cfg → Type 0) (m : Module) (f :
 -- visited a 257th time, or a state that it would state for a block has more than 1,024 edges or a label of more than 8 positions.
 module _ (m : Module) where
   abbrev pub HasEdges : FunctionDefinition → Cfg → Type 0
-  HasEdges d g = (flow : List (Option (List Edge)))
-      × EndsWith (λ s. IsTrue (are_few s)) (λ a b. IsTrue (edges_leq a b)) (λ a b. sorted (a ++ b)) (edges_step m d) g [] flow
+  HasEdges d g = (flow : List (Option (List Edge))) × EndsWith (edges_order m d) g [] flow
 
   abbrev pub LacksEdges : FunctionDefinition → Cfg → Type 0
-  LacksEdges d g = MeetsNeed (λ s. IsTrue (are_few s)) (λ a b. IsTrue (edges_leq a b)) (λ a b. sorted (a ++ b)) (edges_step m d) g []
+  LacksEdges d g = MeetsNeed (edges_order m d) g []
 
   abbrev pub HasManyEdges : FunctionDefinition → Cfg → Type 0
-  HasManyEdges d g = MeetsLimit (λ s. IsTrue (are_few s)) (λ a b. IsTrue (edges_leq a b)) (λ a b. sorted (a ++ b)) (edges_step m d) g []
+  HasManyEdges d g = MeetsLimit (edges_order m d) g []
 
   -- The search for a function's availabilities, which begins with those that are known at its start. It ends with a flow, or it comes to a need that fails.
   abbrev pub HasLocals : FunctionDefinition → Cfg → Type 0
   HasLocals d g = (start : List Availability) × ((start_locals m d ≡ Some start)
-      × ((flow : List (Option (List Availability))) × EndsWith (λ s. ⊤) (λ a b. IsTrue (locals_leq a b)) joined (locals_step m d) g start flow))
+      × ((flow : List (Option (List Availability))) × EndsWith (locals_order m d) g start flow))
 
   abbrev pub LacksLocals : FunctionDefinition → Cfg → Type 0
   LacksLocals d g = (start : List Availability) × ((start_locals m d ≡ Some start)
-      × MeetsNeed (λ s. ⊤) (λ a b. IsTrue (locals_leq a b)) joined (locals_step m d) g start)
+      × MeetsNeed (locals_order m d) g start)
 
 -- so of the function at a place
 abbrev pub FindsEdges : Module → ℕ → Type 0

@@ -14,9 +14,9 @@ ghost use Rattle.mv_certificate_rules.specs.Certificate.{Known as KnownRecord};
 use crate::{ProveError, error_in};
 use mv_borrow_graph::BorrowDomain;
 use mv_certificate::{Cert, Known, Stated, function_at, function_count, graph_of, has_start};
-use mv_edges::Edges;
-use mv_lattice::{search_is_least, solve_by_passage};
+use mv_lattice::{search_is_least, solve};
 use mv_type_rules::Typed;
+use mv_ways::Borrows;
 use std::alloc::{AllocError, Global};
 
 /// What is stated of a block, with these edges.
@@ -24,28 +24,33 @@ fn known_and(
     alloc: Global,
     stated: &Stated,
     block: usize,
-    edges: &Option<Edges>,
+    edges: Option<Borrows<'_>>,
 ) -> Result<Option<Known>, AllocError>
     requires { block < length stated.now }
-    ensures { (known : Option KnownRecord) → slice_get stated.now block ≡ Some known → IfOk result (λ k. k ≡ known_with known edges.now) }
+    ensures { (known : Option KnownRecord) → slice_get stated.now block ≡ Some known → IfOk result (λ k. k ≡ known_with known edges.entry) }
 {
     match (stated.at(block), edges) {
         (Some((locals, _)), Some(edges)) => Ok(Some(Known {
             locals: locals.copy(alloc)?,
-            edges: edges.copy(alloc)?,
+            edges: edges.into_list(alloc)?,
         })),
         (_, _) => Ok(None),
     }
 }
 
 /// What is stated of a function's blocks, with these edges.
-fn stated_and(alloc: Global, stated: &Stated, edges: &[Option<Edges>]) -> Result<Stated, AllocError>
-    requires { length edges.now ≡ length stated.now }
-    ensures { IfOk result (λ s. s ≡ with_edges stated.now edges.now) }
+fn stated_and(
+    alloc: Global,
+    stated: &Stated,
+    edges: Vec<Option<Borrows<'_>>>,
+) -> Result<Stated, AllocError>
+    requires { length edges.items ≡ length stated.now }
+    ensures { IfOk result (λ s. s ≡ with_edges stated.now edges.entry.items) }
 {
     let mut blocks = Stated::new(alloc);
-    for (k, its) in edges.iter().enumerate() {
-        blocks = blocks.with(known_and(alloc, stated, k, its)?)?;
+    for its in edges {
+        let known = known_and(alloc, stated, blocks.len(), its)?;
+        blocks = blocks.with(known)?;
     }
     Ok(blocks)
 }
@@ -79,14 +84,14 @@ fn state_edges(
     ensures ends { IfErr result (EndsEdges m.now f) }
 {
     let domain = BorrowDomain::of_function(m, f);
-    let start = domain.start(alloc);
+    let start = domain.start();
     let function = function_at(m, f);
     let graph = graph_of(m, f, function);
     has_start(m, f, function);
     has_plain_fields(m);
     search_is_least(&domain, graph, &start);
-    match solve_by_passage(alloc, &domain, graph, &start) {
-        Ok(least) => Ok(stated_and(alloc, stated, &least)?),
+    match solve(alloc, &domain, graph, &start) {
+        Ok(least) => Ok(stated_and(alloc, stated, least)?),
         Err(e) => Err(error_in(11, e)),
     }
 }

@@ -4,5 +4,4 @@ pub mod Between
 pub mod Free
 pub mod Heirs
 pub mod Rows
-pub mod Unions
 pub mod Abstract

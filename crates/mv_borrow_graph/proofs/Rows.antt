@@ -17,9 +17,7 @@ use Rattle.mv_move_types.specs.Module.{own_acquires}
 use Rattle.mv_type_rules.specs.TypesHold.{Point}
 use Rattle.mv_lattice.specs.declared.StepError.{StepError}
 use Rattle.mv_edges.specs.Edges.{Edge, here, inherited, an_edge, without_each}
-use Rattle.mv_edges.specs.Ascending.{are_ascending}
 use Rattle.mv_edges.specs.Sorted.{sorted}
-use Rattle.mv_edges.proofs.Sorting.{ascending-sorted}
 use Rattle.mv_certificate_rules.specs.BorrowRules.{next_temp, no_edge_out, copy_edges, field_edges, position_of, opened_edges, result_edges}
 use Rattle.mv_certificate_rules.specs.BorrowRules.{reference_nodes, call_edges, is_mutable_token, is_reference_token}
 use Rattle.mv_borrow_graph.specs.Domain.{ordered, Follows}
@@ -63,10 +61,6 @@ pub result_edges-first : (m a : List Node) (k : ℕ) (t : Token) (ts : List Toke
 result_edges-first m a k (Plain t) ts s = refl
 result_edges-first m a k (Reference t) ts s = ap (λ x. x ++ result_edges m a (k + 1) ts s) (sym (append-nil (opened_edges a (Temp k) s)))
 result_edges-first m a k (MutableReference t) ts s = ap (λ x. x ++ result_edges m a (k + 1) ts s) (sym (append-nil (opened_edges m (Temp k) s)))
-
--- what is sorted ascends
-pub ascends : (m a : List Node) (k i : ℕ) (results : List Token) (d : Token) (s done new : List Edge) → new ≡ sorted (done ++ result_edges m a k (get_or results i d ∷ []) s) → are_ascending new ≡ true
-ascends m a k i results d s done new is = subst (λ xs. are_ascending xs ≡ true) (sym is) (ascending-sorted (done ++ result_edges m a k (get_or results i d ∷ []) s))
 
 -- a call, by what its handle names
 pub called : (p : Point) (i : ℕ) (s : List Edge) (found : Option FunctionHandle) (h : FunctionHandle) (ps rs : List Token) (base : ℕ) (holds : Bool)

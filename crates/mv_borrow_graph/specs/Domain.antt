@@ -2,13 +2,14 @@
 --   Function                   a function, with the tables of its module
 --   ordered found              edges in their order
 --   edges_step m d at edges    what the instruction at a place makes of the edges
+--   edges_order m d            the edges of a function's references, their order and steps
 --   is_low types               the stack is within its limit
 --   is_picked mutable t        whether a type is a reference, or a mutable one
 --   Finds result found         this is found, or a need fails
 --   Follows result new after   the new state is the one after, or a need fails, or memory runs out where none does
 --   places_reference m d i     whether an instruction puts a reference where none stood, which takes memory
 -- is_reference_local is a part of these.
-use Rattle.std.specs.Prelude.{◌≡◌, ℕ, Bool, true, false, nat_le, List, length, Option, Some, None, Result, Ok, Err, slice_get, IsSome}
+use Rattle.std.specs.Prelude.{◌≡◌, ℕ, Bool, true, false, nat_le, List, ◌++◌, length, IsTrue, Option, Some, None, Result, Ok, Err, slice_get, IsSome}
 use Rattle.std.specs.Option.{option_map_or}
 use Rattle.mv_move_types.specs.Limits.{most_operands}
 use Rattle.mv_move_types.specs.declared.token.Token.{Token}
@@ -20,11 +21,14 @@ use Rattle.mv_move_types.specs.declared.instruction.Instruction.TheVariants.{Imm
 use Rattle.mv_type_rules.specs.TypeRules.{Types}
 use Rattle.mv_type_rules.specs.TypesHold.{point_at}
 use Rattle.mv_type_rules.specs.Sound.{types_before}
-use Rattle.mv_edges.specs.Edges.{Edge}
+use Rattle.mv_edges.specs.Ascending.{are_ascending}
+use Rattle.mv_edges.specs.Edges.{Edge, edges_leq}
 use Rattle.mv_edges.specs.Sorted.{sorted}
 use Rattle.mv_lattice.specs.declared.StepError.{StepError}
 use Rattle.mv_lattice.specs.declared.StepError.TheVariants.{Need, Memory}
+use Rattle.mv_lattice.specs.Order.{Order}
 use Rattle.mv_certificate_rules.specs.BorrowRules.{edges_after, is_mutable_token, is_reference_token}
+use Rattle.mv_certificate_rules.specs.Nodes.{may_begin_with, are_few, IsGraphOf}
 
 -- a function, and the tables of its module
 pub record Function : Type 0 where
@@ -41,6 +45,19 @@ edges_step m d at edges = do
   i ← slice_get d.code at
   types ← slice_get (types_before m d) at
   ordered (edges_after (point_at m d types) i edges)
+
+-- the edges of a function's references: a block may begin with those between nodes that are there and no operand, and a search may state few
+abbrev pub edges_order : Module → FunctionDefinition → Order (List Edge)
+edges_order m d = record {
+  size = length d.code;
+  is_graph = IsGraphOf m d;
+  is_state = λ s. IsTrue (are_ascending s);
+  may_begin = λ s. IsTrue (may_begin_with m d s);
+  below = λ a b. IsTrue (edges_leq a b);
+  joined = λ a b. sorted (a ++ b);
+  steps = edges_step m d;
+  is_small = λ s. IsTrue (are_few s);
+}
 
 -- a stack never has more than 128 values
 abbrev pub is_low : Types → Bool

@@ -21,12 +21,12 @@ pub mod CallThere
 pub mod KeptThere
 pub mod Standing
 pub mod BlocksThere
-use Rattle.std.specs.Prelude.{◌≡◌, List, [], ◌++◌, true, Option, Some, None, length, slice_get, IsTrue}
+use Rattle.std.specs.Prelude.{◌≡◌, List, [], ◌++◌, true, Option, Some, None, slice_get, IsTrue}
 use Rattle.std.proofs.Common.{refl, subst}
 use Rattle.mv_move_types.specs.Options.{◌>>=◌}
 use Rattle.mv_move_types.specs.Module.{Module, FunctionDefinition}
 use Rattle.mv_type_rules.specs.Sound.{types_before}
-use Rattle.mv_edges.specs.Edges.{Edge, edges_leq}
+use Rattle.mv_edges.specs.Edges.{Edge}
 use Rattle.mv_edges.specs.Ascending.{are_ascending}
 use Rattle.mv_edges.specs.Sorted.{sorted}
 use Rattle.mv_edges.proofs.Sorting.{ascending-sorted}
@@ -34,10 +34,10 @@ use Rattle.mv_edges.proofs.Order.{edges_leq_itself, edges_leq-transitive, join-s
 use Rattle.mv_lattice.specs.Laws.{IsLawful}
 use Rattle.mv_certificate_rules.specs.BorrowRules.{edges_after}
 use Rattle.mv_borrow_graph.specs.Laws.Rising.{step_below}
-use Rattle.mv_certificate_rules.specs.Nodes.{edge_is_there, may_begin_with, IsGraphOf}
+use Rattle.mv_certificate_rules.specs.Nodes.{edge_is_there}
 use Rattle.mv_borrow_graph.specs.Laws.There.{each_append, each_sorted}
 use Rattle.mv_borrow_graph.specs.Laws.BlocksThere.{begins_again}
-use Rattle.mv_borrow_graph.specs.Domain.{edges_step, ordered}
+use Rattle.mv_borrow_graph.specs.Domain.{edges_order, ordered}
 use Rattle.mv_module_text.proofs.Texts.{on_bind}
 use Rattle.mv_type_rules.specs.TypesHold.{point_at}
 
@@ -45,9 +45,7 @@ ordered_ascend : (found : Option (List Edge)) (b : List Edge) → ordered found 
 ordered_ascend None b e = cc
 ordered_ascend (Some edges) b e = let same : sorted edges ≡ b = cc in subst (λ es. are_ascending es ≡ true) same (ascending-sorted edges)
 
-pub edges_lawful : (m : Module) (d : FunctionDefinition)
-    → IsLawful (length d.code) (λ s. IsTrue (are_ascending s)) (λ s. IsTrue (may_begin_with m d s))
-    (λ a b. IsTrue (edges_leq a b)) (λ a b. sorted (a ++ b)) (edges_step m d) (IsGraphOf m d)
+pub edges_lawful : (m : Module) (d : FunctionDefinition) → IsLawful (edges_order m d)
 edges_lawful m d = record {
   reflexive = λ a _. edges_leq_itself a;
   transitive = λ a b c _ _ _ p q. edges_leq-transitive a b c p q;

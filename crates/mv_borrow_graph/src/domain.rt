@@ -1,22 +1,20 @@
 // A function's borrow graph as a domain of states.
-ghost use Rattle.std.specs.Prelude.{◌≡◌, ◌<◌, nat_le, [], length, slice_get, Option, Some, is_some, option_map, false, IsTrue, OnOk, IsErrOf, IsSome};
+ghost use Rattle.std.specs.Prelude.{◌≡◌, ◌<◌, List, [], length, slice_get, Option, Some, is_some, option_map, false, IsTrue, OnOk, IsErrOf, IsSome};
 ghost use Rattle.std.specs.List.{list_all};
 ghost use Rattle.std.specs.Option.{option_map_or};
 ghost use Rattle.mv_edges.specs.Ascending.{are_ascending};
+ghost use Rattle.mv_edges.specs.Edges.{Edge as EdgeRecord};
 ghost use Rattle.mv_type_rules.specs.Sound.{types_before};
 ghost use Rattle.mv_type_rules.specs.TypesHold.{TypesHold, point_at};
 ghost use Rattle.mv_borrow_graph.specs.Domain.{is_low, edges_step, places_reference};
-ghost use Rattle.mv_certificate_rules.specs.Nodes.{are_few as few};
 
 use super::site::{Site, leaves_edges};
 use mv_binary_format::FunctionDefinition;
 use mv_bound_rules::Bounded;
-use mv_edges::{Edge, Edges};
-use mv_lattice::{Domain, Passage, StepError};
-use mv_move_types::limits::{MOST_EDGES, MOST_POSITIONS};
+use mv_lattice::{Domain, StepError};
 use mv_move_types::{Instruction, Node};
 use mv_type_rules::{StackTypes, Typed};
-use mv_ways::Graph;
+use mv_ways::{Borrows, Graph};
 use std::alloc::{AllocError, Global};
 use std::marker::Model;
 
@@ -103,6 +101,19 @@ impl<'t, 'm> BorrowDomain<'t, 'm> {
         at < self.stacks.len()
     }
 
+    /// Whether the instruction at a place leaves all edges as they are.
+    fn leaves_edges(&self, at: usize) -> bool
+        ensures { IsTrue result → (s : List EdgeRecord) → IsTrue (are_ascending s) → edges_step self.now.home self.now.function at s ≡ Option.Some s }
+    {
+        let Some(instruction) = self.instruction(at) else {
+            return false;
+        };
+        if !leaves_edges(&instruction) {
+            return false;
+        }
+        self.is_known(at)
+    }
+
     /// Changes the edges as the instruction at a place does. `Memory` is answered only if no need fails and the instruction puts a
     /// reference where none stood.
     #[tactic(auto, using(crate::proofs::Stacks::step_ok, crate::proofs::Stacks::step_need, crate::proofs::Stacks::step_meets, crate::proofs::Stacks::step_memory, crate::proofs::Stacks::step_unknown))]
@@ -116,9 +127,6 @@ impl<'t, 'm> BorrowDomain<'t, 'm> {
         let Some(instruction) = self.instruction(at) else {
             return Err(StepError::Need);
         };
-        if leaves_edges(&instruction) && self.is_known(at) {
-            return Ok(());
-        }
         match self.site(at) {
             Some(site) => site.step(alloc, instruction, s),
             None => Err(StepError::Need),
@@ -126,108 +134,54 @@ impl<'t, 'm> BorrowDomain<'t, 'm> {
     }
 
     /// What is known where the function begins: no edges.
-    pub fn start(&self, alloc: Global) -> Edges
+    pub fn start(&self) -> Borrows<'t>
         ensures { result ≡ [] }
     {
-        Edges::new(alloc)
+        Borrows::nothing()
     }
-}
-
-/// Whether each edge has a label of at most 8 positions.
-fn are_short(edges: &[Edge]) -> bool
-    ensures { result ≡ list_all (λ e. nat_le (length e.label.path) 8) edges.now }
-{
-    edges
-        .iter()
-        .all(|e| e.label().path().len() <= MOST_POSITIONS)
-}
-
-/// Whether a search may state the edges: at most 1,024, each with a label of at most 8 positions.
-fn are_few(edges: &[Edge]) -> bool
-    ensures { result ≡ few edges.now }
-{
-    edges.len() <= MOST_EDGES && are_short(edges)
 }
 
 impl<'t, 'm> Domain for BorrowDomain<'t, 'm> {
-    ghost use Rattle.std.specs.Prelude.{◌≡◌, ◌++◌, Option, length, slice_get, false, IsErrOf, IsSome, IsTrue};
-    ghost use Rattle.std.specs.Option.{option_map_or};
-    ghost use Rattle.mv_edges.specs.Edges.{edges_leq};
-    ghost use Rattle.mv_edges.specs.Sorted.{sorted};
-    ghost use Rattle.mv_edges.specs.Ascending.{are_ascending};
-    ghost use Rattle.mv_borrow_graph.specs.Domain.{edges_step, places_reference};
+    ghost use Rattle.mv_borrow_graph.specs.Domain.{edges_order};
     ghost use Rattle.mv_borrow_graph.specs.Laws.{edges_lawful};
-    ghost use Rattle.mv_certificate_rules.specs.Nodes.{may_begin_with, are_few, IsGraphOf};
 
-    type State = Edges;
+    type State = Borrows<'t>;
 
-    ghost size = { λ d. length d.function.code };
-
-    ghost is_graph = { λ d g. IsGraphOf d.home d.function g };
-
-    ghost is_state = { λ d s. IsTrue (are_ascending s) };
-
-    ghost may_begin = { λ d s. IsTrue (may_begin_with d.home d.function s) };
-
-    ghost below = { λ d a b. IsTrue (edges_leq a b) };
-
-    ghost joined = { λ d a b. sorted (a ++ b) };
-
-    ghost steps = { λ d at s. edges_step d.home d.function at s };
-
-    ghost is_small = { λ d s. IsTrue (are_few s) };
+    ghost order = { λ d. edges_order d.home d.function };
 
     ghost laws = { λ d. edges_lawful d.home d.function };
 
-    fn copy(&self, alloc: Global, s: &Edges) -> Result<Edges, AllocError> {
+    fn copy(&self, alloc: Global, s: &Borrows<'t>) -> Result<Borrows<'t>, AllocError> {
         s.copy(alloc)
     }
 
-    fn leq(&self, a: &Edges, b: &Edges) -> bool {
+    fn leq(&self, a: &Borrows<'t>, b: &Borrows<'t>) -> bool {
         a.leq(b)
     }
 
     /// The edges of both, each of them.
-    fn join(&self, alloc: Global, a: &Edges, b: &Edges) -> Result<Edges, AllocError> {
-        Edges::join(alloc, a, b)
+    fn join(
+        &self,
+        alloc: Global,
+        a: &Borrows<'t>,
+        b: &Borrows<'t>,
+    ) -> Result<Borrows<'t>, AllocError> {
+        Borrows::join(alloc, a, b)
     }
 
-    /// The edges are made a graph for the one instruction. A block's instructions in turn go by `Passage`.
-    fn step(&self, alloc: Global, s: Edges, at: usize) -> Result<Edges, StepError> {
-        let passing = Graph::of_edges(alloc, &s)?;
-        let after = self.pass(alloc, passing, at)?;
-        Ok(after.settled(alloc)?)
-    }
-
-    fn fits(&self, s: &Edges) -> bool {
-        are_few(s.as_slice())
-    }
-}
-
-/// Within a block edges aren't a list, but a graph of how references came about.
-impl<'t, 'm> Passage for BorrowDomain<'t, 'm> {
-    ghost use Rattle.std.specs.Prelude.{◌≡◌, IsTrue};
-    ghost use Rattle.mv_edges.specs.Ascending.{are_ascending};
-
-    type Passing = Graph;
-
-    ghost goes_for = { λ d p s. p ≡ s };
-
-    fn enter(&self, alloc: Global, s: &Edges) -> Result<Graph, AllocError> {
-        Graph::of_edges(alloc, s)
-    }
-
+    /// An instruction that leaves all edges gives back what it got. Another one changes a graph, which is made of a list and then
+    /// goes on from step to step.
     #[inline(always)]
-    fn pass(&self, alloc: Global, mut p: Graph, at: usize) -> Result<Graph, StepError> {
-        self.change(alloc, &mut p, at)?;
-        Ok(p)
+    fn step(&self, alloc: Global, s: Borrows<'t>, at: usize) -> Result<Borrows<'t>, StepError> {
+        if self.leaves_edges(at) {
+            return Ok(s);
+        }
+        let mut graph = s.grown(alloc)?;
+        self.change(alloc, &mut graph, at)?;
+        Ok(Borrows::of_graph(graph))
     }
 
-    fn is_under(&self, p: &Graph, u: &Edges) -> bool {
-        p.is_under(u)
-    }
-
-    fn leave(&self, alloc: Global, p: Graph) -> Result<Edges, AllocError> {
-        p.settled(alloc)
+    fn fits(&self, s: &Borrows<'t>) -> bool {
+        s.are_few()
     }
 }

@@ -9,6 +9,7 @@ use Rattle.std.proofs.lemmas.List.Elements.{All-contains_itself, All-cons}
 use Rattle.mv_cfg.specs.FlowGraph.{first_of}
 use Rattle.mv_cfg.proofs.Tiling.{Tiles, blocks-tile}
 use Rattle.mv_lattice.specs.Flow.{IsClosedAt, through as carried_through}
+use Rattle.mv_lattice.specs.Order.{Order}
 use Rattle.mv_certificate_rules.specs.Certificate.{stated_at, flows_into, block_holds}
 use Rattle.mv_borrow_graph.specs.Laws.Standing.{tiles_after}
 use Rattle.mv_certificate.proofs.Carried.{Alike, DoAlike, Ends, block_alike}
@@ -66,9 +67,9 @@ test-at-contains p f [] h = λ k d lt. absurd (omega arith)
 test-at-contains p f (n ∷ ns) h =
     let q = and_parts (p (f n)) (list_all p (map f ns)) h in All-cons (λ n. p (f n) ≡ true) n ns q.0 (test-at-contains p f ns q.1)
 
-module _ (S : Type 0) (rule : Rule S) (leq : S → S → Bool) (step : ℕ → S → Option S) (R : S → S → Type 0) (m : Module) (d : FunctionDefinition) (alike : DoAlike rule step R m d)
-    (self : (s : S) → R s s) (lower : (u e x : S) → R u e → leq u x ≡ leq e x)
-    (g : Cfg) (fg : IsFlowGraph d.code g) (typed : IsTrue (function_is_typed m d)) (IsState : S → Type 0) (start : S) (flow : List (Option S)) (fl : IsFlow IsState g flow) where
+module _ (S : Type 0) (rule : Rule S) (leq : S → S → Bool) (o : Order S) (R : S → S → Type 0) (m : Module) (d : FunctionDefinition) (alike : DoAlike rule o.steps R m d)
+    (self : (s : S) → R s s) (lower : (u e x : S) → R u e → leq u x ≡ leq e x) (into_below : (a b : S) → IsTrue (leq a b) → o.below a b) (from_below : (a b : S) → o.below a b → IsTrue (leq a b))
+    (g : Cfg) (fg : IsFlowGraph d.code g) (typed : IsTrue (function_is_typed m d)) (start : S) (flow : List (Option S)) (fl : IsFlow o g flow) where
   abbrev pairs : List (BasicBlock × Option S)
   pairs = zip (blocks d.code) flow
 
@@ -103,10 +104,10 @@ module _ (S : Type 0) (rule : Rule S) (leq : S → S → Bool) (step : ℕ → S
   end-holds next t (Some u) (Some e) a is on = on e.0 (subst (λ z. R z e.0) (same_Some u t is) a)
 
   -- a closed flow holds
-  pub holds_from_closed : IsClosed (λ a b. IsTrue (leq a b)) step g start flow → IsTrue (flow_holds rule leq m d start flow)
+  pub holds_from_closed : IsClosed o g start flow → IsTrue (flow_holds rule leq m d start flow)
   holds_from_closed c =
       and_from (flows_into leq pairs start 0) (list_all (block_holds rule leq m d pairs) pairs)
-      (let s = fl.stated 0 at_entry in into_first start s.0 s.1 ∙ c.entry s.0 s.1)
+      (let s = fl.stated 0 at_entry in into_first start s.0 s.1 ∙ from_below start s.0 (c.entry s.0 s.1))
       (zip_all (block_holds rule leq m d pairs) (blocks d.code) flow by_block)
     where
       by_block : (k : ℕ) (st : BasicBlock) (o : Option S) → slice_get (blocks d.code) k ≡ Some st → slice_get flow k ≡ Some o → block_holds rule leq m d pairs (st, o) ≡ true
@@ -117,15 +118,15 @@ module _ (S : Type 0) (rule : Rule S) (leq : S → S → Bool) (step : ℕ → S
           let each : (e : S) → R q.0 e → list_all (flows_into leq pairs e) (map (first_of g) p.0.successors.items) ≡ true = λ end r.
           test-from-contains (flows_into leq pairs end) (first_of g) p.0.successors.items (λ n at.
           let u = fl.stated n (along (fl.reached k s e) (p.0, p.1, at)) in
-          into n end u.0 u.1 ∙ sym (lower q.0 end u.0 r) ∙ All-contains (λ n. (u : S) → IsStated flow n u → IsTrue (leq q.0 u)) p.0.successors.items n q.1.1 at u.0 u.1) in
+          into n end u.0 u.1 ∙ sym (lower q.0 end u.0 r) ∙ from_below q.0 u.0 (All-contains (λ n. (u : S) → IsStated flow n u → o.below q.0 u) p.0.successors.items n q.1.1 at u.0 u.1)) in
           subst (λ (z : BasicBlock). block_holds rule leq m d pairs (z, Some s) ≡ true) p.2
-          (end-holds (map (first_of g) p.0.successors.items) q.0 (carried_through step p.0 s) (through rule m d (instructions_of d (basic_block_of g p.0)) (s, []))
-          (block_alike S rule step R m d alike self g fg typed k p.0 s p.1) q.1.0 each)
+          (end-holds (map (first_of g) p.0.successors.items) q.0 (carried_through o.steps p.0 s) (through rule m d (instructions_of d (basic_block_of g p.0)) (s, []))
+          (block_alike S rule o.steps R m d alike self g fg typed k p.0 s p.1) q.1.0 each)
 
   -- a block that holds carries its state
-  carried-on : (b : Block) (s : S) (o1 : Option S) (o2 : Option (S × Types)) → carried_through step b s ≡ o1 → Alike (Ends R) o1 o2
+  carried-on : (b : Block) (s : S) (o1 : Option S) (o2 : Option (S × Types)) → carried_through o.steps b s ≡ o1 → Alike (Ends R) o1 o2
       → option_map_or (λ end. list_all (flows_into leq pairs end.0) (map (first_of g) b.successors.items)) o2 false ≡ true
-      → IsClosedAt (λ a b. IsTrue (leq a b)) step flow b s
+      → IsClosedAt o flow b s
   carried-on b s None None is a h = absurd (false≢true h)
   carried-on b s None (Some e) is a h = absurd a
   carried-on b s (Some t) None is a h = absurd a
@@ -133,18 +134,19 @@ module _ (S : Type 0) (rule : Rule S) (leq : S → S → Bool) (step : ℕ → S
     t,
     (
       is,
-      all-from-contains (λ n. (u : S) → IsStated flow n u → IsTrue (leq t u)) b.successors.items (λ n at u st.
-          lower t e.0 u a ∙ sym (into n e.0 u st) ∙ All-contains (λ n. flows_into leq pairs e.0 (first_of g n) ≡ true) b.successors.items n (test-at-contains (flows_into leq pairs e.0) (first_of g) b.successors.items h) at),
+      all-from-contains (λ n. (u : S) → IsStated flow n u → o.below t u) b.successors.items (λ n at u st.
+          into_below t u
+          (lower t e.0 u a ∙ sym (into n e.0 u st) ∙ All-contains (λ n. flows_into leq pairs e.0 (first_of g n) ≡ true) b.successors.items n (test-at-contains (flows_into leq pairs e.0) (first_of g) b.successors.items h) at)),
     ),
   )
 
   -- a flow that holds is closed
-  pub closed_from_holds : IsTrue (flow_holds rule leq m d start flow) → IsClosed (λ a b. IsTrue (leq a b)) step g start flow
+  pub closed_from_holds : IsTrue (flow_holds rule leq m d start flow) → IsClosed o g start flow
   closed_from_holds h =
       let p = and_parts (flows_into leq pairs start 0) (list_all (block_holds rule leq m d pairs) pairs) h in
       record {
-        entry = λ s e. sym (into_first start s e) ∙ p.0;
+        entry = λ s e. into_below start s (sym (into_first start s e) ∙ p.0);
         closed = λ k b s here e.
-            carried-on b s (carried_through step b s) (through rule m d (instructions_of d (basic_block_of g b)) (s, [])) refl (block_alike S rule step R m d alike self g fg typed k b s here)
+            carried-on b s (carried_through o.steps b s) (through rule m d (instructions_of d (basic_block_of g b)) (s, [])) refl (block_alike S rule o.steps R m d alike self g fg typed k b s here)
             (zip_at (block_holds rule leq m d pairs) (blocks d.code) flow k (basic_block_of g b) (Some s) p.1 (block_at d.code g k b fg here) e);
       }

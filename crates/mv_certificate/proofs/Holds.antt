@@ -2,7 +2,7 @@
 use Rattle.mv_certificate.proofs.Common.{[], ℕ, ◌&&◌, ◌++◌, ◌-◌, ◌∙◌, ◌∷◌, ◌≡◌, Bool, Err, IsTrue, List, None, Option, Some, ap, arith, false, inl, inr, length, map, option_map, refl}
 use Rattle.mv_certificate.proofs.Common.{slice_get, subst, suc, sym, true, zero, and_from, and_parts, false≢true, none-some, same_Some, then_some, option_map_or, FunctionDefinition, Module}
 use Rattle.mv_certificate.proofs.Common.{local_tokens, ◌>>=◌, IsRefusedIn, Availability, Available, Maybe, Unavailable, Instruction, Refusal, Memory, Phase, FunctionHandle, Token}
-use Rattle.mv_certificate.proofs.Common.{IsFlowGraph, Cfg, are_ascending, Edge, edges_leq, IsClosed, IsFlow, types_before, Types, Point, function_is_typed, IsOfLocals, edges_after, ordered}
+use Rattle.mv_certificate.proofs.Common.{IsFlowGraph, Cfg, Edge, edges_leq, IsClosed, IsFlow, types_before, Types, Point, function_is_typed, edges_after, ordered}
 use Rattle.mv_certificate.proofs.Common.{Certificate, Known, Stated, flow_holds, EdgesHoldAt, LocalsHoldAt}
 use Rattle.std.proofs.Common.{◌↔◌, replicate, IsSome, IfSome, IsErrOf, slice_set, ◌⊎◌}
 use Rattle.mv_move_types.specs.declared.instruction.Instruction.TheVariants.{Ret, StLoc}
@@ -10,8 +10,8 @@ use Rattle.mv_move_types.specs.Module.{parameter_tokens, local_type}
 use Rattle.mv_lattice.specs.declared.StepError.{StepError}
 use Rattle.mv_lattice.specs.declared.StepError.TheVariants.{Need}
 use Rattle.mv_certificate_rules.specs.LocalsRules.{locals_after, locals_leq, may_overwrite, may_leave, has_drop, start_locals}
-use Rattle.mv_locals_safety.specs.Domain.{locals_step}
-use Rattle.mv_borrow_graph.specs.Domain.{edges_step}
+use Rattle.mv_locals_safety.specs.Domain.{locals_step, locals_order}
+use Rattle.mv_borrow_graph.specs.Domain.{edges_step, edges_order}
 use Rattle.mv_certificate_rules.specs.Certificate.{known_at_start, each_function, locals_hold, edges_hold}
 use Rattle.mv_certificate.proofs.Carried.{Alike, DoAlike}
 use Rattle.mv_certificate.proofs.Flows.{holds_from_closed, closed_from_holds}
@@ -113,27 +113,27 @@ start_known_at m b f d p others home at first second =
 
 module _ (m : Module) (d : FunctionDefinition) (g : Cfg) (stated : Stated) (fg : IsFlowGraph d.code g) (typed : IsTrue (function_is_typed m d)) where
   -- the stated availabilities are a closed flow exactly where they hold
-  locals_exact : (s : List Availability) (all : List (Option (List Availability))) → start_locals m d ≡ Some s → all ≡ map (option_map (λ k. k.locals)) stated → IsFlow (IsOfLocals m d) g all
-      → IsClosed (λ a b. IsTrue (locals_leq a b)) (locals_step m d) g s all ↔ IsTrue (locals_hold m d stated)
+  locals_exact : (s : List Availability) (all : List (Option (List Availability))) → start_locals m d ≡ Some s → all ≡ map (option_map (λ k. k.locals)) stated → IsFlow (locals_order m d) g all
+      → IsClosed (locals_order m d) g s all ↔ IsTrue (locals_hold m d stated)
   locals_exact s all begin is fl =
       let same : locals_hold m d stated ≡ flow_holds locals_after locals_leq m d s all =
       ap (λ o. option_map_or (λ (start : Known). flow_holds locals_after locals_leq m d start.locals (map (option_map (λ k. k.locals)) stated)) o false) (known_locals m d s begin)
       ∙ ap (flow_holds locals_after locals_leq m d s) (sym is) in (
-        λ c. same ∙ holds_from_closed (List Availability) locals_after locals_leq (locals_step m d) (λ a b. a ≡ b) m d (locals_do m d) (λ a. refl) (λ u e x r. ap (λ z. locals_leq z x) r) g fg typed (IsOfLocals m d) s all fl c,
-        λ h. closed_from_holds (List Availability) locals_after locals_leq (locals_step m d) (λ a b. a ≡ b) m d (locals_do m d) (λ a. refl) (λ u e x r. ap (λ z. locals_leq z x) r) g fg typed (IsOfLocals m d) s all fl (sym same ∙ h),
+        λ c. same ∙ holds_from_closed (List Availability) locals_after locals_leq (locals_order m d) (λ a b. a ≡ b) m d (locals_do m d) (λ a. refl) (λ u e x r. ap (λ z. locals_leq z x) r) (λ a b h. h) (λ a b h. h) g fg typed s all fl c,
+        λ h. closed_from_holds (List Availability) locals_after locals_leq (locals_order m d) (λ a b. a ≡ b) m d (locals_do m d) (λ a. refl) (λ u e x r. ap (λ z. locals_leq z x) r) (λ a b h. h) (λ a b h. h) g fg typed s all fl (sym same ∙ h),
       )
 
   -- so are the stated edges
-  edges_exact : (s : List Edge) (all : List (Option (List Edge))) → s ≡ [] → IsSome (known_at_start m d) → all ≡ map (option_map (λ k. k.edges)) stated → IsFlow (λ e. IsTrue (are_ascending e)) g all
-      → IsClosed (λ a b. IsTrue (edges_leq a b)) (edges_step m d) g s all ↔ IsTrue (edges_hold m d stated)
+  edges_exact : (s : List Edge) (all : List (Option (List Edge))) → s ≡ [] → IsSome (known_at_start m d) → all ≡ map (option_map (λ k. k.edges)) stated → IsFlow (edges_order m d) g all
+      → IsClosed (edges_order m d) g s all ↔ IsTrue (edges_hold m d stated)
   edges_exact s all none known is fl =
       let b = begins m d known in
       let same : edges_hold m d stated ≡ flow_holds edges_after edges_leq m d s all =
       ap (λ o. option_map_or (λ (start : Known). flow_holds edges_after edges_leq m d start.edges (map (option_map (λ k. k.edges)) stated)) o false) b.is
       ∙ ap (λ z. flow_holds edges_after edges_leq m d z (map (option_map (λ k. k.edges)) stated)) (b.free ∙ sym none)
       ∙ ap (flow_holds edges_after edges_leq m d s) (sym is) in (
-        λ c. same ∙ holds_from_closed (List Edge) edges_after edges_leq (edges_step m d) SameEdges m d (edges_do m d) SameEdges-self leq_same g fg typed (λ e. IsTrue (are_ascending e)) s all fl c,
-        λ h. closed_from_holds (List Edge) edges_after edges_leq (edges_step m d) SameEdges m d (edges_do m d) SameEdges-self leq_same g fg typed (λ e. IsTrue (are_ascending e)) s all fl (sym same ∙ h),
+        λ c. same ∙ holds_from_closed (List Edge) edges_after edges_leq (edges_order m d) SameEdges m d (edges_do m d) SameEdges-self leq_same (λ a b h. h) (λ a b h. h) g fg typed s all fl c,
+        λ h. closed_from_holds (List Edge) edges_after edges_leq (edges_order m d) SameEdges m d (edges_do m d) SameEdges-self leq_same (λ a b h. h) (λ a b h. h) g fg typed s all fl (sym same ∙ h),
       )
 
 -- what holds of the function at a place
@@ -148,26 +148,27 @@ module _ (m m' : Module) (f : ℕ) (d d' : FunctionDefinition) (g : Cfg) (stated
 
   -- the stated availabilities of the function at a place
   pub locals_exact_at : (s : List Availability) (all : List (Option (List Availability))) → start_locals m' d' ≡ Some s → all ≡ map (option_map (λ k. k.locals)) stated
-      → IsFlow (IsOfLocals m' d') g all
-      → IsClosed (λ a b. IsTrue (locals_leq a b)) (locals_step m' d') g s all ↔ LocalsHoldAt m f stated
+      → IsFlow (locals_order m' d') g all
+      → IsClosed (locals_order m' d') g s all ↔ LocalsHoldAt m f stated
   locals_exact_at s all begin is fl =
       let begin1 = subst (λ z. start_locals m z ≡ Some s) same_function (subst (λ z. start_locals z d' ≡ Some s) home begin) in
-      let flow1 = subst (λ z. IsFlow (IsOfLocals m z) g all) same_function (subst (λ z. IsFlow (IsOfLocals z d') g all) home fl) in
+      let flow1 = subst (λ z. IsFlow (locals_order m z) g all) same_function (subst (λ z. IsFlow (locals_order z d') g all) home fl) in
       let exact = locals_exact m d g stated fg typed s all begin1 is flow1 in
       let place = at_place m f d (λ x. IsTrue (locals_hold m x stated)) at in (
-        λ c. place.0 (exact.0 (subst (λ z. IsClosed (λ a b. IsTrue (locals_leq a b)) (locals_step m z) g s all) same_function (subst (λ z. IsClosed (λ a b. IsTrue (locals_leq a b)) (locals_step z d') g s all) home c))),
-        λ h. subst (λ z. IsClosed (λ a b. IsTrue (locals_leq a b)) (locals_step z d') g s all) (sym home) (subst (λ z. IsClosed (λ a b. IsTrue (locals_leq a b)) (locals_step m z) g s all) (sym same_function) (exact.1 (place.1 h))),
+        λ c. place.0 (exact.0 (subst (λ z. IsClosed (locals_order m z) g s all) same_function (subst (λ z. IsClosed (locals_order z d') g s all) home c))),
+        λ h. subst (λ z. IsClosed (locals_order z d') g s all) (sym home) (subst (λ z. IsClosed (locals_order m z) g s all) (sym same_function) (exact.1 (place.1 h))),
       )
 
   -- and its stated edges
   pub edges_exact_at : (s : List Edge) (all : List (Option (List Edge))) → s ≡ [] → IsSome (known_at_start m d) → all ≡ map (option_map (λ k. k.edges)) stated
-      → IsFlow (λ e. IsTrue (are_ascending e)) g all
-      → IsClosed (λ a b. IsTrue (edges_leq a b)) (edges_step m' d') g s all ↔ EdgesHoldAt m f stated
+      → IsFlow (edges_order m' d') g all
+      → IsClosed (edges_order m' d') g s all ↔ EdgesHoldAt m f stated
   edges_exact_at s all none known is fl =
-      let exact = edges_exact m d g stated fg typed s all none known is fl in
+      let flow1 = subst (λ z. IsFlow (edges_order m z) g all) same_function (subst (λ z. IsFlow (edges_order z d') g all) home fl) in
+      let exact = edges_exact m d g stated fg typed s all none known is flow1 in
       let place = at_place m f d (λ x. IsTrue (edges_hold m x stated)) at in (
-        λ c. place.0 (exact.0 (subst (λ z. IsClosed (λ a b. IsTrue (edges_leq a b)) (edges_step m z) g s all) same_function (subst (λ z. IsClosed (λ a b. IsTrue (edges_leq a b)) (edges_step z d') g s all) home c))),
-        λ h. subst (λ z. IsClosed (λ a b. IsTrue (edges_leq a b)) (edges_step z d') g s all) (sym home) (subst (λ z. IsClosed (λ a b. IsTrue (edges_leq a b)) (edges_step m z) g s all) (sym same_function) (exact.1 (place.1 h))),
+        λ c. place.0 (exact.0 (subst (λ z. IsClosed (edges_order m z) g s all) same_function (subst (λ z. IsClosed (edges_order z d') g s all) home c))),
+        λ h. subst (λ z. IsClosed (edges_order z d') g s all) (sym home) (subst (λ z. IsClosed (edges_order m z) g s all) (sym same_function) (exact.1 (place.1 h))),
       )
 
 -- a test that each function passes with what is stated of it

@@ -17,21 +17,10 @@ pub text-more : {A : Type 0} (text : A → List ℕ) (xs : List A) (i : ℕ) (x 
     → out ≡ start ++ flat_map text (take i xs) → new ≡ out ++ text x → new ≡ start ++ flat_map text (take (i + 1) xs)
 text-more text xs i x start out new lt is before now = text-next text xs i x x start out new lt is before now
 
--- the same of a list that is another
-pub text-more_of : {A : Type 0} (text : A → List ℕ) (xs ys : List A) (i : ℕ) (x : A) (start out new : List ℕ) → xs ≡ ys → i < length xs → x ≡ get_or xs i x
-    → out ≡ start ++ flat_map text (take i ys) → new ≡ out ++ text x → new ≡ start ++ flat_map text (take (i + 1) ys)
-text-more_of text xs ys i x start out new same lt is before now =
-    text-more text xs i x start out new lt is (before ∙ ap (λ z. start ++ flat_map text (take i z)) (sym same)) now ∙ ap (λ z. start ++ flat_map text (take (i + 1) z)) same
-
 -- all are written
 text-end : {A : Type 0} (text : A → List ℕ) (xs : List A) (i : ℕ) (start out : List ℕ) → length xs ≤ i → out ≡ start ++ flat_map text (take i xs)
     → out ≡ start ++ flat_map text xs
 text-end text xs i start out le before = before ∙ ap (λ z. start ++ flat_map text z) (take_all i xs le)
-
-pub text-end_of : {A : Type 0} (text : A → List ℕ) (xs ys : List A) (i : ℕ) (start out : List ℕ) → xs ≡ ys → length xs ≤ i → out ≡ start ++ flat_map text (take i ys)
-    → out ≡ start ++ flat_map text ys
-text-end_of text xs ys i start out same le before =
-    text-end text xs i start out le (before ∙ ap (λ z. start ++ flat_map text (take i z)) (sym same)) ∙ ap (λ z. start ++ flat_map text z) same
 
 -- all are written after their number
 pub counted-end : {A : Type 0} (text : A → List ℕ) (xs : List A) (i : ℕ) (first start out : List ℕ) → length xs ≤ i → start ≡ first ++ uleb (length xs)

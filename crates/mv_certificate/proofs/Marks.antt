@@ -40,7 +40,3 @@ stated-fits m d g ks fg marks ok = record {
       (λ h. subst (IsReached d.code) first (r.0 (sym same ∙ h)), λ h. (same ∙ r.1 (subst (IsReached d.code) (sym first) h)));
   fits = ok;
 }
-
--- what stands at a place
-abbrev pub At : {A : Type 0} → List A → ℕ → Type 0
-At {A} xs i = (x : A) × (slice_get xs i ≡ Some x)

@@ -1,7 +1,6 @@
 -- Two flows as what is known of each block.
-use Rattle.mv_certificate.proofs.Common.{[], ℕ, ◌++◌, ◌∙◌, ◌∷◌, ◌≡◌, List, None, Option, Some, ap, length, option_map, refl, slice_get, sym, arith, length-map, slice_get-map, none-some, same_Some}
+use Rattle.mv_certificate.proofs.Common.{[], ◌++◌, ◌∙◌, ◌∷◌, ◌≡◌, List, None, Option, Some, ap, length, option_map, refl, sym, arith, length-map}
 use Rattle.mv_certificate.proofs.Common.{Availability, Edge, Known, states_of}
-use Rattle.std.proofs.Common.{zero, suc}
 use Rattle.std.proofs.lemmas.List.{map-append}
 use Rattle.mv_certificate.specs.Flows.{ArePaired, known_by, paired}
 
@@ -39,19 +38,3 @@ pairs-more ls es known p =
       locals_are = ap (states_of (λ (k : Known). k.locals)) more ∙ map-append (option_map (λ (k : Known). k.locals)) (paired ls es) (known ∷ []) ∙ ap (λ z. z ++ option_map (λ (k : Known). k.locals) known ∷ []) p.locals_are;
       edges_are = ap (states_of (λ (k : Known). k.edges)) more ∙ map-append (option_map (λ (k : Known). k.edges)) (paired ls es) (known ∷ []) ∙ ap (λ z. z ++ option_map (λ (k : Known). k.edges) known ∷ []) p.edges_are;
     }
-
--- what is known of a block, by what each states of it
-pub known-at : (ls : List (Option (List Availability))) (es : List (Option (List Edge))) (i : ℕ) (l : Option (List Availability)) (e : Option (List Edge))
-    → slice_get ls i ≡ Some l → slice_get es i ≡ Some e → slice_get (paired ls es) i ≡ Some (known_by l e)
-known-at [] es i l e a b = absurd (none-some l a)
-known-at (x ∷ ls) [] i l e a b = absurd (none-some e b)
-known-at (x ∷ ls) (y ∷ es) zero l e a b = ap Some (λ j. known_by (same_Some x l a j) (same_Some y e b j))
-known-at (x ∷ ls) (y ∷ es) (suc i) l e a b = known-at ls es i l e a b
-
--- neither states anything where the other doesn't
-pub stated-both : (ls : List (Option (List Availability))) (es : List (Option (List Edge))) (i : ℕ) (l : List Availability) → ArePaired ls es
-    → slice_get ls i ≡ Some (Some l) → slice_get es i ≡ Some None → ⊥
-stated-both ls es i l p a b =
-    let known = known-at ls es i (Some l) None a b in
-    let back : slice_get ls i ≡ Some None = ap (λ z. slice_get z i) (sym p.locals_are) ∙ slice_get-map (option_map (λ (k : Known). k.locals)) (paired ls es) i ∙ ap (option_map (option_map (λ (k : Known). k.locals))) known in
-    cc (a, back)

@@ -4,6 +4,9 @@ use Rattle.mv_certificate.proofs.Common.{subst, suc, sym, true, true≢false, ze
 use Rattle.mv_certificate.proofs.Common.{list_all, option_map_or, FunctionDefinition, Module, local_tokens, Availability, Token, blocks, IsFlowGraph, basic_block_of, along, at_entry, Cfg}
 use Rattle.mv_certificate.proofs.Common.{are_ascending, Edge, IsFlow, IsStated, IsOfLocals, Certificate, Known, Stated, AllStatedFit, StatedFits, edge_fits, known_fits}
 use Rattle.mv_cfg.specs.Graph.{IsGraph, IsReached as IsReachedBlock}
+use Rattle.mv_lattice.specs.Order.{Order}
+use Rattle.mv_locals_safety.specs.Domain.{locals_order}
+use Rattle.mv_borrow_graph.specs.Domain.{edges_order}
 use Rattle.mv_certificate.specs.Reads.{FitsAt}
 use Rattle.mv_certificate.proofs.Texts.{block_fits}
 use Rattle.mv_certificate.proofs.Marks.{comes}
@@ -37,25 +40,25 @@ some_stated None h = absurd (true≢false (sym h))
 some_stated (Some known) h = (known, refl)
 
 -- what is stated of each block in one part is a flow
-pub flow-of : {S : Type 0} (part : Known → S) (IsState : S → Type 0) (m : Module) (d : FunctionDefinition) (g : Cfg) (ks : Stated)
-    → ((known : Known) → IsTrue (known_fits m d known) → IsState (part known)) → IsFlowGraph d.code g → StatedFits m d ks
-    → IsFlow IsState g (map (option_map part) ks)
-flow-of {S} part IsState m d g ks each fg sf =
+pub flow-of : {S : Type 0} (part : Known → S) (o : Order S) (m : Module) (d : FunctionDefinition) (g : Cfg) (ks : Stated)
+    → ((known : Known) → IsTrue (known_fits m d known) → o.is_state (part known)) → IsFlowGraph d.code g → StatedFits m d ks
+    → IsFlow o g (map (option_map part) ks)
+flow-of {S} part o m d g ks each fg sf =
     let same : length ks ≡ length g.blocks.items = sf.long ∙ ap length (sym fg.basic_blocks) ∙ length-map g.blocks.items (basic_block_of g) in
     record {
       entries = length-map ks (option_map part) ∙ same;
       states = λ k s e.
           let q = source part ks k s e in
-          subst IsState q.same (each q.known (all_at (block_fits m d) ks k (Some q.known) sf.fits q.stated));
+          subst o.is_state q.same (each q.known (all_at (block_fits m d) ks k (Some q.known) sf.fits q.stated));
       stated = λ k r.
           let lt : k < length g.blocks.items = reached_below g (length d.code) fg.graph k r in
           let lt2 : k < length ks = omega arith in
           let b = element_at g.blocks.items k lt in
-          let o = element_at ks k lt2 in
+          let entry = element_at ks k lt2 in
           let here : slice_get (blocks d.code) k ≡ Some (basic_block_of g b.0) = ap (λ z. slice_get z k) (sym fg.basic_blocks) ∙ slice_get-map (basic_block_of g) g.blocks.items k ∙ ap (option_map (basic_block_of g)) b.1 in
           let mark : b.0.reached ≡ true = (fg.graph.marks k b.0 b.1).1 r in
-          let known = some_stated o.0 ((sf.marks k (basic_block_of g b.0) o.0 here o.1).1 ((fg.reached k b.0 b.1).0 mark)) in
-          (part known.0, part_stated part ks k known.0 (o.1 ∙ ap Some known.1));
+          let known = some_stated entry.0 ((sf.marks k (basic_block_of g b.0) entry.0 here entry.1).1 ((fg.reached k b.0 b.1).0 mark)) in
+          (part known.0, part_stated part ks k known.0 (entry.1 ∙ ap Some known.1));
       reached = λ k s e.
           let q = source part ks k s e in
           let in1 : k < length ks = slice_get_within ks k (Some q.known) q.stated in
@@ -83,12 +86,12 @@ pub known-edges : (m : Module) (d : FunctionDefinition) (known : Known) → IsTr
 known-edges m d known h =
     (and_parts (option_map_or (λ tokens. length known.locals == length tokens) (local_tokens m d) false && nat_le (length known.edges) 1024 && list_all (edge_fits m d) known.edges) (are_ascending known.edges) h).1
 
-pub locals-flow : (m : Module) (d : FunctionDefinition) (g : Cfg) (ks : Stated) → IsFlowGraph d.code g → StatedFits m d ks → IsFlow (IsOfLocals m d) g (map (option_map (λ k. k.locals)) ks)
-locals-flow m d g ks = flow-of (λ k. k.locals) (IsOfLocals m d) m d g ks (known-locals m d)
+pub locals-flow : (m : Module) (d : FunctionDefinition) (g : Cfg) (ks : Stated) → IsFlowGraph d.code g → StatedFits m d ks → IsFlow (locals_order m d) g (map (option_map (λ k. k.locals)) ks)
+locals-flow m d g ks = flow-of (λ k. k.locals) (locals_order m d) m d g ks (known-locals m d)
 
 pub edges-flow : (m : Module) (d : FunctionDefinition) (g : Cfg) (ks : Stated) → IsFlowGraph d.code g → StatedFits m d ks
-    → IsFlow (λ s. IsTrue (are_ascending s)) g (map (option_map (λ k. k.edges)) ks)
-edges-flow m d g ks = flow-of (λ k. k.edges) (λ s. IsTrue (are_ascending s)) m d g ks (known-edges m d)
+    → IsFlow (edges_order m d) g (map (option_map (λ k. k.edges)) ks)
+edges-flow m d g ks = flow-of (λ k. k.edges) (edges_order m d) m d g ks (known-edges m d)
 
 -- as many functions as lists
 pub fit-length : (m : Module) (ds : List FunctionDefinition) (cs : Certificate) → AllStatedFit m ds cs → length ds ≡ length cs
@@ -113,11 +116,14 @@ graph-at m f d d' g e e' fg = subst (λ (z : FunctionDefinition). IsGraph g (len
 -- the flows of the function at a place
 pub locals-flow-at : (m m' : Module) (f : ℕ) (d d' : FunctionDefinition) (g : Cfg) (ks : Stated) (all : List (Option (List Availability))) → m' ≡ m → slice_get m.functions f ≡ Some d
     → slice_get m.functions f ≡ Some d'
-    → IsFlowGraph d.code g → FitsAt m f ks → all ≡ map (option_map (λ k. k.locals)) ks → IsFlow (IsOfLocals m' d') g all
+    → IsFlowGraph d.code g → FitsAt m f ks → all ≡ map (option_map (λ k. k.locals)) ks → IsFlow (locals_order m' d') g all
 locals-flow-at m m' f d d' g ks all em e e' fg fits is =
-    subst (λ z. IsFlow (IsOfLocals z d') g all) (sym em) (subst (λ z. IsFlow (IsOfLocals m z) g all) (same_Some d d' (sym e ∙ e'))
-    (subst (λ z. IsFlow (IsOfLocals m d) g z) (sym is) (locals-flow m d g ks fg (fits d e))))
+    subst (λ z. IsFlow (locals_order z d') g all) (sym em) (subst (λ z. IsFlow (locals_order m z) g all) (same_Some d d' (sym e ∙ e'))
+    (subst (λ z. IsFlow (locals_order m d) g z) (sym is) (locals-flow m d g ks fg (fits d e))))
 
-pub edges-flow-at : (m : Module) (f : ℕ) (d : FunctionDefinition) (g : Cfg) (ks : Stated) (all : List (Option (List Edge))) → slice_get m.functions f ≡ Some d
-    → IsFlowGraph d.code g → FitsAt m f ks → all ≡ map (option_map (λ k. k.edges)) ks → IsFlow (λ s. IsTrue (are_ascending s)) g all
-edges-flow-at m f d g ks all e fg fits is = subst (λ z. IsFlow (λ s. IsTrue (are_ascending s)) g z) (sym is) (edges-flow m d g ks fg (fits d e))
+pub edges-flow-at : (m m' : Module) (f : ℕ) (d d' : FunctionDefinition) (g : Cfg) (ks : Stated) (all : List (Option (List Edge))) → m' ≡ m → slice_get m.functions f ≡ Some d
+    → slice_get m.functions f ≡ Some d'
+    → IsFlowGraph d.code g → FitsAt m f ks → all ≡ map (option_map (λ k. k.edges)) ks → IsFlow (edges_order m' d') g all
+edges-flow-at m m' f d d' g ks all em e e' fg fits is =
+    subst (λ z. IsFlow (edges_order z d') g all) (sym em) (subst (λ z. IsFlow (edges_order m z) g all) (same_Some d d' (sym e ∙ e'))
+    (subst (λ z. IsFlow (edges_order m d) g z) (sym is) (edges-flow m d g ks fg (fits d e))))

@@ -1,6 +1,6 @@
 // Whether what a certificate states of a module's functions holds.
 
-ghost use Rattle.std.specs.Prelude.{◌≡◌, ◌<◌, ◌⊎◌, length, slice_get, Some, IfErr, OnOk, IsTrue};
+ghost use Rattle.std.specs.Prelude.{◌≡◌, ◌<◌, ◌⊎◌, length, slice_get, Some, IfOk, IfErr, OnOk, IsTrue};
 ghost use Rattle.mv_move_types.specs.Refusals.{IsRefusedIn};
 ghost use Rattle.mv_acquires.specs.Acquires.{AcquiresHold};
 ghost use Rattle.mv_certificate.specs.Answers.{IsRefusedByCertificate};
@@ -12,11 +12,13 @@ ghost use Rattle.mv_certificate.specs.Reads.{FitsAt};
 use super::certificate::{Cert, Stated};
 use super::shape;
 use mv_borrow_graph::BorrowDomain;
-use mv_lattice::{StepError, check_flow, check_flow_by_passage};
+use mv_edges::Edges;
+use mv_lattice::{StepError, check_flow};
 use mv_locals_safety::LocalsDomain;
 use mv_move_types::Refusal;
 use mv_type_rules::Typed;
-use std::alloc::Global;
+use mv_ways::Borrows;
+use std::alloc::{AllocError, Global};
 
 /// A flow that is not accepted is refused in the phase.
 fn refusal_in(phase: u8, e: StepError) -> Refusal
@@ -45,6 +47,30 @@ fn check_locals_of(alloc: Global, m: &Typed<'_>, f: usize, stated: &Stated) -> R
     }
 }
 
+/// The edges that are stated for a block, as a state of the domain. They stay where they are.
+fn state_of(edges: &Option<Edges>) -> Option<Borrows<'_>>
+    ensures { result ≡ edges.entry.now }
+{
+    match edges {
+        Some(edges) => Some(Borrows::of_stated(edges)),
+        None => None,
+    }
+}
+
+/// The edges that are stated for each block, as states of the domain.
+fn states_of(
+    alloc: Global,
+    stated: &[Option<Edges>],
+) -> Result<Vec<Option<Borrows<'_>>>, AllocError>
+    ensures { IfOk result (λ v. v.items ≡ stated.entry.now) }
+{
+    let mut states = Vec::with_capacity(alloc, stated.len())?;
+    for edges in stated {
+        states.push(state_of(edges))?;
+    }
+    Ok(states)
+}
+
 /// Phase 11 for function `f`: the stated edges are a flow of its borrow graph.
 fn check_edges_of(alloc: Global, m: &Typed<'_>, f: usize, stated: &Stated) -> Result<(), Refusal>
     requires inside { f < length m.now.functions }
@@ -53,11 +79,12 @@ fn check_edges_of(alloc: Global, m: &Typed<'_>, f: usize, stated: &Stated) -> Re
     ensures refused { IfErr result (IsRefusedIn 11 (EdgesHoldAt m.now f stated.now)) }
 {
     let domain = BorrowDomain::of_function(m, f);
-    let empty = domain.start(alloc);
+    let empty = domain.start();
     let function = shape::function_at(m, f);
     let graph = shape::graph_of(m, f, function);
     shape::has_start(m, f, function);
-    match check_flow_by_passage(alloc, &domain, graph, &empty, stated.edges()) {
+    let states = states_of(alloc, stated.edges())?;
+    match check_flow(alloc, &domain, graph, &empty, &states) {
         Ok(()) => Ok(()),
         Err(e) => Err(refusal_in(11, e)),
     }

@@ -3,3 +3,4 @@
 mod edges;
 mod graphs;
 mod lists;
+mod states;

@@ -1,8 +1,8 @@
 -- Definitions by their names: how they are ordered, and that the search for one by halves is exact.
 --   by-name, by-no-name        entries of sorted pairs give the order, and none that of no names
 --   begins, goes-down, goes-up, nowhere   how far the search came, and that it found nothing
-use Rattle.std.proofs.Common.{Bor, zero, suc, [], ◌∷◌, ◌++◌, map, ◌≡◌, ℕ, ◌+◌, ◌<◌, ◌≤◌, ◌∙◌, ◌-◌, true, false, List, length, Some, option_map, refl, subst, None, Option, unwrap_or, sym, ap, ap₂, arith, inl, inr}
-use Rattle.std.specs.Prelude.{◌⊎◌, slice_get, Contains, IsPermutation, IsSorted}
+use Rattle.std.proofs.Common.{Bor, zero, suc, [], ◌∷◌, map, ◌≡◌, ℕ, ◌+◌, ◌<◌, ◌≤◌, ◌∙◌, ◌-◌, true, false, List, length, Some, option_map, refl, subst, None, Option, unwrap_or, sym, ap, ap₂, arith, inl, inr}
+use Rattle.std.specs.Prelude.{slice_get, Contains, IsPermutation, IsSorted}
 use Rattle.std.specs.declared.cmp.Ordering.{Ordering}
 use Rattle.std.specs.declared.cmp.Ordering.TheVariants.{Less, Equal, Greater}
 use Rattle.std.specs.Ordering.{nat_cmp, ordering_reverse, ordering_then, is_eq, is_lt}
@@ -111,31 +111,6 @@ nowhere names order name low high is s done k at =
 pub record PairsSoFar (names : List (List ℕ)) (pairs : List (Bor (List ℕ) × ℕ)) (i : ℕ) : Type 0 where
   pub len : length pairs ≡ i
   pub each : (k : ℕ) (p : Bor (List ℕ) × ℕ) → slice_get pairs k ≡ Some p → (p.1 ≡ k) × (slice_get names k ≡ Some p.0.now)
-
-pub more-pairs : (names : List (List ℕ)) (pairs more : List (Bor (List ℕ) × ℕ)) (i : ℕ) (n : Bor (List ℕ)) → PairsSoFar names pairs i → more ≡ pairs ++ (n, i) ∷ [] → slice_get names i ≡ Some n.now
-    → PairsSoFar names more (i + 1)
-more-pairs names pairs more i n s e at = record {
-  len = ap length e ∙ long pairs ∙ ap (λ k. k + 1) s.len;
-  each = λ k p p_at. by_place k p (sym (ap (λ l. slice_get l k) e) ∙ p_at);
-}
-  where
-    long : (xs : List (Bor (List ℕ) × ℕ)) → length (xs ++ (n, i) ∷ []) ≡ length xs + 1
-    long [] = refl
-    long (x ∷ xs) = omega (arith, long xs)
-
-    split : (xs : List (Bor (List ℕ) × ℕ)) (k : ℕ) (p : Bor (List ℕ) × ℕ) → slice_get (xs ++ (n, i) ∷ []) k ≡ Some p → (slice_get xs k ≡ Some p) ⊎ ((k ≡ length xs) × ((n, i) ≡ p))
-    split [] zero p e = inr (refl, same_Some (n, i) p e)
-    split [] (suc k) p e = absurd (none-some p e)
-    split (x ∷ xs) zero p e = inl e
-    split (x ∷ xs) (suc k) p e = elim (split xs k p e) [ inl f ↦ inl f | inr f ↦ inr (ap suc f.0, f.1) ]
-
-    by_place : (k : ℕ) (p : Bor (List ℕ) × ℕ) → slice_get (pairs ++ (n, i) ∷ []) k ≡ Some p → (p.1 ≡ k) × (slice_get names k ≡ Some p.0.now)
-    by_place k p p_at = elim (split pairs k p p_at) [
-      | inl before ↦ s.each k p before
-      | inr end ↦
-          let k_is : k ≡ i = end.0 ∙ s.len in
-          (sym (ap (λ (q : Bor (List ℕ) × ℕ). q.1) end.1) ∙ sym k_is, ap (slice_get names) k_is ∙ at ∙ ap (λ (q : Bor (List ℕ) × ℕ). Some q.0.now) end.1)
-    ]
 
 pub all-pairs : (names : List (List ℕ)) (pairs : List (Bor (List ℕ) × ℕ)) (i : ℕ) → PairsSoFar names pairs i → i ≡ length names → ArePairs names pairs
 all-pairs names pairs i s e = record { len = s.len ∙ e; each = s.each }

@@ -4,23 +4,17 @@
 --   parts-first, parts-more, parts-all    those of the first fields
 --   struct-module          the module of a struct's name is one that a handle names
 use Rattle.mv_interface.proofs.Common.{[], ℕ, ◌++◌, ◌+◌, ◌<◌, ◌∙◌, ◌∷◌, ◌≡◌, ◌≤◌, AreParts, AreStructsAt, Definition, Field, IsPart, List, Module, MutableReference, None, Nothing}
-use Rattle.mv_interface.proofs.Common.{OfLeaf, OfStruct, Option, Part, Plain, Reference, Some, Struct, StructDefinition, StructName, Token, and_parts, ap, append-nil, append_assoc, false}
-use Rattle.mv_interface.proofs.Common.{get_or, is_some, leb-true, length, list_all, map, map-append, module_name, option_map_or, part_by, parts_by, refl}
+use Rattle.mv_interface.proofs.Common.{OfLeaf, OfStruct, Option, Part, Plain, Reference, Some, Struct, StructDefinition, Token, and_parts, ap, append-nil, append_assoc, false}
+use Rattle.mv_interface.proofs.Common.{get_or, is_some, leb-true, length, list_all, map, map-append, option_map_or, part_by, parts_by, refl}
 use Rattle.mv_interface.proofs.Common.{slice_get, slice_get_past, struct_definition_fits, struct_name, sym, take, take_all, take_more, true}
 use Rattle.mv_bound_rules.proofs.Entries.{all_at}
 use Rattle.mv_bound_rules.proofs.Found.{past_from}
-use Rattle.mv_bound_rules.proofs.NameLemmas.{struct_parts}
 
 -- a struct has at most 32 fields
 pub few-fields : (m : Module) (i : ℕ) (d : StructDefinition) → list_all (struct_definition_fits m.version) m.structs ≡ true → slice_get m.structs i ≡ Some d → length d.fields ≤ 32
 few-fields m i d h at =
     let fits : struct_definition_fits m.version d ≡ true = all_at (struct_definition_fits m.version) m.structs i d h at in
     leb-true (length d.fields) 32 (and_parts _ _ (and_parts _ _ fits).0).1
-
--- the module of a struct's name is one that a handle names
-pub struct-module : (m : Module) (h : ℕ) (name : StructName) → struct_name m h ≡ Some name → (i : ℕ) × (module_name m i ≡ Some name.home)
-struct-module m h name e =
-    struct_parts m h name e (λ handle at home_is name_is. (handle.«module», home_is))
 
 -- ---- the parts of the first fields
 

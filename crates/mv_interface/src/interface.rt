@@ -191,4 +191,24 @@ impl Interface {
             is_entry: self.outline.is_entry(index),
         })
     }
+
+    /// The same interface in memory of its own.
+    ///
+    /// # Errors
+    ///
+    /// If an allocation failed.
+    pub fn copied(&self, alloc: Global) -> Result<Self, AllocError>
+        ensures { IfOk result (λ i. i ≡ self.now) }
+    {
+        let outline = self.outline.copied(alloc)?;
+        let parts = self.parts.copied(alloc)?;
+        let parameters = self.parameters.copied(alloc)?;
+        let results = self.results.copied(alloc)?;
+        Ok(Interface {
+            outline,
+            parts,
+            parameters,
+            results,
+        })
+    }
 }

@@ -101,4 +101,17 @@ impl<T: Copy> Lists<T> {
         self.spans.push_reserved(Span { first, last });
         Ok(())
     }
+
+    /// The same lists in memory of their own.
+    ///
+    /// # Errors
+    ///
+    /// If an allocation failed.
+    pub fn copied(&self, alloc: Global) -> Result<Self, AllocError>
+        ensures { IfOk result (λ l. l ≡ self.now) }
+    {
+        let all = Vec::from_slice(alloc, &self.all)?;
+        let spans = Vec::from_slice(alloc, &self.spans)?;
+        Ok(Lists { all, spans })
+    }
 }

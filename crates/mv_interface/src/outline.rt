@@ -427,4 +427,28 @@ impl Outline {
         }
         self.find_function(name)
     }
+
+    /// The same outline in memory of its own.
+    ///
+    /// # Errors
+    ///
+    /// If an allocation failed.
+    pub fn copied(&self, alloc: Global) -> Result<Self, AllocError>
+        ensures { IfOk result (λ o. o ≡ self.now) }
+    {
+        let identifiers = self.identifiers.copied(alloc)?;
+        let structs = Vec::from_slice(alloc, &self.structs)?;
+        let fields = self.fields.copied(alloc)?;
+        let functions = Vec::from_slice(alloc, &self.functions)?;
+        let structs_by_name = Vec::from_slice(alloc, &self.structs_by_name)?;
+        let functions_by_name = Vec::from_slice(alloc, &self.functions_by_name)?;
+        Ok(Outline {
+            identifiers,
+            structs,
+            fields,
+            functions,
+            structs_by_name,
+            functions_by_name,
+        })
+    }
 }

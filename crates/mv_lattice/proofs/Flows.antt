@@ -1,5 +1,5 @@
 -- What a turn of the loops over a flow adds.
-use Rattle.std.proofs.Common.{◌≡◌, All, ℕ, suc, ◌+◌, ◌-◌, ◌<◌, ◌≤◌, List, length, get_or, take, Option, Some, None, refl, sym, ap, subst, arith, slice_get, ◌∙◌, ◌≢◌, Result, Err, ⊎_elim}
+use Rattle.std.proofs.Common.{◌≡◌, All, ℕ, suc, ◌+◌, ◌-◌, ◌<◌, ◌≤◌, List, length, get_or, take, Option, Some, None, refl, sym, subst, arith, slice_get, ◌≢◌, ⊎_elim}
 use Rattle.std.proofs.lemmas.Bool.{cases_eq}
 use Rattle.std.proofs.lemmas.List.Elements.{All-more}
 use Rattle.std.proofs.lemmas.Option.{slice_get_read}
@@ -17,18 +17,6 @@ module _ {S : Type 0} (step : ℕ → S → Option S) where
   carried_none at last s h e =
       let n : last + 1 - at ≡ suc (last + 1 - (at + 1)) = omega arith in
       rw (n, e) refl
-
-  module _ (IsState : S → Type 0) (first last : ℕ) where
-    -- of each state with P the instructions from `first` to `last` make what those from `at` on make of one with Q
-    abbrev pub CarriesOn : ℕ → (S → Type 0) → (S → Type 0) → Type 0
-    CarriesOn at P Q = (s : S) → IsState s → P s → (u : S) × (IsState u × (Q u × (carried step at (last + 1 - at) u ≡ carried step first (last + 1 - first) s)))
-
-    pub carries_on : (at : ℕ) (P Q R : S → Type 0) → at ≤ last → ((u t : S) → IsState u → step at u ≡ Some t → IsState t)
-        → ((u : S) → IsState u → Q u → (t : S) × ((step at u ≡ Some t) × R t)) → CarriesOn at P Q → CarriesOn (at + 1) P R
-    carries_on at P Q R h keeps passes on s is p =
-        let before = on s is p in
-        let after = passes before.0 before.1.0 before.1.1.0 in
-        (after.0, (keeps before.0 after.0 before.1.0 after.1.0, (after.1.1, carried_some at last before.0 after.0 h after.1.0 ∙ before.1.1.1)))
 
 -- of the states that are stated for these blocks, one block more
 module _ {S : Type 0} (P : S → Type 0) (flow : List (Option S)) (blocks : List ℕ) where
@@ -73,7 +61,3 @@ module _ {S B : Type 0} (blocks : List B) (flow : List (Option S)) (P : B → S 
       (λ (e : k ≡ i). let n : slice_get flow i ≡ Some (Some s') = subst (λ x. slice_get flow x ≡ Some (Some s')) e es' in cc)
       (λ (ne : k ≢ i). before k b' s' (omega arith) eb' es')
       (cases_eq k i)
-
--- the same error at another type of answers
-pub err_at : {T U E : Type 0} (x y : E) → ◌≡◌ {A = Result T E} (Err x) (Err y) → ◌≡◌ {A = Result U E} (Err x) (Err y)
-err_at x y e = let same : x ≡ y = cc in ap Err same

@@ -7,9 +7,9 @@ use Rattle.std.proofs.lemmas.Option.{slice_get-get_or, option_and_then_some}
 use Rattle.mv_bound_rules.specs.Times.{times}
 use Rattle.mv_bound_rules.proofs.TimesLemmas.{times_of, contains_from_times}
 use Rattle.mv_cfg.specs.declared.Block.{Block}
-use Rattle.mv_cfg.specs.declared.Cfg.{Cfg}
 use Rattle.mv_lattice.specs.Laws.{IsLawful}
 use Rattle.mv_lattice.specs.Flow.{IsAt, carried, through, IsStated, IsRisen}
+use Rattle.mv_lattice.specs.Order.{Order}
 
 -- a number stands in a list, or doesn't
 pub contains_or_not : (xs : List ℕ) (n : ℕ) → Contains xs n ⊎ (Contains xs n → ⊥)
@@ -60,29 +60,28 @@ set_other (y ∷ ys) zero (suc k) x ne = refl
 set_other (y ∷ ys) (suc n) zero x ne = refl
 set_other (y ∷ ys) (suc n) (suc k) x ne = set_other ys n k x (λ e. ne (ap suc e))
 
-module _ {S : Type 0} {size : ℕ} {IsState MayBegin : S → Type 0} {below : S → S → Type 0} {join : S → S → S} {step : ℕ → S → Option S} {IsGraphOf : Cfg → Type 0}
-    (laws : IsLawful size IsState MayBegin below join step IsGraphOf) where
-  pub carried_keeps : (count at : ℕ) (s t : S) → at + count ≤ size → IsState s → carried step at count s ≡ Some t → IsState t
-  carried_keeps zero at s t h v e = let same : s ≡ t = cc in subst IsState same v
+module _ {S : Type 0} {o : Order S} (laws : IsLawful o) where
+  pub carried_keeps : (count at : ℕ) (s t : S) → at + count ≤ o.size → o.is_state s → carried o.steps at count s ≡ Some t → o.is_state t
+  carried_keeps zero at s t h v e = let same : s ≡ t = cc in subst o.is_state same v
   carried_keeps (suc count) at s t h v e =
-      option_and_then_some (carried step (suc at) count) (step at s) t e
+      option_and_then_some (carried o.steps (suc at) count) (o.steps at s) t e
       (λ r er et. carried_keeps count (suc at) r t (omega arith) (laws.keeps at s r (omega arith) v er) et)
 
-  pub carried_monotone : (count at : ℕ) (a b t : S) → at + count ≤ size → IsState a → IsState b → below a b → carried step at count b ≡ Some t
-      → (u : S) × ((carried step at count a ≡ Some u) × below u t)
-  carried_monotone zero at a b t h va vb le e = let same : b ≡ t = cc in (a, (refl, subst (below a) same le))
+  pub carried_monotone : (count at : ℕ) (a b t : S) → at + count ≤ o.size → o.is_state a → o.is_state b → o.below a b → carried o.steps at count b ≡ Some t
+      → (u : S) × ((carried o.steps at count a ≡ Some u) × o.below u t)
+  carried_monotone zero at a b t h va vb le e = let same : b ≡ t = cc in (a, (refl, subst (o.below a) same le))
   carried_monotone (suc count) at a b t h va vb le e =
-      option_and_then_some (carried step (suc at) count) (step at b) t e
+      option_and_then_some (carried o.steps (suc at) count) (o.steps at b) t e
       (λ r er et.
       let here = laws.monotone at a b r (omega arith) va vb le er in
       let rest = carried_monotone count (suc at) here.0 r t (omega arith) (laws.keeps at a here.0 (omega arith) va here.1.0) (laws.keeps at b r (omega arith) vb er) here.1.1 et in
       (rest.0, (rw here.1.0 rest.1.0, rest.1.1)))
 
-  pub through_keeps : (b : Block) (s t : S) → b.first ≤ b.last → b.last < size → IsState s → through step b s ≡ Some t → IsState t
+  pub through_keeps : (b : Block) (s t : S) → b.first ≤ b.last → b.last < o.size → o.is_state s → through o.steps b s ≡ Some t → o.is_state t
   through_keeps b s t h h' v e = carried_keeps (b.last + 1 - b.first) b.first s t (omega arith) v e
 
-  pub through_monotone : (b : Block) (a c t : S) → b.first ≤ b.last → b.last < size → IsState a → IsState c → below a c → through step b c ≡ Some t
-      → (u : S) × ((through step b a ≡ Some u) × below u t)
+  pub through_monotone : (b : Block) (a c t : S) → b.first ≤ b.last → b.last < o.size → o.is_state a → o.is_state c → o.below a c → through o.steps b c ≡ Some t
+      → (u : S) × ((through o.steps b a ≡ Some u) × o.below u t)
   through_monotone b a c t h h' va vc le e = carried_monotone (b.last + 1 - b.first) b.first a c t (omega arith) va vc le e
 
 module _ {S : Type 0} (P : S → Type 0) (below : S → S → Type 0) where

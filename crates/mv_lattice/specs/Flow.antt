@@ -2,9 +2,9 @@
 --   carried, through step b s          what instructions, and a block, make of a state; none where a need fails
 --   states_of inner stated             the states in what is stated
 --   IsAt xs k x, IsStated flow k s     an element stands at a place; and a state is stated of a block
---   IsFlow IsState g flow              a state of the function is stated of each reached block, and of no other
---   IsClosedAt below step flow b s     a block carries its state to one below each that is stated of a successor
---   IsClosed below step g start flow   the flow is closed: the start state is below the first block's, and each block is closed
+--   IsFlow o g flow                    a state of the function is stated of each reached block, and of no other
+--   IsClosedAt o flow b s              a block carries its state to one below each that is stated of a successor
+--   IsClosed o g start flow            the flow is closed: the start state is below the first block's, and each block is closed
 --   IsFlowBelow below low high         each state of one flow is below the other's
 --   IsRisen P below n s                the last of n + 1 states that rise one after the other
 -- IsBelowEach is a part of IsClosedAt.
@@ -12,6 +12,7 @@ use Rattle.std.specs.Prelude.{◌≡◌, ℕ, zero, suc, ◌+◌, ◌-◌, List,
 use Rattle.mv_cfg.specs.declared.Block.{Block}
 use Rattle.mv_cfg.specs.declared.Cfg.{Cfg}
 use Rattle.mv_cfg.specs.Graph.{IsBlock, IsReached}
+use Rattle.mv_lattice.specs.Order.{Order}
 
 -- the state that `count` instructions from `at` on make of s, none where a need of one of them fails
 abbrev pub carried : {S : Type 0} → (ℕ → S → Option S) → ℕ → ℕ → S → Option S
@@ -35,24 +36,24 @@ abbrev pub IsStated : {S : Type 0} → List (Option S) → ℕ → S → Type 0
 IsStated flow k s = slice_get flow k ≡ Some (Some s)
 
 -- one entry a block, with a state of the function exactly where the block is reached
-pub record IsFlow {S : Type 0} (IsState : S → Type 0) (g : Cfg) (flow : List (Option S)) : Type 0 where
+pub record IsFlow {S : Type 0} (o : Order S) (g : Cfg) (flow : List (Option S)) : Type 0 where
   pub entries : length flow ≡ length g.blocks.items
-  pub states : (k : ℕ) (s : S) → IsStated flow k s → IsState s
+  pub states : (k : ℕ) (s : S) → IsStated flow k s → o.is_state s
   pub stated : (k : ℕ) → IsReached g k → (s : S) × IsStated flow k s
   pub reached : (k : ℕ) (s : S) → IsStated flow k s → IsReached g k
 
 -- the state is below each one that is stated for one of these blocks
-abbrev pub IsBelowEach : {S : Type 0} → (S → S → Type 0) → List (Option S) → List ℕ → S → Type 0
-IsBelowEach {S} below flow blocks t = All (λ n. (u : S) → IsStated flow n u → below t u) blocks
+abbrev pub IsBelowEach : {S : Type 0} → Order S → List (Option S) → List ℕ → S → Type 0
+IsBelowEach {S} o flow blocks t = All (λ n. (u : S) → IsStated flow n u → o.below t u) blocks
 
 -- the block carries s to a state that is below each one that is stated for a successor
-abbrev pub IsClosedAt : {S : Type 0} → (S → S → Type 0) → (ℕ → S → Option S) → List (Option S) → Block → S → Type 0
-IsClosedAt {S} below step flow b s = (t : S) × ((through step b s ≡ Some t) × IsBelowEach below flow b.successors.items t)
+abbrev pub IsClosedAt : {S : Type 0} → Order S → List (Option S) → Block → S → Type 0
+IsClosedAt {S} o flow b s = (t : S) × ((through o.steps b s ≡ Some t) × IsBelowEach o flow b.successors.items t)
 
 -- block 0's state is above the start state, and the flow is closed at each block for which a state is stated
-pub record IsClosed {S : Type 0} (below : S → S → Type 0) (step : ℕ → S → Option S) (g : Cfg) (start : S) (flow : List (Option S)) : Type 0 where
-  pub entry : (s : S) → IsStated flow 0 s → below start s
-  pub closed : (k : ℕ) (b : Block) (s : S) → IsBlock g k b → IsStated flow k s → IsClosedAt below step flow b s
+pub record IsClosed {S : Type 0} (o : Order S) (g : Cfg) (start : S) (flow : List (Option S)) : Type 0 where
+  pub entry : (s : S) → IsStated flow 0 s → o.below start s
+  pub closed : (k : ℕ) (b : Block) (s : S) → IsBlock g k b → IsStated flow k s → IsClosedAt o flow b s
 
 -- each state of the one flow is below that of the other
 abbrev pub IsFlowBelow : {S : Type 0} → (S → S → Type 0) → List (Option S) → List (Option S) → Type 0

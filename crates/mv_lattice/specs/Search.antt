@@ -17,6 +17,7 @@ use Rattle.mv_cfg.specs.declared.Block.{Block}
 use Rattle.mv_cfg.specs.declared.Cfg.{Cfg}
 use Rattle.mv_cfg.specs.Graph.{IsBlock, HasEdge}
 use Rattle.mv_lattice.specs.Flow.{IsAt, IsStated, through}
+use Rattle.mv_lattice.specs.Order.{Order}
 
 -- where a search stands: what is stated of each block, and which blocks wait
 pub record Search (S : Type 0) : Type 0 where
@@ -36,17 +37,16 @@ resting k x = record { flow = x.flow; waiting = slice_set x.waiting k false }
 abbrev pub IsSameAt : {S : Type 0} → ℕ → Search S → Search S → Type 0
 IsSameAt n x y = (slice_get y.flow n ≡ slice_get x.flow n) × (slice_get y.waiting n ≡ slice_get x.waiting n)
 
-module _ {S : Type 0} (below : S → S → Type 0) (join : S → S → S) where
+module _ {S : Type 0} (o : Order S) where
   -- t raises what is stated of a block: where nothing is, to t itself; where a state is that isn't above t, to the join of that state and t
   pub data Raises (t : S) : Option S → S → Type 0 where
     nothing : Raises t None t
-    lower : {s : S} → ¬ below t s → Raises t (Some s) (join s t)
+    lower : {s : S} → ¬ o.below t s → Raises t (Some s) (o.joined s t)
 
-module _ {S : Type 0} (IsSmall : S → Type 0) (below : S → S → Type 0) (join : S → S → S) where
   -- t flows into block n: where the stated state is above t, nothing changes; else t raises it, to a small state, and the block waits
   pub data FlowsInto (t : S) (n : ℕ) (x y : Search S) : Type 0 where
-    stays : (s : S) → IsStated x.flow n s → below t s → IsSameAt n x y → FlowsInto t n x y
-    rises : (old : Option S) (u : S) → IsAt x.flow n old → Raises below join t old u → IsSmall u
+    stays : (s : S) → IsStated x.flow n s → o.below t s → IsSameAt n x y → FlowsInto t n x y
+    rises : (old : Option S) (u : S) → IsAt x.flow n old → Raises t old u → o.is_small u
         → IsStated y.flow n u → IsAt y.waiting n true → FlowsInto t n x y
 
   -- t flows into these blocks, and no other changes
@@ -59,17 +59,17 @@ module _ {S : Type 0} (IsSmall : S → Type 0) (below : S → S → Type 0) (joi
     pub old : Option S
     pub new : S
     pub at : IsAt flow n old
-    pub raises : Raises below join t old new
-    pub large : ¬ IsSmall new
+    pub raises : Raises t old new
+    pub large : ¬ o.is_small new
 
-  module _ (step : ℕ → S → Option S) (g : Cfg) where
+  module _ (g : Cfg) where
     -- what block k makes of the state that is stated of it: none, where a need fails
     pub record Makes (k : ℕ) (flow : List (Option S)) (made : Option S) : Type 0 where
       pub block : Block
       pub is_block : IsBlock g k block
       pub state : S
       pub stated : IsStated flow k state
-      pub comes_out : through step block state ≡ made
+      pub comes_out : through o.steps block state ≡ made
 
     -- block k is visited: what it makes of its state flows into its successors
     pub record IsVisit (k : ℕ) (x y : Search S) : Type 0 where
@@ -95,7 +95,7 @@ module _ {S : Type 0} (IsSmall : S → Type 0) (below : S → S → Type 0) (joi
 
       -- the search comes to x when it has visited these blocks, the last one first, and none more than 256 times
       pub data Reaches : List ℕ → Search S → Type 0 where
-        begins : IsSmall start → Reaches [] at_start
+        begins : o.is_small start → Reaches [] at_start
         goes_on : {visited : List ℕ} {k : ℕ} {x y : Search S}
             → Reaches visited x → IsNext x k → times k visited < 256 → IsVisit k (resting k x) y → Reaches (k ∷ visited) y
 
@@ -114,7 +114,7 @@ module _ {S : Type 0} (IsSmall : S → Type 0) (below : S → S → Type 0) (joi
 
       -- a limit ends the search: the start state isn't small, a block would be visited a 257th time, or a visit would state a state that isn't small
       pub data MeetsLimit : Type 0 where
-        large_start : ¬ IsSmall start → MeetsLimit
+        large_start : ¬ o.is_small start → MeetsLimit
         too_often : {visited : List ℕ} {k : ℕ} {x : Search S} → IsTurn visited k x → times k visited ≡ 256 → MeetsLimit
         too_large : {visited : List ℕ} {k : ℕ} {x : Search S} → IsTurn visited k x → times k visited < 256 → Exceeds k x.flow → MeetsLimit
 

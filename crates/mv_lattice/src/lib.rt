@@ -15,17 +15,15 @@
 //! ```
 #![tactic(auto)]
 
-ghost use Rattle.std.specs.Prelude.{◌≡◌, ℕ, ◌<◌, ◌↔◌, Option, IsTrue, IfOk, IsErrOf};
-ghost use Rattle.mv_cfg.specs.declared.Cfg.{Cfg};
-ghost use Rattle.mv_lattice.specs.Laws.{IsLawful};
+ghost use Rattle.std.specs.Prelude.{◌≡◌, ◌<◌, ◌↔◌, Option, IsTrue, IfOk, IsErrOf};
+ghost use Rattle.mv_lattice.specs.Laws.{IsLawful, IsLeastAbove};
+ghost use Rattle.mv_lattice.specs.Order.{Order};
 
 mod flow;
-mod passage;
 mod search;
 
-pub use flow::{check_flow, check_flow_by_passage};
-pub use passage::Passage;
-pub use search::{SolveError, search_is_least, solve, solve_by_passage};
+pub use flow::check_flow;
+pub use search::{SolveError, search_is_least, solve};
 use std::alloc::{AllocError, Global};
 use thiserror::Error;
 
@@ -55,40 +53,19 @@ impl From<AllocError> for StepError {
 pub trait Domain {
     type State: PartialEq + Drop;
 
-    /// How many instructions the function has.
-    ghost size: { Self → ℕ };
+    /// The states of the function, their order, and what its instructions make of them.
+    ghost order: { Self → Order Self.State };
 
-    /// The flow graph of the function.
-    ghost is_graph: { Self → Cfg → Type 0 };
-
-    /// The states of the function.
-    ghost is_state: { Self → Self.State → Type 0 };
-
-    /// The states with which a block may begin.
-    ghost may_begin: { Self → Self.State → Type 0 };
-
-    /// The first state is below the second.
-    ghost below: { Self → Self.State → Self.State → Type 0 };
-
-    /// The join of two states.
-    ghost joined: { Self → Self.State → Self.State → Self.State };
-
-    /// What an instruction makes of a state, none where a need of it fails.
-    ghost steps: { Self → ℕ → Self.State → Option Self.State };
-
-    /// The states that are small enough to be stated by a search.
-    ghost is_small: { Self → Self.State → Type 0 };
-
-    /// An equal state.
+    /// An equal state. What steps make of a state may have a form of its own; a copy has the form of what is stated.
     fn copy(&self, alloc: Global, s: &Self::State) -> Result<Self::State, AllocError>
-        requires { is_state self.now s.now }
+        requires { (order self.now).is_state s.now }
         ensures { IfOk result (λ t. t ≡ s.now) };
 
     /// Whether the first state is below the second.
     fn leq(&self, a: &Self::State, b: &Self::State) -> bool
-        requires a { is_state self.now a.now }
-        requires b { is_state self.now b.now }
-        ensures { IsTrue result ↔ below self.now a.now b.now };
+        requires a { (order self.now).is_state a.now }
+        requires b { (order self.now).is_state b.now }
+        ensures { IsTrue result ↔ (order self.now).below a.now b.now };
 
     /// The join of both, which is the least state above both.
     fn join(
@@ -97,30 +74,27 @@ pub trait Domain {
         a: &Self::State,
         b: &Self::State,
     ) -> Result<Self::State, AllocError>
-        requires a { is_state self.now a.now }
-        requires b { is_state self.now b.now }
-        ensures join { IfOk result (λ c. c ≡ joined self.now a.now b.now) }
-        ensures state { IfOk result (λ c. is_state self.now c) }
-        ensures left { IfOk result (λ c. below self.now a.now c) }
-        ensures right { IfOk result (λ c. below self.now b.now c) }
-        ensures least { IfOk result (λ c. (u : Self.State) → is_state self.now u → below self.now a.now u → below self.now b.now u → below self.now c u) }
-        ensures begins { IfOk result (λ c. may_begin self.now a.now → may_begin self.now b.now → may_begin self.now c) };
+        requires a { (order self.now).is_state a.now }
+        requires b { (order self.now).is_state b.now }
+        ensures join { IfOk result (λ c. c ≡ (order self.now).joined a.now b.now) }
+        ensures least { IfOk result (IsLeastAbove (order self.now) a.now b.now) }
+        ensures begins { IfOk result (λ c. (order self.now).may_begin a.now → (order self.now).may_begin b.now → (order self.now).may_begin c) };
 
     /// What the instruction at `at` makes of a state. A state that is refused is dropped.
     ///
     /// # Errors
     /// `Need` where a need of the instruction fails of the state; `Memory` if an allocation failed.
     fn step(&self, alloc: Global, s: Self::State, at: usize) -> Result<Self::State, StepError>
-        requires state { is_state self.now s }
-        requires inside { at < size self.now }
-        ensures ok { IfOk result (λ t. steps self.now at s ≡ Option.Some t) }
-        ensures need { IsErrOf result StepError.Need → steps self.now at s ≡ Option.None };
+        requires state { (order self.now).is_state s }
+        requires inside { at < (order self.now).size }
+        ensures ok { IfOk result (λ t. (order self.now).steps at s ≡ Option.Some t) }
+        ensures need { IsErrOf result StepError.Need → (order self.now).steps at s ≡ Option.None };
 
     /// Whether the state is small enough to be stated by a search.
     fn fits(&self, s: &Self::State) -> bool
-        requires { is_state self.now s.now }
-        ensures { IsTrue result ↔ is_small self.now s.now };
+        requires { (order self.now).is_state s.now }
+        ensures { IsTrue result ↔ (order self.now).is_small s.now };
 
     /// The laws of the order, of the join and of the steps.
-    ghost laws: { (d : Self) → IsLawful (size d) (is_state d) (may_begin d) (below d) (joined d) (steps d) (is_graph d) };
+    ghost laws: { (d : Self) → IsLawful (order d) };
 }

@@ -1,14 +1,13 @@
 // The search for the least closed flow.
-ghost use Rattle.std.specs.Prelude.{◌≡◌, ℕ, ◌<◌, ◌≤◌, Option, length, IfOk, IfSome, IfNone, OnOk, IsErrOf, Contains, All, [], ◌∷◌, List, replicate, slice_set, sum, ◌⊎◌, true, false};
+ghost use Rattle.std.specs.Prelude.{◌≡◌, ℕ, ◌<◌, ◌≤◌, Option, length, IsTrue, IfOk, IfSome, IfNone, OnOk, IsErrOf, Contains, All, [], ◌∷◌, List, replicate, slice_set, sum, take, ◌⊎◌, true, false};
 ghost use Rattle.mv_cfg.specs.Graph.{IsGraph};
-ghost use Rattle.mv_lattice.specs.Flow.{IsAt, IsFlow, IsClosed, through};
+ghost use Rattle.mv_lattice.specs.Flow.{IsAt, IsFlow, IsClosed, IsStated};
 ghost use Rattle.mv_lattice.specs.Search.{Raises, ExceedsAt, FlowsIntoEach, Exceeds, IsVisit, Makes, EndsWith, MeetsLimit, MeetsNeed};
 ghost use Rattle.mv_lattice.specs.Work.{HasLarge, HasChain, AllStated, IsLeastFlow, IsNewState, standing, IsSearch, IsUnderway};
 
-use crate::flow::pass_through;
-use crate::passage::Stepwise;
-use crate::{Domain, Passage, StepError};
-use mv_cfg::{Block, Cfg};
+use crate::flow::carry;
+use crate::{Domain, StepError};
+use mv_cfg::Cfg;
 use std::alloc::{AllocError, Global};
 use thiserror::Error;
 
@@ -55,10 +54,10 @@ const VISITS: u16 = 256;
 
 /// The state, if it may be stated.
 fn small<D: Domain>(d: &D, s: D::State) -> Result<D::State, SolveError>
-    requires state { D.is_state d.now s }
-    ensures ok { IfOk result (λ r. (r ≡ s) × D.is_small d.now s) }
+    requires state { (D.order d.now).is_state s }
+    ensures ok { IfOk result (λ r. (r ≡ s) × (D.order d.now).is_small s) }
     ensures need { ¬ IsErrOf result SolveError.Need }
-    ensures large { IsErrOf result SolveError.TooComplex → ¬ D.is_small d.now s }
+    ensures large { IsErrOf result SolveError.TooComplex → ¬ (D.order d.now).is_small s }
 {
     if d.fits(&s) {
         Ok(s)
@@ -74,11 +73,11 @@ fn joined<D: Domain>(
     old: &Option<D::State>,
     t: &D::State,
 ) -> Result<Option<D::State>, SolveError>
-    requires state { D.is_state d.now t.now }
-    requires old_state { (s : D.State) → old.now ≡ Option.Some s → D.is_state d.now s }
-    ensures ok { IfOk result (IsNewState (D.is_small d.now) (D.below d.now) (D.joined d.now) old.now t.now) }
+    requires state { (D.order d.now).is_state t.now }
+    requires old_state { (s : D.State) → old.now ≡ Option.Some s → (D.order d.now).is_state s }
+    ensures ok { IfOk result (IsNewState (D.order d.now) old.now t.now) }
     ensures need { ¬ IsErrOf result SolveError.Need }
-    ensures exceeds { IsErrOf result SolveError.TooComplex → (u : D.State) × (Raises (D.below d.now) (D.joined d.now) t.now old.now u × ¬ D.is_small d.now u) }
+    ensures exceeds { IsErrOf result SolveError.TooComplex → (u : D.State) × (Raises (D.order d.now) t.now old.now u × ¬ (D.order d.now).is_small u) }
 {
     match old {
         None => Ok(Some(small(d, d.copy(alloc, t)?)?)),
@@ -102,11 +101,11 @@ fn raise<D: Domain>(
 ) -> Result<(), SolveError>
     requires inside { n < length states.old }
     requires marked { n < length waiting.old }
-    requires state { D.is_state d.now t.now }
-    requires states { AllStated (D.is_state d.now) states.old }
-    ensures ok { OnOk result (FlowsIntoEach (D.is_small d.now) (D.below d.now) (D.joined d.now) (Contains (n ∷ [])) t.now (standing states.old waiting.old) (standing states.new waiting.new)) }
+    requires state { (D.order d.now).is_state t.now }
+    requires states { AllStated (D.order d.now).is_state states.old }
+    ensures ok { OnOk result (FlowsIntoEach (D.order d.now) (Contains (n ∷ [])) t.now (standing states.old waiting.old) (standing states.new waiting.new)) }
     ensures need { ¬ IsErrOf result SolveError.Need }
-    ensures exceeds { IsErrOf result SolveError.TooComplex → ExceedsAt (D.is_small d.now) (D.below d.now) (D.joined d.now) t.now n states.old }
+    ensures exceeds { IsErrOf result SolveError.TooComplex → ExceedsAt (D.order d.now) t.now n states.old }
 {
     if let Some(u) = joined(alloc, d, &states[n], t)? {
         states[n] = Some(u);
@@ -116,6 +115,63 @@ fn raise<D: Domain>(
 }
 
 /// Lets the state `t` flow into each of the blocks.
+fn raise_all<D: Domain>(
+    alloc: Global,
+    d: &D,
+    states: &mut [Option<D::State>],
+    waiting: &mut [bool],
+    blocks: &[usize],
+    t: &D::State,
+) -> Result<(), SolveError>
+    requires inside { All (λ n. n < length states.old) blocks.now }
+    requires marked { length waiting.old ≡ length states.old }
+    requires state { (D.order d.now).is_state t.now }
+    requires states { AllStated (D.order d.now).is_state states.old }
+    ensures ok { OnOk result (FlowsIntoEach (D.order d.now) (Contains blocks.now) t.now (standing states.old waiting.old) (standing states.new waiting.new)) }
+    ensures need { ¬ IsErrOf result SolveError.Need }
+    ensures exceeds { IsErrOf result SolveError.TooComplex → (n : ℕ) × (Contains blocks.now n × ExceedsAt (D.order d.now) t.now n states.old) }
+{
+    for n in blocks {
+        raise(alloc, d, states, waiting, *n, t)?;
+    }
+    Ok(())
+}
+
+/// Whether a state is stated, and is above `t`.
+fn is_above<D: Domain>(d: &D, stated: &Option<D::State>, t: &D::State) -> bool
+    requires state { (D.order d.now).is_state t.now }
+    requires stated_state { (s : D.State) → stated.now ≡ Option.Some s → (D.order d.now).is_state s }
+    ensures { IsTrue result → (s : D.State) × ((stated.now ≡ Option.Some s) × (D.order d.now).below t.now s) }
+{
+    match stated {
+        Some(s) => d.leq(t, s),
+        None => false,
+    }
+}
+
+/// How many of the blocks, before the first other one, have a stated state above `t`.
+fn count_above<D: Domain>(
+    d: &D,
+    states: &[Option<D::State>],
+    blocks: &[usize],
+    t: &D::State,
+) -> usize
+    requires inside { All (λ n. n < length states.now) blocks.now }
+    requires state { (D.order d.now).is_state t.now }
+    requires states { AllStated (D.order d.now).is_state states.now }
+    ensures within { result ≤ length blocks.now }
+    ensures above { All (λ n. (s : D.State) × (IsStated states.now n s × (D.order d.now).below t.now s)) (take result blocks.now) }
+{
+    for (i, n) in blocks.iter().enumerate() {
+        if !is_above(d, &states[*n], t) {
+            return i;
+        }
+    }
+    blocks.len()
+}
+
+/// Lets the state `t` flow into each of the blocks. It is copied once, if a block's state isn't above it: a state that comes out of
+/// a block may have a form in which it is dear to ask, and its copy is asked for that block and those after it.
 fn raise_each<D: Domain>(
     alloc: Global,
     d: &D,
@@ -126,40 +182,22 @@ fn raise_each<D: Domain>(
 ) -> Result<(), SolveError>
     requires inside { All (λ n. n < length states.old) blocks.now }
     requires marked { length waiting.old ≡ length states.old }
-    requires state { D.is_state d.now t.now }
-    requires states { AllStated (D.is_state d.now) states.old }
-    ensures ok { OnOk result (FlowsIntoEach (D.is_small d.now) (D.below d.now) (D.joined d.now) (Contains blocks.now) t.now (standing states.old waiting.old) (standing states.new waiting.new)) }
+    requires state { (D.order d.now).is_state t.now }
+    requires states { AllStated (D.order d.now).is_state states.old }
+    ensures ok { OnOk result (FlowsIntoEach (D.order d.now) (Contains blocks.now) t.now (standing states.old waiting.old) (standing states.new waiting.new)) }
     ensures need { ¬ IsErrOf result SolveError.Need }
-    ensures exceeds { IsErrOf result SolveError.TooComplex → (n : ℕ) × (Contains blocks.now n × ExceedsAt (D.is_small d.now) (D.below d.now) (D.joined d.now) t.now n states.old) }
+    ensures exceeds { IsErrOf result SolveError.TooComplex → (n : ℕ) × (Contains blocks.now n × ExceedsAt (D.order d.now) t.now n states.old) }
 {
-    for n in blocks {
-        raise(alloc, d, states, waiting, *n, t)?;
+    let above = count_above(d, states, blocks, t);
+    if above == blocks.len() {
+        return Ok(());
     }
-    Ok(())
-}
-
-/// What the block makes of the state.
-fn carry_through<D: Passage>(
-    alloc: Global,
-    d: &D,
-    block: &Block,
-    s: &D::State,
-) -> Result<D::State, SolveError>
-    requires state { D.is_state d.now s.now }
-    requires order { block.now.first ≤ block.now.last }
-    requires inside { block.now.last < D.size d.now }
-    ensures state { IfOk result (λ t. D.is_state d.now t) }
-    ensures ok { IfOk result (λ t. through (D.steps d.now) block.now s.now ≡ Option.Some t) }
-    ensures need { IsErrOf result SolveError.Need → through (D.steps d.now) block.now s.now ≡ Option.None }
-    ensures complex { ¬ IsErrOf result SolveError.TooComplex }
-{
-    let entered = d.enter(alloc, s)?;
-    let last = pass_through(alloc, d, entered, block.first, block.last)?;
-    Ok(d.leave(alloc, last)?)
+    let copied = d.copy(alloc, t)?;
+    raise_all(alloc, d, states, waiting, &blocks[above..], &copied)
 }
 
 /// Carries the state of a block through it, and lets what comes out flow into its successors.
-fn visit<D: Passage>(
+fn visit<D: Domain>(
     alloc: Global,
     d: &D,
     g: &Cfg,
@@ -167,24 +205,23 @@ fn visit<D: Passage>(
     states: &mut [Option<D::State>],
     waiting: &mut [bool],
 ) -> Result<(), SolveError>
-    requires graph { IsGraph g.now (D.size d.now) }
+    requires graph { IsGraph g.now (D.order d.now).size }
     requires inside { k < length g.now.blocks.items }
     requires entries { length states.old ≡ length g.now.blocks.items }
     requires marks { length waiting.old ≡ length g.now.blocks.items }
-    requires states { AllStated (D.is_state d.now) states.old }
+    requires states { AllStated (D.order d.now).is_state states.old }
     requires stated { (s : D.State) × IsAt states.old k (Option.Some s) }
-    ensures ok { OnOk result (IsVisit (D.is_small d.now) (D.below d.now) (D.joined d.now) (D.steps d.now) g.now k (standing states.old waiting.old) (standing states.new waiting.new)) }
-    ensures fails { IsErrOf result SolveError.Need → Makes (D.is_small d.now) (D.below d.now) (D.joined d.now) (D.steps d.now) g.now k states.old Option.None }
-    ensures exceeds { IsErrOf result SolveError.TooComplex → Exceeds (D.is_small d.now) (D.below d.now) (D.joined d.now) (D.steps d.now) g.now k states.old }
+    ensures ok { OnOk result (IsVisit (D.order d.now) g.now k (standing states.old waiting.old) (standing states.new waiting.new)) }
+    ensures fails { IsErrOf result SolveError.Need → Makes (D.order d.now) g.now k states.old Option.None }
+    ensures exceeds { IsErrOf result SolveError.TooComplex → Exceeds (D.order d.now) g.now k states.old }
 {
     let block = &g.blocks[k];
     let Some(s) = &states[k] else {
         return Ok(());
     };
-    match carry_through(alloc, d, block, s) {
-        Ok(t) => raise_each(alloc, d, states, waiting, &block.successors, &t),
-        Err(e) => Err(e),
-    }
+    let begin = d.copy(alloc, s)?;
+    let t = carry(alloc, d, block, begin)?;
+    raise_each(alloc, d, states, waiting, &block.successors, &t)
 }
 
 /// The first block that waits.
@@ -202,7 +239,7 @@ fn first_waiting(waiting: &[bool]) -> Option<usize>
 }
 
 /// Visits the first block that waits, unless it has been visited as often as it may be.
-fn turn<D: Passage>(
+fn turn<D: Domain>(
     alloc: Global,
     d: &D,
     g: &Cfg,
@@ -213,17 +250,17 @@ fn turn<D: Passage>(
 ) -> Result<(), SolveError>
     requires waits { IsAt waiting.old k true }
     requires first { (j : ℕ) → j < k → IsAt waiting.old j false }
-    requires graph { IsGraph g.now (D.size d.now) }
-    requires same { D.is_graph d.now g.now }
+    requires graph { IsGraph g.now (D.order d.now).size }
+    requires same { (D.order d.now).is_graph g.now }
     requires marks { length waiting.old ≡ length g.now.blocks.items }
     requires lefts { length left.old ≡ length g.now.blocks.items }
-    requires search { IsUnderway (D.is_state d.now) (D.may_begin d.now) (D.is_small d.now) (D.below d.now) (D.joined d.now) (D.steps d.now) g.now left.old states.old waiting.old }
-    ensures search { OnOk result ((start : D.State) → IsSearch (D.is_small d.now) (D.below d.now) (D.joined d.now) (D.steps d.now) g.now start left.old states.old waiting.old
-        → IsSearch (D.is_small d.now) (D.below d.now) (D.joined d.now) (D.steps d.now) g.now start left.new states.new waiting.new) }
-    ensures fails { IsErrOf result SolveError.Need → (start : D.State) → IsSearch (D.is_small d.now) (D.below d.now) (D.joined d.now) (D.steps d.now) g.now start left.old states.old waiting.old
-        → MeetsNeed (D.is_small d.now) (D.below d.now) (D.joined d.now) (D.steps d.now) g.now start }
-    ensures limit { IsErrOf result SolveError.TooComplex → (start : D.State) → IsSearch (D.is_small d.now) (D.below d.now) (D.joined d.now) (D.steps d.now) g.now start left.old states.old waiting.old
-        → MeetsLimit (D.is_small d.now) (D.below d.now) (D.joined d.now) (D.steps d.now) g.now start }
+    requires search { IsUnderway (D.order d.now) g.now left.old states.old waiting.old }
+    ensures search { OnOk result ((start : D.State) → IsSearch (D.order d.now) g.now start left.old states.old waiting.old
+        → IsSearch (D.order d.now) g.now start left.new states.new waiting.new) }
+    ensures fails { IsErrOf result SolveError.Need → (start : D.State) → IsSearch (D.order d.now) g.now start left.old states.old waiting.old
+        → MeetsNeed (D.order d.now) g.now start }
+    ensures limit { IsErrOf result SolveError.TooComplex → (start : D.State) → IsSearch (D.order d.now) g.now start left.old states.old waiting.old
+        → MeetsLimit (D.order d.now) g.now start }
     ensures fewer { OnOk result (sum left.new < sum left.old) }
 {
     if left[k] == 0 {
@@ -235,7 +272,7 @@ fn turn<D: Passage>(
 }
 
 /// Visits blocks, the first that waits each time, until none waits.
-fn search_flow<D: Passage>(
+fn search_flow<D: Domain>(
     alloc: Global,
     d: &D,
     g: &Cfg,
@@ -243,17 +280,17 @@ fn search_flow<D: Passage>(
     waiting: &mut [bool],
     left: &mut [u16],
 ) -> Result<(), SolveError>
-    requires graph { IsGraph g.now (D.size d.now) }
-    requires same { D.is_graph d.now g.now }
+    requires graph { IsGraph g.now (D.order d.now).size }
+    requires same { (D.order d.now).is_graph g.now }
     requires marks { length waiting.old ≡ length g.now.blocks.items }
     requires lefts { length left.old ≡ length g.now.blocks.items }
-    requires search { IsUnderway (D.is_state d.now) (D.may_begin d.now) (D.is_small d.now) (D.below d.now) (D.joined d.now) (D.steps d.now) g.now left.old states.old waiting.old }
-    ensures search { OnOk result ((start : D.State) → IsSearch (D.is_small d.now) (D.below d.now) (D.joined d.now) (D.steps d.now) g.now start left.old states.old waiting.old
-        → IsSearch (D.is_small d.now) (D.below d.now) (D.joined d.now) (D.steps d.now) g.now start left.new states.new waiting.new) }
-    ensures fails { IsErrOf result SolveError.Need → (start : D.State) → IsSearch (D.is_small d.now) (D.below d.now) (D.joined d.now) (D.steps d.now) g.now start left.old states.old waiting.old
-        → MeetsNeed (D.is_small d.now) (D.below d.now) (D.joined d.now) (D.steps d.now) g.now start }
-    ensures limit { IsErrOf result SolveError.TooComplex → (start : D.State) → IsSearch (D.is_small d.now) (D.below d.now) (D.joined d.now) (D.steps d.now) g.now start left.old states.old waiting.old
-        → MeetsLimit (D.is_small d.now) (D.below d.now) (D.joined d.now) (D.steps d.now) g.now start }
+    requires search { IsUnderway (D.order d.now) g.now left.old states.old waiting.old }
+    ensures search { OnOk result ((start : D.State) → IsSearch (D.order d.now) g.now start left.old states.old waiting.old
+        → IsSearch (D.order d.now) g.now start left.new states.new waiting.new) }
+    ensures fails { IsErrOf result SolveError.Need → (start : D.State) → IsSearch (D.order d.now) g.now start left.old states.old waiting.old
+        → MeetsNeed (D.order d.now) g.now start }
+    ensures limit { IsErrOf result SolveError.TooComplex → (start : D.State) → IsSearch (D.order d.now) g.now start left.old states.old waiting.old
+        → MeetsLimit (D.order d.now) g.now start }
     ensures rests { OnOk result ((j : ℕ) → j < length waiting.new → IsAt waiting.new j false) }
 {
     while let Some(k) = first_waiting(waiting) {
@@ -292,33 +329,6 @@ fn first_counts(alloc: Global, n: usize) -> Result<Vec<u16>, AllocError>
     vec![in alloc; VISITS; n]
 }
 
-/// The flow with which the search of `solve` ends. States go through blocks in the form of their own.
-///
-/// # Errors
-/// Those of `solve`, in the same cases.
-pub fn solve_by_passage<D: Passage>(
-    alloc: Global,
-    d: &D,
-    g: &Cfg,
-    start: &D::State,
-) -> Result<Vec<Option<D::State>>, SolveError>
-    requires graph { IsGraph g.now (D.size d.now) }
-    requires same { D.is_graph d.now g.now }
-    requires start { D.is_state d.now start.now }
-    requires begins { D.may_begin d.now start.now }
-    ensures ends { IfOk result (λ v. EndsWith (D.is_small d.now) (D.below d.now) (D.joined d.now) (D.steps d.now) g.now start.now v.items) }
-    ensures fails { IsErrOf result SolveError.Need → MeetsNeed (D.is_small d.now) (D.below d.now) (D.joined d.now) (D.steps d.now) g.now start.now }
-    ensures limit { IsErrOf result SolveError.TooComplex → MeetsLimit (D.is_small d.now) (D.below d.now) (D.joined d.now) (D.steps d.now) g.now start.now }
-{
-    let first = small(d, d.copy(alloc, start)?)?;
-    let n = g.blocks.len();
-    let mut states = first_states(alloc, n, first)?;
-    let mut waiting = first_marks(alloc, n)?;
-    let mut left = first_counts(alloc, n)?;
-    search_flow(alloc, d, g, &mut states, &mut waiting, &mut left)?;
-    Ok(states)
-}
-
 /// The flow with which this search ends: the least closed flow above the start state (`search_is_least`). The search begins with
 /// the start state stated for block 0, which waits. Of the blocks that wait, it always visits the one with the least first
 /// instruction, which then waits no more, and carries its state through it. If a successor's state is not above what comes out,
@@ -334,27 +344,33 @@ pub fn solve<D: Domain>(
     g: &Cfg,
     start: &D::State,
 ) -> Result<Vec<Option<D::State>>, SolveError>
-    requires graph { IsGraph g.now (D.size d.now) }
-    requires same { D.is_graph d.now g.now }
-    requires start { D.is_state d.now start.now }
-    requires begins { D.may_begin d.now start.now }
-    ensures ends { IfOk result (λ v. EndsWith (D.is_small d.now) (D.below d.now) (D.joined d.now) (D.steps d.now) g.now start.now v.items) }
-    ensures fails { IsErrOf result SolveError.Need → MeetsNeed (D.is_small d.now) (D.below d.now) (D.joined d.now) (D.steps d.now) g.now start.now }
-    ensures limit { IsErrOf result SolveError.TooComplex → MeetsLimit (D.is_small d.now) (D.below d.now) (D.joined d.now) (D.steps d.now) g.now start.now }
+    requires graph { IsGraph g.now (D.order d.now).size }
+    requires same { (D.order d.now).is_graph g.now }
+    requires start { (D.order d.now).is_state start.now }
+    requires begins { (D.order d.now).may_begin start.now }
+    ensures ends { IfOk result (λ v. EndsWith (D.order d.now) g.now start.now v.items) }
+    ensures fails { IsErrOf result SolveError.Need → MeetsNeed (D.order d.now) g.now start.now }
+    ensures limit { IsErrOf result SolveError.TooComplex → MeetsLimit (D.order d.now) g.now start.now }
 {
-    solve_by_passage(alloc, &Stepwise::of(d), g, start)
+    let first = small(d, d.copy(alloc, start)?)?;
+    let n = g.blocks.len();
+    let mut states = first_states(alloc, n, first)?;
+    let mut waiting = first_marks(alloc, n)?;
+    let mut left = first_counts(alloc, n)?;
+    search_flow(alloc, d, g, &mut states, &mut waiting, &mut left)?;
+    Ok(states)
 }
 
 /// How a search ends. Its flow is closed, and below every closed flow; its states are small, and a block may begin with each. If a
 /// need ends the search, there is no closed flow. If a limit ends it, some state with which a block may begin is too large, or 257
 /// of these states form an ascending chain.
 pub fn search_is_least<D: Domain>(d: &D, g: &Cfg, start: &D::State)
-    requires graph { IsGraph g.now (D.size d.now) }
-    requires same { D.is_graph d.now g.now }
-    requires start { D.is_state d.now start.now }
-    requires begins { D.may_begin d.now start.now }
-    ensures found { (flow : List (Option D.State)) → EndsWith (D.is_small d.now) (D.below d.now) (D.joined d.now) (D.steps d.now) g.now start.now flow
-        → IsLeastFlow (D.is_state d.now) (D.may_begin d.now) (D.is_small d.now) (D.below d.now) (D.steps d.now) g.now start.now flow }
-    ensures need { MeetsNeed (D.is_small d.now) (D.below d.now) (D.joined d.now) (D.steps d.now) g.now start.now → (flow : List (Option D.State)) → IsFlow (D.is_state d.now) g.now flow → ¬ IsClosed (D.below d.now) (D.steps d.now) g.now start.now flow }
-    ensures complex { MeetsLimit (D.is_small d.now) (D.below d.now) (D.joined d.now) (D.steps d.now) g.now start.now → HasLarge (D.is_state d.now) (D.may_begin d.now) (D.is_small d.now) ⊎ HasChain (D.is_state d.now) (D.may_begin d.now) (D.below d.now) }
+    requires graph { IsGraph g.now (D.order d.now).size }
+    requires same { (D.order d.now).is_graph g.now }
+    requires start { (D.order d.now).is_state start.now }
+    requires begins { (D.order d.now).may_begin start.now }
+    ensures found { (flow : List (Option D.State)) → EndsWith (D.order d.now) g.now start.now flow
+        → IsLeastFlow (D.order d.now) g.now start.now flow }
+    ensures need { MeetsNeed (D.order d.now) g.now start.now → (flow : List (Option D.State)) → IsFlow (D.order d.now) g.now flow → ¬ IsClosed (D.order d.now) g.now start.now flow }
+    ensures complex { MeetsLimit (D.order d.now) g.now start.now → HasLarge (D.order d.now) ⊎ HasChain (D.order d.now) }
 {}

@@ -11,6 +11,7 @@
 pub mod Counted
 pub mod KeptSlots
 pub mod Common
+pub mod Copies
 pub mod ListTests
 pub mod Orders
 pub mod Outcomes
@@ -22,4 +23,5 @@ pub mod StructSizes
 pub mod LinkedCode
 pub mod Kept
 pub mod Named
+pub mod StructPlaces
 pub mod Terms

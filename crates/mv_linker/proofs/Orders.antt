@@ -5,20 +5,12 @@ use Rattle.mv_linker.proofs.Common.{ℕ, ◌<◌, ◌∙◌, ◌≡◌, ◌≤�
 pub below-most : (a b c : ℕ) → a < b → b ≤ c → a < c
 below-most a b c lt le = omega arith
 
--- an index of one of few functions
-pub below-few : (a b : ℕ) → a < b → b ≤ 256 → a < 65536
-below-few a b lt le = omega arith
-
 -- an index within a list, and one past it, where the list is another one
 pub within-same : {A : Type 0} (i : ℕ) (xs ys : List A) → i < length xs → xs ≡ ys → i < length ys
 within-same i xs ys lt same = let long : length xs ≡ length ys = ap length same in omega arith
 
 pub past-same : {A : Type 0} (i : ℕ) (xs ys : List A) → length xs ≤ i → xs ≡ ys → length ys ≤ i
 past-same i xs ys le same = let long : length xs ≡ length ys = ap length same in omega arith
-
--- and within one that is as long
-pub within-as : {A B : Type 0} (i : ℕ) (xs ys : List A) (zs : List B) → i < length xs → xs ≡ ys → length zs ≡ length ys → i < length zs
-within-as i xs ys zs lt same long = let one : length xs ≡ length ys = ap length same in omega arith
 
 -- what stands there in the other one
 pub read-same : {A : Type 0} (i : ℕ) (xs ys : List A) (d : A) → xs ≡ ys → i < length ys → slice_get ys i ≡ Some (get_or xs i d)

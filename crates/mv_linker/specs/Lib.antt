@@ -1,5 +1,6 @@
 pub mod Code
 pub mod Codes
+pub mod Copied
 pub mod Found
 pub mod Indexed
 pub mod Kept
@@ -9,6 +10,7 @@ pub mod Matches
 pub mod News
 pub mod DependencyGraph
 pub mod Places
+pub mod Questions
 pub mod ScopeDependencies
 pub mod Settled
 pub mod Relinked

@@ -1,5 +1,5 @@
 // The module store. Its readers are in stored.rt.
-ghost use Rattle.std.specs.Prelude.{◌≡◌, ◌≤◌, [], length};
+ghost use Rattle.std.specs.Prelude.{◌≡◌, ◌≤◌, [], length, IfOk};
 ghost use Rattle.mv_move_types.specs.Named.{module_place};
 ghost use Rattle.mv_link_rules.specs.Link.{IsStore, tables_in};
 
@@ -10,13 +10,15 @@ pub mod entry;
 mod exports;
 pub mod indexed;
 pub mod places;
+mod questions;
 mod stored;
 
-use code::Code;
-use entry::{Name, Texts, asked_for};
+use adding::put_modules;
+use code::{Code, codes_copied};
+use entry::{Name, Texts, asked_for, entries_copied};
 use indexmap::IndexMap;
 use mv_move_types::Address;
-use std::alloc::Global;
+use std::alloc::{AllocError, Global};
 use std::marker::Model;
 
 /// The published modules by their names, in order of publication, with their linked code. Its model is their list, with their texts.
@@ -67,6 +69,25 @@ impl Store {
         ensures { result ≡ module_place (tables_in self.now) (record { address = address; name = name.now }) }
     {
         self.modules.get_index_of(&asked_for(address, name))
+    }
+
+    /// The same store in memory of its own. What that takes is the whole store's size.
+    ///
+    /// # Errors
+    ///
+    /// If an allocation failed.
+    pub fn copied(&self) -> Result<Store, AllocError>
+        ensures { IfOk result (λ s. s ≡ self.now) }
+    {
+        let alloc = self.allocator();
+        let entries = entries_copied(alloc, &self.modules)?;
+        let codes = codes_copied(alloc, &self.codes)?;
+        let mut modules: IndexMap<Name<'static>, Texts> = IndexMap::with_capacity(
+            alloc,
+            entries.len(),
+        )?;
+        put_modules(&mut modules, entries);
+        Ok(Store { modules, codes })
     }
 
     // What it allocates with.

@@ -3,10 +3,11 @@
 --   IsOfLocals m d locals         one availability for each local
 --   locals_step m d at locals     what the instruction at a place makes of the availabilities
 --   least_above a b, joined a b   the join of two availabilities, and of two states
+--   locals_order m d              the availabilities of a function's locals, their order and steps
 --   moved_out l locals            the availabilities after a move out of a local
 --   is_droppable, may_stay        whether what a local may still hold may be left behind
 --   Follows result new after      the new state is the one after, or a need fails
-use Rattle.std.specs.Prelude.{◌≡◌, ℕ, Bool, true, false, ◌-◌, List, [], length, map, zip, Option, Some, None, Result, Ok, Err, slice_get, slice_set}
+use Rattle.std.specs.Prelude.{◌≡◌, ⊤, ℕ, Bool, IsTrue, true, false, ◌-◌, List, [], length, map, zip, Option, Some, None, Result, Ok, Err, slice_get, slice_set}
 use Rattle.std.specs.Option.{option_map_or}
 use Rattle.mv_move_types.specs.declared.borrow.Availability.{Availability}
 use Rattle.mv_move_types.specs.declared.borrow.Availability.TheVariants.{Unavailable, Available, Maybe}
@@ -18,7 +19,8 @@ use Rattle.mv_abilities.specs.Abilities.{token_abilities}
 use Rattle.mv_type_rules.specs.TypesHold.{point_at}
 use Rattle.mv_lattice.specs.declared.StepError.{StepError}
 use Rattle.mv_lattice.specs.declared.StepError.TheVariants.{Need}
-use Rattle.mv_certificate_rules.specs.LocalsRules.{locals_after, needs_available}
+use Rattle.mv_lattice.specs.Order.{Order}
+use Rattle.mv_certificate_rules.specs.LocalsRules.{locals_after, locals_leq, needs_available}
 
 -- a function, and the tables of its module
 pub record Function : Type 0 where
@@ -42,6 +44,19 @@ least_above _ _ = Maybe
 -- each joined with the one at its place
 abbrev pub joined : List Availability → List Availability → List Availability
 joined a b = map (λ p. least_above p.0 p.1) (zip a b)
+
+-- the availabilities of a function's locals: a block may begin with any, and a search may state any
+abbrev pub locals_order : Module → FunctionDefinition → Order (List Availability)
+locals_order m d = record {
+  size = length d.code;
+  is_graph = λ g. ⊤;
+  is_state = IsOfLocals m d;
+  may_begin = λ s. ⊤;
+  below = λ a b. IsTrue (locals_leq a b);
+  joined = joined;
+  steps = locals_step m d;
+  is_small = λ s. ⊤;
+}
 
 -- the availabilities without the value of a local, which has to hold one
 abbrev pub moved_out : ℕ → List Availability → Option (List Availability)

@@ -1,6 +1,6 @@
 -- The order is a preorder, a join is a least state above both, and a step leaves one availability per local and keeps the order.
 -- It stands in specs/, since a trait's laws may cite nothing of their own crate but its specs/.
-use Rattle.std.specs.Prelude.{⊤, ◌≡◌, ℕ, List, [], ◌∷◌, Bool, true, false, IsTrue, Option, Some, None, length, slice_get, slice_set}
+use Rattle.std.specs.Prelude.{◌≡◌, ℕ, List, [], ◌∷◌, Bool, true, false, Option, Some, None, length, slice_get, slice_set}
 use Rattle.std.specs.Bool.{then_some}
 use Rattle.std.proofs.Common.{refl, sym, ap, ◌∙◌}
 use Rattle.std.proofs.lemmas.Bool.{and_parts}
@@ -14,7 +14,7 @@ use Rattle.mv_move_types.specs.Module.{Module, FunctionDefinition, local_tokens,
 use Rattle.mv_type_rules.specs.TypesHold.{Point, point_at}
 use Rattle.mv_lattice.specs.Laws.{IsLawful}
 use Rattle.mv_certificate_rules.specs.LocalsRules.{availability_leq, locals_leq, locals_after, is_available, needs_available, may_overwrite, may_leave}
-use Rattle.mv_locals_safety.specs.Domain.{IsOfLocals, joined, locals_step}
+use Rattle.mv_locals_safety.specs.Domain.{locals_order}
 use Rattle.mv_locals_safety.specs.Joins.{joined_left, joined_right, joined_least, joined_length}
 use Rattle.mv_certificate_rules.proofs.LocalsOrder.{leq_reflexive}
 use Rattle.mv_locals_safety.specs.Rising.{step_below}
@@ -67,8 +67,7 @@ leq_transitive (x ∷ a) (y ∷ b) (z ∷ c) p q =
     let qs = and_parts (availability_leq y z) (locals_leq b c) q in
     rw (transitive_one x y z ps.0 qs.0) (leq_transitive a b c ps.1 qs.1)
 
-pub locals_lawful : (m : Module) (d : FunctionDefinition)
-    → IsLawful (length d.code) (IsOfLocals m d) (λ s. ⊤) (λ a b. IsTrue (locals_leq a b)) joined (locals_step m d) (λ g. ⊤)
+pub locals_lawful : (m : Module) (d : FunctionDefinition) → IsLawful (locals_order m d)
 locals_lawful m d = record {
   reflexive = λ a h. leq_reflexive a;
   transitive = λ a b c ha hb hc p q. leq_transitive a b c p q;

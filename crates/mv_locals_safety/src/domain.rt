@@ -188,28 +188,12 @@ impl<'t, 'm> LocalsDomain<'t, 'm> {
 }
 
 impl<'t, 'm> Domain for LocalsDomain<'t, 'm> {
-    ghost use Rattle.std.specs.Prelude.{◌≡◌, ⊤, Option, length, IfOk, IsErrOf, IsTrue};
-    ghost use Rattle.mv_certificate_rules.specs.LocalsRules.{locals_leq};
-    ghost use Rattle.mv_locals_safety.specs.Domain.{IsOfLocals, joined as joined_each, locals_step};
+    ghost use Rattle.mv_locals_safety.specs.Domain.{locals_order};
     ghost use Rattle.mv_locals_safety.specs.Laws.{locals_lawful};
 
     type State = Availabilities;
 
-    ghost size = { λ d. length d.function.code };
-
-    ghost is_graph = { λ d g. ⊤ };
-
-    ghost is_state = { λ d s. IsOfLocals d.home d.function s };
-
-    ghost may_begin = { λ d s. ⊤ };
-
-    ghost below = { λ d a b. IsTrue (locals_leq a b) };
-
-    ghost joined = { λ d a b. joined_each a b };
-
-    ghost steps = { λ d at s. locals_step d.home d.function at s };
-
-    ghost is_small = { λ d s. ⊤ };
+    ghost order = { λ d. locals_order d.home d.function };
 
     ghost laws = { λ d. locals_lawful d.home d.function };
 
@@ -221,7 +205,6 @@ impl<'t, 'm> Domain for LocalsDomain<'t, 'm> {
         a.is_below(b)
     }
 
-    #[tactic(auto, using(crate::specs::Joins::joined_left, crate::specs::Joins::joined_right, crate::specs::Joins::joined_least, crate::specs::Joins::joined_length))]
     fn join(
         &self,
         alloc: Global,

@@ -1,12 +1,13 @@
 -- What is known of a graph is a list in its order: what changes of the edges that its ways stand for make of it.
-use Rattle.mv_edges.proofs.Common.{[], ℕ, ◌&&◌, ◌++◌, ◌==◌, ◌∙◌, ◌∷◌, ◌≡◌, Bool, List, None, Option, Some, ap, false, flat_map, length, not, refl, sym, true, list_any, Node}
-use Rattle.mv_edges.proofs.Common.{agrees_if, Edge, agrees, an_edge, but_out_of, edges_leq, extended, here, inherited}
+use Rattle.mv_edges.proofs.Common.{[], ℕ, ◌&&◌, ◌++◌, ◌==◌, ◌∙◌, ◌∷◌, ◌≡◌, Bool, List, None, Option, Some, ap, false, flat_map, length, not, refl, sym, true, list_all, list_any, Node}
+use Rattle.mv_edges.proofs.Common.{agrees_if, are_ascending, Edge, agrees, an_edge, but_out_of, edges_leq, extended, here, inherited}
 use Rattle.mv_ways.specs.Between.{any_between}
 use Rattle.mv_edges.proofs.Common.{opened, out_of, renamed, same_node, without, without_each, sorted}
 use Rattle.mv_ways.specs.Graph.{Heir, taken_over}
 use Rattle.mv_edges.proofs.Any.{any_at_all, list_any-alike, list_any-filter}
 use Rattle.mv_edges.proofs.Settled.{sorted-append, sorted-sorted, sorted-without, sorted-but_out_of, sorted-renamed, sorted-inherited, sorted-inherited_all, sorted-flat_map_alike}
-use Rattle.mv_edges.proofs.Settled.{any-sorted, leq-sorted}
+use Rattle.mv_edges.proofs.Sorting.{ascending-sorted}
+use Rattle.mv_edges.proofs.Settled.{all-sorted, any-sorted, leq-sorted}
 
 -- ---- changes: of these edges others are made
 
@@ -71,18 +72,22 @@ module _ (es : List Edge) where
   pub held_under : (us : List Edge) → edges_leq es us ≡ edges_leq (sorted es) us
   held_under us = sym (leq-sorted es us)
 
-  pub held_out_of : (n : Node) → any_between (λ m. same_node m n) None (λ m. true) es ≡ not (length (out_of n (sorted es)) == 0)
-  held_out_of n =
-      held_between (λ m. same_node m n) (λ m. true) None ∙ sym (list_any-filter (λ e. true) (λ e. same_node e.from n) (sorted es))
-      ∙ sym (any_at_all (out_of n (sorted es)))
+  pub held_ascending : are_ascending (sorted es) ≡ true
+  held_ascending = ascending-sorted es
 
-  pub held_agreeing : (n : Node) (f : ℕ) → any_between (λ m. same_node m n) (Some f) (λ m. true) es ≡ list_any (λ e. agrees f e.label) (out_of n (sorted es))
-  held_agreeing n f =
-      held_between (λ m. same_node m n) (λ m. true) (Some f)
-      ∙ list_any-alike (λ e. same_node e.from n && (agrees f e.label && true)) (λ e. same_node e.from n && agrees f e.label) (λ e. plain (same_node e.from n) (agrees f e.label)) (sorted es)
-      ∙ sym (list_any-filter (λ e. agrees f e.label) (λ e. same_node e.from n) (sorted es))
-    where
-      plain : (x y : Bool) → (x && (y && true)) ≡ (x && y)
-      plain false y = refl
-      plain true false = refl
-      plain true true = refl
+  pub held_passing : (test : Edge → Bool) → list_all test es ≡ list_all test (sorted es)
+  held_passing test = sym (all-sorted test es)
+
+-- what leads out of a node
+pub leads_out : (n : Node) (es : List Edge) → any_between (λ m. same_node m n) None (λ m. true) es ≡ not (length (out_of n es) == 0)
+leads_out n es = sym (list_any-filter (λ e. true) (λ e. same_node e.from n) es) ∙ sym (any_at_all (out_of n es))
+
+pub agrees_out : (n : Node) (f : ℕ) (es : List Edge) → any_between (λ m. same_node m n) (Some f) (λ m. true) es ≡ list_any (λ e. agrees f e.label) (out_of n es)
+agrees_out n f es =
+    list_any-alike (λ e. same_node e.from n && (agrees f e.label && true)) (λ e. same_node e.from n && agrees f e.label) (λ e. plain (same_node e.from n) (agrees f e.label)) es
+    ∙ sym (list_any-filter (λ e. agrees f e.label) (λ e. same_node e.from n) es)
+  where
+    plain : (x y : Bool) → (x && (y && true)) ≡ (x && y)
+    plain false y = refl
+    plain true false = refl
+    plain true true = refl

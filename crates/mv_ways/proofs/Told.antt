@@ -1,6 +1,7 @@
 -- Positions that begin others, place by place, and what follows for labels.
-use Rattle.mv_edges.proofs.Common.{[], ℕ, zero, suc, ◌&&◌, ◌||◌, ◌+◌, ◌<◌, ◌==◌, ◌∙◌, ◌∷◌, ◌≡◌, ◌≤◌, Bool, List, None, Option, Some, ap, arith, false, length, not, refl, slice_get, sym, take, true, true≢false}
-use Rattle.mv_edges.proofs.Common.{Edge, and_from, and_parts, eq-eqb, eqb-true, false_from_ne_true}
+use Rattle.mv_edges.proofs.Common.{[], ℕ, zero, suc, ◌&&◌, ◌++◌, ◌||◌, ◌+◌, ◌<◌, ◌==◌, ◌∙◌, ◌∷◌, ◌≡◌, Bool, List, Some, ap, arith, false, length, not, refl, slice_get, sym, take, true, true≢false}
+use Rattle.mv_edges.proofs.Common.{Edge, and_from, and_parts, eq-eqb, eqb-true, false_from_ne_true, get_or_from_slice_get, set, slice_get_within, take_more}
+use Rattle.std.proofs.lemmas.Grind.{take-set_at}
 use Rattle.std.specs.Bool.{beq}
 use Rattle.std.specs.Str.{bytes_eq}
 use Rattle.std.specs.Cmp.Lexicographic.{bytes_decides}
@@ -9,7 +10,7 @@ use Rattle.mv_move_types.specs.Paths.{begins}
 use Rattle.std.specs.Prelude.{filter}
 use Rattle.std.specs.List.{list_any}
 use Rattle.mv_edges.proofs.Any.{list_any-alike, list_any-filter}
-use Rattle.mv_edges.specs.Edges.{edge_leq, label_leq, leads_between, same_node}
+use Rattle.mv_edges.specs.Edges.{edge_leq, label_leq, leads_between}
 use Rattle.mv_ways.specs.Told.{is_beside, same_position}
 
 -- one position more
@@ -109,3 +110,11 @@ pub any_between : (e : Edge) (others : List Edge) → list_any (edge_leq e) (fil
 any_between e others =
     list_any-filter (edge_leq e) (leads_between e.from e.to) others
     ∙ list_any-alike (λ o. leads_between e.from e.to o && edge_leq e o) (edge_leq e) (λ o. twice (leads_between e.from e.to o) (label_leq e.label o.label)) others
+
+-- ---- positions that are copied
+
+-- one position more
+pub positions_more : (room path : List ℕ) (i v : ℕ) → i < length room → take i room ≡ take i path → Some v ≡ slice_get path i → take (i + 1) (set room i v) ≡ take (i + 1) path
+positions_more room path i v inside same at =
+    let there : i < length path = slice_get_within path i v (sym at) in
+    take-set_at room i (i + 1) v refl inside ∙ ap (λ xs. xs ++ v ∷ []) same ∙ ap (λ x. take i path ++ x ∷ []) (sym (get_or_from_slice_get path i v v (sym at))) ∙ sym (take_more path i v there)

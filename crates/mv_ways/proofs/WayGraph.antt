@@ -1,6 +1,7 @@
 pub mod Asked
 pub mod Behind
 pub mod Changed
+pub mod Counting
 pub mod Covered
 pub mod Drawn
 pub mod DrawnListing
@@ -17,6 +18,7 @@ pub mod Passes
 pub mod Stating
 pub mod Steps
 pub mod Tables
+pub mod Telling
 pub mod Terms
 pub mod Tying
 pub mod Under

@@ -3,7 +3,7 @@
 --   path_before way path                  positions behind a way, with the way's own before them
 --   is_field way                          whether a way is that of a field
 --   drawn_edges, is_passed g to ..        the edges of what is drawn to a way, exact or open; and whether, open, all are below others
-use Rattle.std.specs.Prelude.{ℕ, Bool, true, List, [], ◌∷◌, ◌++◌, false, fold, slice_index_or}
+use Rattle.std.specs.Prelude.{ℕ, Bool, true, List, [], ◌∷◌, ◌++◌, false, fold}
 use Rattle.std.specs.Option.{option_map_or}
 use Rattle.mv_move_types.specs.declared.borrow.Node.{Node}
 use Rattle.mv_edges.specs.Edges.{Edge, edges_leq, here, extended}

@@ -1,12 +1,16 @@
 pub mod Asking
 pub mod Behind
 pub mod Between
+pub mod Borrows
+pub mod Counting
 pub mod Covered
 pub mod Drawn
 pub mod Going
 pub mod Graph
 pub mod Leads
+pub mod Listing
 pub mod Made
 pub mod Sinks
+pub mod Telling
 pub mod Told
 pub mod Ways

@@ -1,13 +1,16 @@
 // A borrow graph on its way through a block.
-ghost use Rattle.std.specs.Prelude.{◌≡◌, ◌==◌, ◌++◌, ◌∷◌, [], length, not, IfOk, OnOk};
-ghost use Rattle.std.specs.List.{list_any};
+ghost use Rattle.std.specs.Prelude.{◌≡◌, ◌==◌, ◌++◌, ◌∷◌, [], length, nat_le, not, IfOk, OnOk, IsTrue};
+ghost use Rattle.std.specs.List.{list_all, list_any};
+ghost use Rattle.mv_edges.specs.Ascending.{are_ascending};
 ghost use Rattle.mv_edges.specs.Edges.{agrees, an_edge, but_out_of, edges_leq, extended, here, inherited, out_of, renamed, without, without_each};
 ghost use Rattle.mv_edges.specs.Sorted.{sorted};
 ghost use Rattle.mv_ways.specs.Between.{any_between};
+ghost use Rattle.mv_ways.specs.Counting.{is_short};
 ghost use Rattle.mv_ways.specs.Graph.{taken_over};
 
 use super::nodes::{All, NodeSet, One};
 use super::ways::WayGraph;
+use super::ways::every::EdgeTest;
 use mv_edges::Edges;
 use mv_move_types::Node;
 use std::alloc::{AllocError, Global};
@@ -55,7 +58,7 @@ impl<'a> Heir<'a> {
 /// list: it records for each reference how it came about, so that a change costs the same however many edges there are.
 #[derive(Drop, Debug)]
 pub struct Graph {
-    ways: WayGraph,
+    ways: Box<WayGraph>,
 }
 
 impl Model for Graph {
@@ -66,7 +69,7 @@ impl Model for Graph {
 
     ghost Value = { List EdgeRecord };
 
-    ghost view = { λ g. sorted (edges_of g.ways) };
+    ghost view = { λ g. sorted (edges_of g.ways.value) };
 }
 
 impl Graph {
@@ -74,15 +77,40 @@ impl Graph {
     pub fn of_edges(alloc: Global, edges: &Edges) -> Result<Self, AllocError>
         ensures { IfOk result (λ g. g ≡ edges.now) }
     {
-        let ways = WayGraph::of_edges(alloc, edges)?;
+        let ways = Box::new(alloc, WayGraph::of_edges(alloc, edges)?)?;
         Ok(Graph { ways })
     }
 
     /// The edges as a list.
-    pub fn settled(self, alloc: Global) -> Result<Edges, AllocError>
-        ensures { IfOk result (λ s. s ≡ self) }
+    pub fn settled(&self, alloc: Global) -> Result<Edges, AllocError>
+        ensures { IfOk result (λ s. s ≡ self.now) }
     {
         self.ways.settled(alloc)
+    }
+
+    /// The edges ascend.
+    #[tactic(auto, using(crate::proofs::Held::held_ascending))]
+    pub(crate) fn ascend(&self)
+        ensures { IsTrue (are_ascending self.now) }
+    {
+        let _ways = &self.ways;
+    }
+
+    /// Whether all edges pass a test.
+    #[tactic(auto, using(crate::proofs::Held::held_passing))]
+    pub(crate) fn all_pass<T: EdgeTest>(&self, test: &T) -> bool
+        ensures { result ≡ list_all (T.test test.now) self.now }
+    {
+        self.ways.all_pass(test)
+    }
+
+    /// Whether there are at most so many edges, whose labels are short.
+    #[tactic(auto, using(crate::proofs::Held::held_passing))]
+    pub(crate) fn are_at_most(&self, most: usize) -> bool
+        requires { IsTrue (list_all is_short self.now) }
+        ensures { result ≡ nat_le (length self.now) most }
+    {
+        self.ways.are_at_most(most)
     }
 
     /// Takes away the edges at a node.
@@ -149,19 +177,17 @@ impl Graph {
     }
 
     /// Whether an edge leads out of a node.
-    #[tactic(auto, using(crate::proofs::Held::held_out_of))]
     pub fn has_out_of(&self, n: Node) -> bool
         ensures { result ≡ not (length (out_of n self.now) == 0) }
     {
-        self.ways.any_between(&One(n), None, &All)
+        self.any_between(&One(n), None, &All)
     }
 
     /// Whether an edge that leads out of a node agrees with a position.
-    #[tactic(auto, using(crate::proofs::Held::held_agreeing))]
     pub fn has_agreeing_out_of(&self, n: Node, position: u8) -> bool
         ensures { result ≡ list_any (λ e. agrees position e.label) (out_of n self.now) }
     {
-        self.ways.any_between(&One(n), Some(position), &All)
+        self.any_between(&One(n), Some(position), &All)
     }
 
     /// Whether an edge leads from some nodes to others, and agrees with a position, if one is asked for.

@@ -21,9 +21,11 @@
 //! ```
 #![tactic(auto)]
 
+mod borrows;
 mod graph;
 mod nodes;
 mod ways;
 
+pub use borrows::Borrows;
 pub use graph::{Graph, Heir};
 pub use nodes::{All, NodeSet, One};

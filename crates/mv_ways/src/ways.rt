@@ -3,7 +3,9 @@ ghost use Rattle.std.specs.Prelude.{◌≡◌, ◌≤◌, length, IsTrue};
 ghost use Rattle.std.specs.List.{list_all};
 ghost use Rattle.mv_ways.specs.Ways.{are_below, are_earlier, is_known, most_ways};
 
+mod counting;
 mod drawing;
+pub(crate) mod every;
 mod extending;
 mod growth;
 mod listing;
@@ -13,7 +15,8 @@ mod sink;
 mod sinks;
 mod stating;
 mod steps;
-mod told;
+mod telling;
+pub(crate) mod told;
 mod tying;
 mod under;
 

@@ -1,13 +1,11 @@
 -- What pushes, pops and writes of locals do to the live references.
-use Rattle.std.proofs.Common.{◌≡◌, ℕ, zero, suc, ◌<◌, ◌+◌, List, [], ◌∷◌, ◌++◌, length, map, reverse, Bool, true, ◌⊎◌, inl, inr, refl, sym, ◌∙◌, ap, arith, Option, Some, None}
+use Rattle.std.proofs.Common.{◌≡◌, ℕ, zero, suc, ◌<◌, ◌+◌, List, [], ◌∷◌, ◌++◌, length, ◌⊎◌, inl, inr, refl, sym, ◌∙◌, ap, arith, Option, Some, None}
 use Rattle.std.proofs.lemmas.Bool.Decides.{eqb_tells}
 use Rattle.std.proofs.lemmas.List.{length-append}
-use Rattle.mv_borrow_graph.proofs.Abstract.Terms.Places.{Label, Agrees, field_of}
-use Rattle.mv_borrow_graph.proofs.Abstract.Terms.Rows.{after_field}
 use Rattle.std.proofs.lemmas.Bool.{cases_eq}
-use Rattle.mv_borrow_graph.proofs.Abstract.Terms.Covers.{Node, Slot, Own, Glob, Temp, Ref, Live, Edges, Covers}
+use Rattle.mv_borrow_graph.proofs.Abstract.Terms.Covers.{Node, Slot, Own, Glob, Temp, Ref, Live}
 use Rattle.mv_borrow_graph.proofs.Abstract.Terms.Lists.{Value, Reference, ref_of, ref_in, stack_ref, local_ref, set_local, refs_of, Activation, seen}
-use Rattle.mv_borrow_graph.proofs.Abstract.Rows.{Pushed, row_field_mutable}
+use Rattle.mv_borrow_graph.proofs.Abstract.Rows.{Pushed}
 use Rattle.std.proofs.lemmas.Option.{same_Some}
 
 pub stack_below : (s : List Value) (k : ℕ) (r : Ref) → stack_ref s k ≡ Some r → k < length s
@@ -161,20 +159,6 @@ stored_at a l s old e (Glob m) r h = cc
 stored_at a l s old e (Temp k) r h =
     let u = stack_under (Reference old) s k r h in
     inr ((λ z. cc), (λ z. u.0 (same_temp k (length s) z)), rw e u.1)
-
--- the whole row, at lists: MutBorrowField
-pub field_row : (a : Activation) (e : Edges) (kind : Node → Bool) (s : List Value) (old : Ref) (position : ℕ)
-    → Covers (seen a) e → ((n : Node) (r : Ref) → Live (seen a) n r → kind n ≡ r.mutable)
-    → a.stack ≡ Reference old ∷ s → old.mutable ≡ true
-    → ((x : Label) (c : Node) → e (Temp (length s)) x c → Agrees x position → ⊥)
-    → Covers (seen (record a { stack = Reference (record { mutable = true; place = field_of old.place position }) ∷ s })) (after_field position (length s) e)
-field_row a e kind s old position c typed h m need =
-    row_field_mutable (seen a) e (refs_of a.locals (Reference (record { mutable = true; place = field_of old.place position }) ∷ s)) c kind typed (length s)
-    position old (operand_at a s old h) m (replaced_at a s (Reference old) (record { mutable = true; place = field_of old.place position }) h) need
-
--- a Call: the arguments are the upper part of the caller's stack, and the new frame's first locals are they, the lowest first
-abbrev pub first_locals : List Value → List (Option Value)
-first_locals args = map Some (reverse args)
 
 abbrev pub returned : ℕ → Node → Node → Type 0
 returned height m n = (i : ℕ) × (m ≡ Temp i) × (n ≡ Temp (height + i))

@@ -1,9 +1,9 @@
 -- Dependencies, place by place.
-use Rattle.mv_linker.proofs.Common.{[], ℕ, ◌++◌, ◌+◌, ◌∙◌, ◌∷◌, ◌≡◌, ◌≤◌, AreDependenciesIn, ArePlaces, IsTrue, Links, List, Module, Some}
-use Rattle.mv_linker.proofs.Common.{ap, arith, count_after, have_one_name, length, length_push, modules_are_there, none-some, place_for, places_in, refl}
+use Rattle.mv_linker.proofs.Common.{[], ℕ, ◌++◌, ◌+◌, ◌∙◌, ◌∷◌, ◌≡◌, ◌≤◌, AreDependenciesIn, ArePlaces, List, Module, Some}
+use Rattle.mv_linker.proofs.Common.{ap, arith, count_after, have_one_name, length, length_push, none-some, place_for, places_in, refl}
 use Rattle.mv_linker.proofs.Common.{slice_get, subst, suc, sym, with_table, with_tables}
 use Rattle.mv_linker.specs.DependencyGraph.{AreNeeds}
-use Rattle.mv_linker.proofs.Lemmas.{all-among, among-at, place_below}
+use Rattle.mv_linker.proofs.Lemmas.{place_below}
 use Rattle.mv_linker.proofs.Joining.Resolving.{each_push}
 use Rattle.mv_linker.proofs.Joining.Scopes.{length-with_table}
 
@@ -23,9 +23,6 @@ place-within ms n = let low = place_below (have_one_name n) ms in grind (arith, 
 pub places-within : (ms ns : List Module) → ArePlaces (places_in ms ns) (length ms)
 places-within ms [] = tt
 places-within ms (n ∷ ns) = (place-within ms n, subst (λ c. ArePlaces (places_in (with_table ms n) ns) c) (length-with_table ms n) (places-within (with_table ms n) ns))
-
-pub all-there : (modules : List Module) (place : ℕ) (m : Module) → slice_get modules place ≡ Some m → Links modules → IsTrue (modules_are_there modules m (length m.module_handles))
-all-there modules place m at links = all-among (λ m. modules_are_there modules m (length m.module_handles)) modules m links.modules (among-at modules place m at)
 
 -- the dependencies of the first modules of a bundle
 pub record DependenciesSoFar (modules bundle : List Module) (all : List (List ℕ)) (i : ℕ) : Type 0 where

@@ -1,24 +1,14 @@
 -- Words and the places in them.
-use Rattle.std.proofs.Common.{◌≡◌, ◌↔◌, ◌⊎◌, ℕ, zero, suc, ◌+◌, ◌-◌, ◌*◌, ◌^◌, ◌<◌, ◌≤◌, ◌∙◌, ◌==◌, true, false, List, [], ◌∷◌, ◌++◌, cond, length, refl, sym, ap, ap₂, arith, subst, get_or, inl, inr, leb, take, bit_and, bit_or, w64}
+use Rattle.std.proofs.Common.{◌≡◌, ◌↔◌, ◌⊎◌, ℕ, zero, suc, ◌+◌, ◌-◌, ◌*◌, ◌^◌, ◌<◌, ◌≤◌, ◌∙◌, ◌==◌, true, List, [], ◌∷◌, ◌++◌, cond, length, refl, sym, ap, ap₂, arith, subst, get_or, inl, inr, leb, take, bit_and, bit_or, w64}
 use Rattle.std.specs.Prelude.{◌/◌, ◌%◌, ◌||◌, Contains, slice_set, min}
 use Rattle.std.specs.Int.{bit_at, bit_not, trailing_zeros}
 use Rattle.std.proofs.lemmas.Nat.Bits.{bit_at_set_same, bit_at_set_other, bit_at_and, bit_at_not, bit_at_ones, bit_at_ones_above, bit_at-lt, bit_at-trailing_zeros, bit_at-zero}
 use Rattle.std.proofs.Math.Nat.{mod-eq_of_lt}
 use Rattle.std.proofs.Math.Pow.{pow-lt}
-use Rattle.std.proofs.lemmas.Bool.{cases_eq, cases_lt, eq-eqb, ne_eqb, eqb-true, both_ways, lt-leb, le-leb, or_cases, or_left, or_right}
+use Rattle.std.proofs.lemmas.Bool.{cases_eq, cases_lt, eq-eqb, ne_eqb, eqb-true, lt-leb, le-leb, or_cases, or_left, or_right}
 use Rattle.std.proofs.lemmas.List.{take_all, take_more}
 use Rattle.std.proofs.lemmas.List.Elements.{Contains-append_left, Contains-push, Contains-push_cases}
-use Rattle.mv_linker.specs.Places.{has, AreBitsWithin, IsBitFrom, IsBitOutside, IsOutside}
-
--- one word more, with no place
-get-zero : (ws : List ℕ) (i : ℕ) → get_or (ws ++ 0 ∷ []) i 0 ≡ get_or ws i 0
-get-zero [] zero = refl
-get-zero [] (suc i) = refl
-get-zero (w ∷ ws) zero = refl
-get-zero (w ∷ ws) (suc i) = get-zero ws i
-
-pub has-zero : (ws more : List ℕ) → more ≡ ws ++ 0 ∷ [] → (p : ℕ) → has more p ≡ has ws p
-has-zero ws more e p = ap (λ l. has l p) e ∙ ap (λ w. bit_at w (p % 64) == 1) (get-zero ws (p / 64))
+use Rattle.mv_linker.specs.Places.{has, AreBitsWithin, IsBitFrom, IsBitOutside}
 
 -- a word is put
 set-same : (ws : List ℕ) (i w : ℕ) → i < length ws → get_or (slice_set ws i w) i 0 ≡ w
@@ -100,35 +90,9 @@ first-left word others fits small some left_fits =
 pub bits-within : (word others : ℕ) → others < 2 ^ 64 → bit_and word (bit_not w64 others) ≡ 0 → AreBitsWithin word others
 bits-within word others small none bit low is = within-bit word others bit small low none is
 
-pub is-outside : (words others : List ℕ) (from i word bit : ℕ) → ((b : ℕ) → b < 64 → (bit_at word b ≡ 1) ↔ IsBitFrom words i from b) → IsBitOutside word (get_or others i 0) bit
-    → IsOutside from words others (64 * i + bit)
-is-outside words others from i word bit part b =
-    let index : (64 * i + bit) / 64 ≡ i = omega (arith, b.low) in
-    let place : (64 * i + bit) % 64 ≡ bit = omega (arith, b.low) in
-    let there = (part bit b.low).0 b.is in
-    record {
-      high = there.high;
-      is = ap₂ (λ j k. bit_at (get_or words j 0) k == 1) index place ∙ ap (λ n. n == 1) there.is;
-      is_not = ap₂ (λ j k. bit_at (get_or others j 0) k == 1) index place ∙ ap (λ n. n == 1) b.is_not;
-    }
-
 -- the places of the words before one are in another set
 abbrev pub AreWithin : ℕ → List ℕ → List ℕ → ℕ → Type 0
 AreWithin from words others i = (p : ℕ) → p / 64 < i → from ≤ p → has words p ≡ true → has others p ≡ true
-
-pub none-yet : (words others : List ℕ) (from : ℕ) → AreWithin from words others (from / 64)
-none-yet words others from p low high is = absurd (omega (arith, low, high))
-
-pub within-more : (words others : List ℕ) (from i word : ℕ) → AreWithin from words others i → ((b : ℕ) → b < 64 → (bit_at word b ≡ 1) ↔ IsBitFrom words i from b)
-    → AreBitsWithin word (get_or others i 0) → AreWithin from words others (i + 1)
-within-more words others from i word before part here p low high is = elim (cases_eq (p / 64) i) [
-  | inl same ↦
-      let bit : bit_at (get_or words i 0) (p % 64) ≡ 1 = ap (λ j. bit_at (get_or words j 0) (p % 64)) (sym same) ∙ eqb-true (bit_at (get_or words (p / 64) 0) (p % 64)) 1 is in
-      let above : from ≤ 64 * i + p % 64 = omega (arith, high, same) in
-      let set = (part (p % 64) (omega arith)).1 (record { high = above; is = bit }) in
-      ap (λ j. bit_at (get_or others j 0) (p % 64) == 1) same ∙ ap (λ n. n == 1) (here (p % 64) (omega arith) set)
-  | inr other ↦ before p (omega (arith, low, other)) high is
-]
 
 -- ---- the part of a word from a bit on
 
@@ -171,21 +135,11 @@ part-bit words from i word bit is at low = (
       bit_at_and word mask bit ∙ ap₂ min (ap (λ w. bit_at w bit) is ∙ b.is) (mask-bit (from % 64) bit (omega arith) low ∙ ap (λ b. cond b 1 0) (le-leb (from % 64) bit above)),
 )
 
--- after its first word all of a word's bits are
-pub whole-bit : (words : List ℕ) (from i word bit : ℕ) → word ≡ get_or words i 0 → from / 64 ≤ i → (i ≡ from / 64 → ⊥) → (bit_at word bit ≡ 1) ↔ IsBitFrom words i from bit
-whole-bit words from i word bit is low other = (
-  λ e. record { high = omega (arith, low, other); is = ap (λ w. bit_at w bit) (sym is) ∙ e },
-  λ b. ap (λ w. bit_at w bit) is ∙ b.is,
-)
-
 -- ---- the set of some places
 
 -- it has the first of them
 abbrev pub HasFirst : List ℕ → List ℕ → ℕ → Type 0
 HasFirst words places i = (p : ℕ) → (has words p ≡ true) ↔ Contains (take i places) p
-
-pub has-none : (words places : List ℕ) → ((p : ℕ) → has words p ≡ false) → HasFirst words places 0
-has-none words places none p = (λ is. absurd (both_ways (has words p) (none p) is), λ there. absurd (omega (arith, there.1)))
 
 pub has-more : (words more places : List ℕ) (i place : ℕ) → HasFirst words places i → i < length places → place ≡ get_or places i 0
     → ((p : ℕ) → has more p ≡ (p == place || has words p)) → HasFirst more places (i + 1)

@@ -8,7 +8,7 @@ use Rattle.mv_linker.proofs.Common.{[], ℕ, zero, suc, ◌++◌, ◌+◌, ◌-�
 use Rattle.mv_linker.proofs.Common.{cases_eq, cond, directly, eq-eqb, eqb-true, false, false_from_ne_true, further, inl, inr, length, ne_eqb, or_cases, or_left, or_right, refl, same_Some, slice_get}
 use Rattle.mv_linker.proofs.Common.{slice_get-first, slice_get_within, subst, sym, take, true}
 use Rattle.mv_linker.specs.Places.{has, IsWithin}
-use Rattle.mv_linker.specs.Settled.{AreSettled, IsNext, IsSearched, IsSettled, LeadsTo, LeadsToSettled}
+use Rattle.mv_linker.specs.Settled.{AreSettled, IsNext, IsSettled, LeadsTo, LeadsToSettled}
 use Rattle.mv_linker.proofs.Lemmas.{Contains-at, at-Contains, element_at}
 use Rattle.mv_bound_rules.proofs.Found.{slice_get-take}
 use Rattle.mv_linker.proofs.Cycles.Settled.{one-settled}
@@ -52,34 +52,6 @@ end-at [] x = refl
 end-at (y ∷ chain) x = end-at chain x
 
 module _ (modules : List Module) (base start : ℕ) (was : List ℕ) where
-  -- it begins with its place
-  pub search-begins : (chain none met old : List ℕ) → AreSettled modules base was → IsWithin 0 old was → start < length modules → (IsSettled base was start → ⊥) → none ≡ []
-      → chain ≡ none ++ start ∷ [] → ((q : ℕ) → has met q ≡ (q == start || has old q)) → IsSearch modules base start was chain met was
-  search-begins chain none met old s within low fresh empty pushed put =
-      let one : chain ≡ start ∷ [] = pushed ∙ ap (λ l. l ++ start ∷ []) empty in
-      rw one (record {
-        settled = s;
-        stays = λ p high is. is;
-        steps = λ i p q at next. let end = slice_get_within (start ∷ []) (i + 1) q next in absurd (omega (arith, end));
-        once = λ i j p at same. (let a = slice_get_within (start ∷ []) i p at in let b = slice_get_within (start ∷ []) j p same in omega (arith, a, b));
-        open_at = λ i p at.
-            let here : p ≡ start = only i p at in
-            record {
-              low = rw here low;
-              came_to = rw here (put start ∙ or_left (start == start) (has old start) (eq-eqb start start refl));
-              unsettled = λ settled. fresh (subst (λ x. IsSettled base was x) here settled);
-            };
-        open_or_done = λ q is. elim (or_cases (q == start) (has old q) (sym (put q) ∙ is)) [
-          | inl here ↦ inr (at-Contains (start ∷ []) 0 q (ap Some (sym (eqb-true q start here))))
-          | inr before ↦ inl (within q (omega arith) before)
-        ];
-        begun = inr refl;
-      })
-    where
-      only : (i p : ℕ) → slice_get (start ∷ []) i ≡ Some p → p ≡ start
-      only zero p at = sym (same_Some start p at)
-      only (suc i) p at = let low = slice_get_within (start ∷ []) (suc i) p at in absurd (omega (arith, low))
-
   module _ (chain met done : List ℕ) (s : IsSearch modules base start was chain met done) (p : ℕ) (last : slice_get chain (length chain - 1) ≡ Some p) where
     long : 0 < length chain
     long = let low = slice_get_within chain (length chain - 1) p last in omega (arith, low)
@@ -240,15 +212,6 @@ module _ (modules : List Module) (base start : ℕ) (was : List ℕ) where
         here : (q : ℕ) → q ≡ p → has more q ≡ true
         here q same = put q ∙ or_left (q == p) (has done q) (eq-eqb q p same)
 
-  -- it ends where the chain does
-  pub search-ends : (chain met done : List ℕ) → IsSearch modules base start was chain met done → length chain ≡ 0 → IsSearched modules base start was met done
-  search-ends chain met done s none = record {
-    settled = s.settled;
-    stays = s.stays;
-    all_done = λ q high is. elim (s.open_or_done q is) [ inl settled ↦ settled | inr there ↦ (let k = Contains-at chain q there in let low = slice_get_within chain k.0 q k.1 in absurd (omega (arith, low, none))) ];
-    starts = elim s.begun [ inl settled ↦ settled | inr first ↦ (let low = slice_get_within chain 0 start first in absurd (omega (arith, low, none))) ];
-  }
-
 -- ---- searches from several places
 
 -- the first of them are settled
@@ -256,29 +219,6 @@ pub record IsSearchOfFirst (modules : List Module) (base : ℕ) (places met done
   pub settled : AreSettled modules base done
   pub all_done : IsWithin 0 met done
   pub each : (k p : ℕ) → k < i → slice_get places k ≡ Some p → IsSettled base done p
-
-pub none-searched : (modules : List Module) (base : ℕ) (places met done : List ℕ) → AreSettled modules base [] → met ≡ [] → done ≡ [] → IsSearchOfFirst modules base places met done 0
-none-searched modules base places met done s no_met no_done =
-    rw (no_met, no_done) (record { settled = s; all_done = λ p high is. is; each = λ k p low at. absurd (omega (arith, low)) })
-
--- one that is settled already
-pub one-passed : (modules : List Module) (base : ℕ) (places met done : List ℕ) (i p : ℕ) → IsSearchOfFirst modules base places met done i → slice_get places i ≡ Some p → IsSettled base done p
-    → IsSearchOfFirst modules base places met done (i + 1)
-one-passed modules base places met done i p s at settled = record {
-  settled = s.settled;
-  all_done = s.all_done;
-  each = λ k q low q_at. elim (cases_eq k i) [
-    | inl same ↦ subst (λ x. IsSettled base done x) (same_Some p q (sym at ∙ sym (ap (slice_get places) same) ∙ q_at)) settled
-    | inr other ↦ s.each k q (omega (arith, low, other)) q_at
-  ];
-}
-
--- and one from which a search came to its end
-pub one-searched : (modules : List Module) (base : ℕ) (places met done later more : List ℕ) (i p : ℕ) → IsSearchOfFirst modules base places met done i → slice_get places i ≡ Some p
-    → IsSearched modules base p done later more → IsSearchOfFirst modules base places later more (i + 1)
-one-searched modules base places met done later more i p s at searched =
-    let grows : (q : ℕ) → IsSettled base done q → IsSettled base more q = λ q settled. elim settled [ inl low ↦ inl low | inr is ↦ inr (searched.stays q (omega arith) is) ] in
-    one-passed modules base places later more i p (record { settled = searched.settled; all_done = searched.all_done; each = λ k q low q_at. grows q (s.each k q low q_at) }) at (inr searched.starts)
 
 -- ---- how much is left
 

@@ -110,10 +110,6 @@ module _ (modules : List Module) (base : ℕ) (done : List ℕ) (s : AreSettled 
       was i (inl low) = inr (inl low)
       was i (inr is) = elim (or_cases (i == p) (has done i) (sym (put i) ∙ is)) [ inl here ↦ inl (eqb-true i p here) | inr before ↦ inr (inr before) ]
 
--- the set of what is settled may be told otherwise
-pub settled-same : (modules : List Module) (base : ℕ) (done other : List ℕ) → done ≡ other → AreSettled modules base done → AreSettled modules base other
-settled-same modules base done other e s = subst (λ l. AreSettled modules base l) e s
-
 -- ---- a bundle joins
 
 -- a chain passes a module of a bundle
@@ -239,14 +235,3 @@ module _ (old ns : List Module) (once : all_differ have_one_name old ≡ true) w
       | inr is ↦ absurd (both_ways (has [] p) (has-nil p) is)
     ];
   }
-
--- none is in order by itself to begin with
-pub settled-none : (modules : List Module) → AreSettled modules 0 []
-settled-none modules = record {
-  closed = λ p q settled e. absurd (none p settled);
-  ordered = λ p m settled at chain. none p settled;
-}
-  where
-    none : (p : ℕ) → IsSettled 0 [] p → ⊥
-    none p (inl low) = omega (arith, low)
-    none p (inr is) = both_ways (has [] p) (has-nil p) is

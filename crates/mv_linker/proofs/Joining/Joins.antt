@@ -1,9 +1,9 @@
 -- A scope whose bundle joins its store: where its modules stand, and that what they name is there.
-use Rattle.mv_linker.proofs.Common.{ℕ, ◌==◌, ◌∙◌, ◌≡◌, InBounds, IsSome, Joins, Links, List, Module, New, None, Option, Scope, Some, all_differ, and_from, ap, arith, eq-eqb, false}
-use Rattle.mv_linker.proofs.Common.{find_index, function_is_there, have_one_name, inl, inr, is_some, length, length-map, list_all, modules_are_there, modules_in, names_hold, not, offered}
-use Rattle.mv_linker.proofs.Common.{position, refl, slice_get, slice_get_within, structs_are_there, sym, tables_in, true, WellDefined}
+use Rattle.mv_linker.proofs.Common.{ℕ, ◌==◌, ◌∙◌, ◌≡◌, InBounds, IsSome, Joins, List, Module, New, None, Scope, Some, ap, arith, eq-eqb, false}
+use Rattle.mv_linker.proofs.Common.{find_index, inl, inr, is_some, length, length-map, modules_in, not, offered}
+use Rattle.mv_linker.proofs.Common.{position, refl, slice_get, slice_get_within, sym, tables_in, WellDefined}
 use Rattle.std.proofs.lemmas.Bool.{not-false}
-use Rattle.mv_linker.proofs.Lemmas.{among-at, among-result, differ-result, all_at, element_at}
+use Rattle.mv_linker.proofs.Lemmas.{among-at, among-result, element_at}
 use Rattle.mv_linker.proofs.Joining.Assembling.{joining-offered}
 use Rattle.mv_linker.proofs.Joining.Bundled.{bundle-at, old-at, place-at}
 use Rattle.mv_linker.proofs.Cycles.DependencyLemmas.{length-places}
@@ -12,10 +12,6 @@ use Rattle.mv_linker.proofs.ListTests.{find_index-none}
 use Rattle.mv_linker.proofs.Joining.StillThere.{Joining}
 use Rattle.std.proofs.lemmas.Map.Keys.{any_passes_from_place}
 use Rattle.mv_linker.specs.Relinked.{IsFitting}
-
--- no value
-pub none-of : {A : Type 0} (o : Option A) → is_some o ≡ false → o ≡ None
-none-of o e = grind (arith, e)
 
 -- a place that is there is found
 pub position-there : (q k : ℕ) (places : List ℕ) → slice_get places k ≡ Some q → IsSome (position (λ p. p == q) places)
@@ -27,14 +23,6 @@ position-there q k places at =
 pub placed-length : (s : Scope) → length s.places.items ≡ length s.new.now
 placed-length s = ap length s.placed ∙ length-places (tables_in s.store.now) (offered s.new.now) ∙ length-map s.new.now (λ (n : New). n.module)
 
--- all that a module of linked ones names is there
-pub names-hold : (modules : List Module) (place : ℕ) (m : Module) → Links modules → slice_get modules place ≡ Some m → names_hold modules m ≡ true
-names-hold modules place m links at =
-    and_from _ _
-    (and_from _ _ (all_at (λ m. modules_are_there modules m (length m.module_handles)) modules place m links.modules at)
-    (all_at (λ m. structs_are_there modules m 0 m.struct_handles) modules place m links.structs at))
-    (all_at (λ m. list_all (function_is_there modules m) m.function_handles) modules place m links.functions at)
-
 -- a bundle that fits
 pub fitting : (s : Scope) → IsFitting s → Joining (tables_in s.store.now) (offered s.new.now)
 fitting s fits = joining-offered s.store.now s.new.now fits.store fits.passed fits.once fits.compatible
@@ -43,9 +31,6 @@ module _ (s : Scope) (joins : Joins s) where
   pub joining : Joining (tables_in s.store.now) (offered s.new.now)
   joining = fitting s joins.fits
 
-  pub one-name : all_differ have_one_name (modules_in s) ≡ true
-  one-name = differ-result (tables_in s.store.now) (offered s.new.now) joins.fits.store.once
-
   -- a module of the bundle stands at its place
   pub bundled-at : (k p : ℕ) (n : Module) → slice_get (offered s.new.now) k ≡ Some n → slice_get s.places.items k ≡ Some p → slice_get (modules_in s) p ≡ Some n
   bundled-at k p n at placed = bundle-at (tables_in s.store.now) (offered s.new.now) k p n joins.fits.once at (sym (ap (λ l. slice_get l k) s.placed) ∙ placed)
@@ -53,11 +38,6 @@ module _ (s : Scope) (joins : Joins s) where
   -- and the old one, where none of the bundle does
   pub kept-at : (q : ℕ) → position (λ p. p == q) s.places.items ≡ None → slice_get (modules_in s) q ≡ slice_get (tables_in s.store.now) q
   kept-at q none = old-at (tables_in s.store.now) (offered s.new.now) q (sym (ap (position (λ p. p == q)) s.placed) ∙ none)
-
-  -- each module of the bundle has its place
-  pub placed-at : (k : ℕ) (n : Module) → slice_get (offered s.new.now) k ≡ Some n → (p : ℕ) × (slice_get s.places.items k ≡ Some p)
-  placed-at k n at =
-      element_at s.places.items k (omega (arith, slice_get_within (offered s.new.now) k n at, ap length s.placed ∙ length-places (tables_in s.store.now) (offered s.new.now)))
 
   -- what stands at the place of one of the bundle
   pub same-bundled : (k q : ℕ) → position (λ p. p == q) s.places.items ≡ Some k → slice_get (offered s.new.now) k ≡ slice_get (modules_in s) q

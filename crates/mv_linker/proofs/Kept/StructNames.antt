@@ -19,7 +19,7 @@ unnamed-there modules codes place index code are code_at none =
     rw (m.1, slice_get_past m.0.structs index (past_from code.interface.outline.structs m.0.structs index (sym len) none)) refl
 
 -- the identifier in a struct's name
-identifier-in : (m : Module) (d : StructDefinition) (name : StructName) (identifier : List ℕ) → name_of_struct m d ≡ Some name → struct_identifier m d ≡ Some identifier → name.name ≡ identifier
+pub identifier-in : (m : Module) (d : StructDefinition) (name : StructName) (identifier : List ℕ) → name_of_struct m d ≡ Some name → struct_identifier m d ≡ Some identifier → name.name ≡ identifier
 identifier-in m d name identifier named is =
     struct_parts m d.handle name named (λ handle at home_is name_is.
     let same : struct_identifier m d ≡ Some name.name = rw at name_is in

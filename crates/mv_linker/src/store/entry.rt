@@ -1,11 +1,12 @@
 // A published module as the store keeps it: its name, by which it is found, and its texts.
 ghost use Rattle.std.specs.Prelude.{◌≡◌, Some, All, IfOk, OnOk};
 ghost use Rattle.mv_move_types.specs.Module.{own_name};
-ghost use Rattle.mv_linker.specs.Kept.{name_in, published_as, published_in};
+ghost use Rattle.mv_linker.specs.Kept.{AreKeyed, name_in, published_as, published_in, published_under};
 ghost use Rattle.mv_linker.specs.News.{HasItsTexts, AreTexts, published_of, published_one};
 ghost use Rattle.mv_link_rules.specs.Link.{IsPublishable};
 
 use crate::New;
+use indexmap::IndexMap;
 use mv_interface::name_of;
 use mv_move_types::Address;
 use std::alloc::{AllocError, Global};
@@ -138,6 +139,48 @@ pub fn entries_of(alloc: Global, new: &[New<'_>]) -> Result<Vec<Entry>, AllocErr
     let mut entries = Vec::with_capacity(alloc, new.len())?;
     for n in new {
         entries.push(entry_of(alloc, n)?)?;
+    }
+    Ok(entries)
+}
+
+/// A module of a store with its name and its texts copied.
+fn entry_copied(alloc: Global, name: &Name<'static>, texts: &Texts) -> Result<Entry, AllocError>
+    requires { own_name (published_as texts.now).tables ≡ Some (name_in name.now) }
+    ensures { IfOk result (λ e. e.published ≡ published_as texts.now) }
+{
+    let identifier = Vec::from_slice(alloc, name.identifier.as_slice())?;
+    let module = Vec::from_slice(alloc, &texts.module)?;
+    let certificate = Vec::from_slice(alloc, &texts.certificate)?;
+    Ok(Entry {
+        name: Name {
+            address: name.address,
+            identifier: CowSlice::Owned(identifier),
+        },
+        texts: Texts {
+            module,
+            certificate,
+        },
+    })
+}
+
+/// The modules of a store with their names and their texts copied.
+///
+/// # Errors
+///
+/// If an allocation failed.
+pub fn entries_copied(
+    alloc: Global,
+    modules: &IndexMap<Name<'static>, Texts>,
+) -> Result<Vec<Entry>, AllocError>
+    requires { AreKeyed modules.now.entries }
+    ensures { IfOk result (λ entries. published_in entries.items ≡ published_under modules.now.entries) }
+{
+    let mut entries = Vec::with_capacity(alloc, modules.len())?;
+    for i in 0..modules.len() {
+        // There is one.
+        let (key, texts) = modules.get_index(i).unwrap();
+        let entry = entry_copied(alloc, key, texts)?;
+        entries.push(entry)?;
     }
     Ok(entries)
 }

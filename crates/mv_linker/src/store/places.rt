@@ -135,6 +135,18 @@ impl Places {
         }
         None
     }
+
+    /// The same places in memory of their own.
+    ///
+    /// # Errors
+    ///
+    /// If an allocation failed.
+    pub fn copied(&self, alloc: Global) -> Result<Self, AllocError>
+        ensures { IfOk result (λ p. p ≡ self.now) }
+    {
+        let words = Vec::from_slice(alloc, &self.words)?;
+        Ok(Places { words })
+    }
 }
 
 /// A bit of a word that another one hasn't.

@@ -1,9 +1,9 @@
-// Borrows that go through a block step by step, beside their passage.
+// Borrows that go through a function step by step: as the graph that they become, and listed before each step.
 ghost use Rattle.std.specs.Prelude.{◌≤◌, length};
 
 use mv_borrow_graph::BorrowDomain;
-use mv_edges::Edges;
-use mv_lattice::{Domain, Passage, StepError};
+use mv_lattice::{Domain, StepError};
+use mv_ways::Borrows;
 use std::alloc::Global;
 use std::test::Fail;
 
@@ -13,30 +13,39 @@ const BORROWS: &str = "a11ceb0b0500000009010002020204030605050b080713130826100a3
 00000001030000040001000108000103010703014d0153056669727374067365636f6e640166000000000000000000000000000000010002020203030300000000020a\
 0d000f000c010a01140b012e141602000100";
 
-/// The edges after so many instructions, each a step of the list.
-fn stepped(alloc: Global, domain: &BorrowDomain<'_, '_>, count: usize) -> Result<Edges, StepError>
+/// The edges after so many instructions.
+fn stepped<'t>(
+    alloc: Global,
+    domain: &BorrowDomain<'t, '_>,
+    count: usize,
+) -> Result<Borrows<'t>, StepError>
     requires { count ≤ length domain.now.function.code }
 {
-    let mut edges = domain.start(alloc);
+    let mut edges = domain.start();
     for at in 0..count {
         edges = domain.step(alloc, edges, at)?;
     }
     Ok(edges)
 }
 
-/// The edges after so many instructions, by the passage of their block.
-fn passed(alloc: Global, domain: &BorrowDomain<'_, '_>, count: usize) -> Result<Edges, StepError>
+/// The edges after so many instructions, listed before each of them.
+fn listed<'t>(
+    alloc: Global,
+    domain: &BorrowDomain<'t, '_>,
+    count: usize,
+) -> Result<Borrows<'t>, StepError>
     requires { count ≤ length domain.now.function.code }
 {
-    let mut passing = domain.enter(alloc, &domain.start(alloc))?;
+    let mut edges = domain.start();
     for at in 0..count {
-        passing = domain.pass(alloc, passing, at)?;
+        let list = domain.copy(alloc, &edges)?;
+        edges = domain.step(alloc, list, at)?;
     }
-    Ok(domain.leave(alloc, passing)?)
+    Ok(edges)
 }
 
 #[test]
-fn steps_and_a_passage_make_the_same_edges(rt: HostRuntime) -> Result<(), Fail> {
+fn graphs_and_lists_go_through_steps_alike(rt: HostRuntime) -> Result<(), Fail> {
     let alloc = rt.alloc();
     let text = hex::decode(alloc, BORROWS)?;
     let bounded = mv_bounds::check(alloc, mv_binary_format::decode(alloc, &text)?)?;
@@ -49,13 +58,13 @@ fn steps_and_a_passage_make_the_same_edges(rt: HostRuntime) -> Result<(), Fail> 
     assert_eq!(rt; count, 10);
     for at in 0..=count {
         let edges = stepped(alloc, &domain, at)?;
-        assert!(rt; edges == passed(alloc, &domain, at)?);
+        assert!(rt; edges == listed(alloc, &domain, at)?);
         let wanted = match at {
             0 | 8..=10 => 0,
             4 => 3,
             _ => 1,
         };
-        assert_eq!(rt; edges.len(), wanted);
+        assert_eq!(rt; edges.into_list(alloc)?.len(), wanted);
     }
     Ok(())
 }

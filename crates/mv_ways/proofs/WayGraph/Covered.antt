@@ -1,5 +1,5 @@
 -- Leads with an open label above them: what is noted of them, and what that saves.
-use Rattle.mv_edges.proofs.Common.{[], ℕ, ◌&&◌, ◌++◌, ◌+◌, ◌<◌, ◌∙◌, ◌∷◌, ◌≡◌, ◌≤◌, ◌⊎◌, Bool, List, None, Option, Some, ap, append-nil, arith, false, flat_map, get_or, inl, inr, length, option_map_or, refl, slice_get, sorted, subst, sym, take, true}
+use Rattle.mv_edges.proofs.Common.{[], ℕ, ◌&&◌, ◌++◌, ◌+◌, ◌<◌, ◌∙◌, ◌∷◌, ◌≡◌, ◌≤◌, Bool, List, None, Option, Some, ap, append-nil, arith, false, flat_map, get_or, inl, inr, length, option_map_or, refl, slice_get, subst, sym, take, true}
 use Rattle.mv_edges.proofs.Common.{Node, Edge, edges_leq}
 use Rattle.std.specs.Prelude.{replicate}
 use Rattle.std.proofs.lemmas.List.{get_or-replicate, length-replicate}

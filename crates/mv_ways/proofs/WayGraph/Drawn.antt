@@ -2,18 +2,18 @@
 use Rattle.std.specs.Prelude.{IfSome, slice_get}
 use Rattle.std.proofs.lemmas.Bool.{ltb-true}
 use Rattle.mv_ways.proofs.WayGraph.DrawnListing.{drawn_at-way}
-use Rattle.mv_edges.proofs.Common.{[], ℕ, arith, suc, ◌++◌, ◌∙◌, ◌∷◌, ◌≡◌, List, None, Option, Some, ap, append-nil, append_assoc, flat_map, flat_map-append, option_map_or, refl, sorted, sym, take, drop, get_or, length, ◌+◌, ◌<◌, take-append-drop, take_more, Bool, false, true, Node, Edge}
+use Rattle.mv_edges.proofs.Common.{[], ℕ, arith, suc, ◌++◌, ◌∙◌, ◌∷◌, ◌≡◌, List, None, Option, Some, ap, append-nil, append_assoc, flat_map, flat_map-append, option_map_or, refl, sorted, sym, take, drop, get_or, length, ◌+◌, ◌<◌, take-append-drop, take_more, Bool, true, Node, Edge}
 use Rattle.mv_edges.proofs.Sorting.{sorted-append_swap}
 use Rattle.mv_edges.proofs.Settled.{sorted-append, sorted_behind_alike}
 use Rattle.mv_edges.specs.Edges.{here}
-use Rattle.mv_ways.specs.Behind.{a_tail, begun_edges, edges_with, field_tail, led_edges, tail_edges}
+use Rattle.mv_ways.specs.Behind.{a_tail, begun_edges, edges_with, led_edges}
 use Rattle.mv_ways.specs.Drawn.{all_drawn, drawn_of, path_before}
 use Rattle.mv_ways.specs.Going.{original}
 use Rattle.mv_ways.specs.Leads.{Lead}
 use Rattle.mv_ways.specs.Ways.{a_lead, are_earlier, goes_below, leads_at}
 use Rattle.mv_ways.specs.declared.ways.Way.{Way}
 use Rattle.mv_ways.specs.declared.ways.Way.TheVariants.{Stated, Lent, Field, Returned}
-use Rattle.mv_ways.proofs.WayGraph.Behind.{by_field}
+use Rattle.mv_ways.proofs.WayGraph.Behind.{by_field, field_tail}
 
 -- the label behind what a way goes over
 abbrev pub tail_before : Way → Edge → Edge

@@ -1,18 +1,18 @@
 -- What leads to a way is what is drawn to it, and what leads to each way that its chain ends with, opened.
-use Rattle.mv_edges.proofs.Common.{[], ℕ, zero, suc, ◌++◌, ◌+◌, ◌<◌, ◌∙◌, ◌∷◌, ◌≡◌, List, None, Option, Some, ap, append-nil, append_assoc, arith, flat_map, flat_map-append, fold, get_or, refl, slice_get, slice_get-get_or, length, sorted, subst, sym, true, Node, Edge, ltb-true, Contains, and_parts, inl, inr, list_all, slice_get_within}
+use Rattle.mv_edges.proofs.Common.{[], ℕ, zero, suc, ◌++◌, ◌+◌, ◌<◌, ◌∙◌, ◌∷◌, ◌≡◌, List, None, Option, Some, ap, append-nil, arith, flat_map, flat_map-append, get_or, refl, slice_get, slice_get-get_or, length, sorted, subst, sym, true, Node, Edge, ltb-true, Contains, and_parts, inl, inr, list_all, slice_get_within}
 use Rattle.std.specs.Prelude.{nat_lt}
 use Rattle.mv_edges.proofs.Insertion.{all_contains, contains_cases, contains_here, contains_none, contains_there}
-use Rattle.mv_edges.specs.Edges.{extended, here, opened}
-use Rattle.mv_edges.proofs.Settled.{sorted-append, sorted_behind_alike}
-use Rattle.mv_ways.specs.Behind.{a_tail, edges_with, field_tail, led_edges}
+use Rattle.mv_edges.specs.Edges.{here, opened}
+use Rattle.mv_edges.proofs.Settled.{sorted-append}
+use Rattle.mv_ways.specs.Behind.{a_tail, edges_with, led_edges}
 use Rattle.mv_ways.specs.Drawn.{all_drawn, drawn_of}
 use Rattle.mv_ways.specs.Going.{IsReturned, LeadsTo, given, original}
 use Rattle.mv_ways.specs.Going.LeadsTo.{itself, by_drawn, by_given}
 use Rattle.mv_ways.specs.Leads.{Lead}
-use Rattle.mv_ways.specs.Ways.{a_lead, all_leads, are_earlier, changed_leads, goes_below, leads_at, leads_of}
+use Rattle.mv_ways.specs.Ways.{a_lead, all_leads, are_earlier, goes_below, leads_at, leads_of}
 use Rattle.mv_ways.specs.declared.ways.Way.{Way}
 use Rattle.mv_ways.specs.declared.ways.Way.TheVariants.{Stated, Lent, Field, Returned}
-use Rattle.mv_ways.proofs.WayGraph.Behind.{by_field, by_returned, swap_last}
+use Rattle.mv_ways.proofs.WayGraph.Behind.{by_field, by_returned, field_tail, swap_last}
 use Rattle.mv_ways.proofs.WayGraph.DrawnListing.{drawn_at-way}
 use Rattle.mv_ways.proofs.WayGraph.Folded.{at_way}
 use Rattle.mv_ways.proofs.WayGraph.Listing.{earlier_at, leads_at-way}

@@ -1,5 +1,5 @@
 -- What is stated anew of a node: the edges that lead into others.
-use Rattle.mv_edges.proofs.Common.{[], ℕ, ◌++◌, ◌+◌, ◌<◌, ◌∙◌, ◌∷◌, ◌≡◌, Bool, List, None, Option, Some, ap, append-nil, append_assoc, arith, cond, false, flat_map, flat_map-append, get_or, length, list_all, map, option_map_or, refl, map-append, same_node_decides}
+use Rattle.mv_edges.proofs.Common.{[], ℕ, ◌++◌, ◌+◌, ◌<◌, ◌∙◌, ◌∷◌, ◌≡◌, Bool, List, None, Option, Some, ap, append-nil, append_assoc, arith, cond, false, flat_map, flat_map-append, get_or, length, list_all, map, option_map_or, refl, map-append}
 use Rattle.mv_edges.proofs.Common.{sym, suc, take, take_all, take_more, true, zero, ◌≤◌, an_edge, changed, extended, inherited, into, opened, same_node, sorted, without, without_each, Edge, Label, Node}
 use Rattle.mv_edges.specs.declared.label.Change.{Change}
 use Rattle.mv_edges.specs.declared.label.Change.TheVariants.{Extended}
@@ -9,6 +9,7 @@ use Rattle.mv_ways.proofs.Piecewise.{filter_piecewise, flat_map_nothing, map_pie
 use Rattle.mv_edges.proofs.Settled.{sorted-append, sorted-map}
 use Rattle.mv_ways.specs.declared.ways.Reference.{Reference}
 use Rattle.mv_ways.specs.Leads.{Lead}
+use Rattle.mv_ways.specs.Telling.{edges_at, edges_into}
 use Rattle.mv_ways.specs.Ways.{WayGraph, HasMoreSources, a_lead, all_leads, edges_of, gone, gone_each, lead_edges, leads_at, opened_into, reference_edges, source_at}
 use Rattle.mv_ways.proofs.WayGraph.Kept.{all_push, is_lead_known, lead_edges-more, leads_more}
 use Rattle.mv_ways.proofs.WayGraph.Steps.{edges_of-gone}
@@ -34,40 +35,23 @@ reference_into sources listed n r false h =
     sym (flat_map_nothing (λ (l : Lead). []) (λ l. refl) (leads_at listed r.way))
     ∙ through (into n) (filter_piecewise (λ e. same_node e.to n)) (lead_edges sources r.node) (λ l. []) (one_into sources r.node n false h) (leads_at listed r.way)
 
-module _ (g : WayGraph) (n : Node) (i : ℕ) (d : Reference) (h : i < length g.references) where
+module _ (g : WayGraph) (n : Node) where
   abbrev by_reference : Reference → List Edge
   by_reference = reference_edges g.sources (all_leads g.ways)
 
-  into_next : (b : Bool) → same_node (get_or g.references i d).node n ≡ b
-      → into n (flat_map by_reference (take (i + 1) g.references)) ≡ into n (flat_map by_reference (take i g.references)) ++ cond b (by_reference (get_or g.references i d)) []
-  into_next b is =
-      let r : Reference = get_or g.references i d in
-      ap (λ rs. into n (flat_map by_reference rs)) (take_more g.references i d h)
-      ∙ ap (into n) (flat_map-append by_reference (take i g.references) (r ∷ []) ∙ ap (λ es. flat_map by_reference (take i g.references) ++ es) (append-nil (by_reference r)))
-      ∙ (filter_piecewise (λ (e : Edge). same_node e.to n)).joined (flat_map by_reference (take i g.references)) (by_reference r)
-      ∙ ap (λ es. into n (flat_map by_reference (take i g.references)) ++ es) (sym (reference_into g.sources (all_leads g.ways) n r b is))
+  each_into : (rs : List Reference) → flat_map (edges_at (λ m. same_node m n) g) rs ≡ into n (flat_map by_reference rs)
+  each_into [] = refl
+  each_into (r ∷ rs) =
+      (λ i. reference_into g.sources (all_leads g.ways) n r (same_node r.node n) refl i ++ each_into rs i)
+      ∙ sym ((filter_piecewise (λ (e : Edge). same_node e.to n)).joined (by_reference r) (flat_map by_reference rs))
 
-  -- one reference more, which is the node's
-  pub into_more : (first all after : List Edge) (r : Reference) → r ≡ get_or g.references i d → same_node r.node n ≡ true
-      → sorted all ≡ sorted (first ++ into n (flat_map by_reference (take i g.references)))
-      → sorted after ≡ sorted (all ++ by_reference (record { node = n; way = r.way }))
-      → sorted after ≡ sorted (first ++ into n (flat_map by_reference (take (i + 1) g.references)))
-  into_more first all after r is same before e =
-      let node : r.node ≡ n = (same_node_decides r.node n).0 same in
-      let more : by_reference (record { node = n; way = r.way }) ≡ by_reference (get_or g.references i d) =
-      ap (λ to. by_reference (record { node = to; way = r.way })) (sym node) ∙ ap by_reference is in
-      e
-      ∙ sorted-append all (first ++ into n (flat_map by_reference (take i g.references))) (by_reference (record { node = n; way = r.way })) (by_reference (get_or g.references i d)) before (ap sorted more)
-      ∙ ap sorted (append_assoc first (into n (flat_map by_reference (take i g.references))) (by_reference (get_or g.references i d)))
-      ∙ ap (λ es. sorted (first ++ es)) (sym (into_next true (ap (λ (x : Reference). same_node x.node n) (sym is) ∙ same)))
+  -- the edges that lead into one node
+  pub into_one : edges_into (λ m. same_node m n) g ≡ into n (edges_of g)
+  into_one = each_into g.references
 
-  -- another one
-  pub into_same : (first all : List Edge) (r : Reference) → r ≡ get_or g.references i d → same_node r.node n ≡ false
-      → sorted all ≡ sorted (first ++ into n (flat_map by_reference (take i g.references)))
-      → sorted all ≡ sorted (first ++ into n (flat_map by_reference (take (i + 1) g.references)))
-  into_same first all r is other before =
-      before
-      ∙ ap (λ es. sorted (first ++ es)) (sym (into_next false (ap (λ (x : Reference). same_node x.node n) (sym is) ∙ other) ∙ append-nil (into n (flat_map by_reference (take i g.references)))))
+-- the edges that lead into any
+pub into_all : (g : WayGraph) → edges_into (λ m. true) g ≡ edges_of g
+into_all g = refl
 
 -- one node more
 pub nodes_more : (es all after : List Edge) (nodes : List Node) (i : ℕ) (d n : Node) → i < length nodes → n ≡ get_or nodes i d

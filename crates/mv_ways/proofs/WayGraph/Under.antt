@@ -1,8 +1,8 @@
 -- Whether the edges of a reference lie below others: by what is drawn to its way, and to each way that was given to a function on the way there.
-use Rattle.mv_edges.proofs.Common.{[], ℕ, ◌&&◌, ◌++◌, ◌<◌, ◌+◌, ◌∙◌, ◌∷◌, ◌≡◌, ◌||◌, Bool, Contains, List, None, Option, Some, ap, append-nil, arith, cases_lt, false, flat_map, flat_map-append, get_or, inl, inr, length, option_map_or, refl, set, slice_get, suc, subst, sym, true}
-use Rattle.mv_edges.proofs.Common.{Node, Edge, Label, edges_leq, get_or_from_slice_get, here, label_leq, opened, sorted, an_edge, composed, extended}
+use Rattle.mv_edges.proofs.Common.{[], ℕ, ◌&&◌, ◌++◌, ◌<◌, ◌+◌, ◌∙◌, ◌∷◌, ◌≡◌, ◌||◌, Bool, List, None, Option, Some, ap, append-nil, arith, cases_lt, false, flat_map, flat_map-append, get_or, inl, inr, length, refl, set, slice_get, suc, subst, sym, true}
+use Rattle.mv_edges.proofs.Common.{Node, Edge, Label, edges_leq, here, label_leq, opened, sorted, an_edge, composed}
 use Rattle.std.proofs.Common.{get_or-set_other, get_or-set_same, ◌≢◌}
-use Rattle.std.specs.List.{list_all, list_any}
+use Rattle.std.specs.List.{list_all}
 use Rattle.std.proofs.lemmas.Bool.{and_parts, and_from}
 use Rattle.std.proofs.Math.Bool.{and-true}
 use Rattle.mv_edges.proofs.Settled.{leq-sorted}
@@ -10,15 +10,15 @@ use Rattle.mv_edges.proofs.Order.{begins-append, edges_leq_from_contains, edges_
 use Rattle.mv_edges.proofs.Related.{related_from}
 use Rattle.mv_move_types.specs.Paths.{begins}
 use Rattle.std.proofs.lemmas.List.Elements.{Contains-append_left, Contains-append_right}
-use Rattle.mv_ways.specs.Behind.{a_tail, begun_edges, edges_with, field_tail, led_edges, tail_edges}
+use Rattle.mv_ways.specs.Behind.{a_tail, edges_with, led_edges}
 use Rattle.mv_ways.specs.Covered.{open_tail}
 use Rattle.mv_ways.specs.Drawn.{all_drawn, begun_open, drawn_edges, drawn_of, is_field, is_passed}
-use Rattle.mv_ways.specs.Going.{IsReturned, LeadsTo, given, original}
+use Rattle.mv_ways.specs.Going.{IsReturned, LeadsTo, original}
 use Rattle.mv_ways.specs.Going.LeadsTo.{itself, by_drawn, by_given}
 use Rattle.mv_ways.specs.Leads.{Lead}
 use Rattle.mv_ways.specs.Sinks.{leq_append}
 use Rattle.mv_ways.specs.Told.{IsTold}
-use Rattle.mv_ways.specs.Ways.{WayGraph, a_lead, all_leads, are_earlier, changed_leads, lead_edges, leads_at, reference_edges, source_at}
+use Rattle.mv_ways.specs.Ways.{WayGraph, a_lead, all_leads, are_earlier, leads_at, reference_edges, source_at}
 use Rattle.mv_ways.specs.declared.ways.Reference.{Reference}
 use Rattle.mv_ways.specs.declared.ways.Way.{Way}
 use Rattle.mv_ways.specs.declared.ways.sinks.Under.{Under}
@@ -31,10 +31,6 @@ use Rattle.mv_ways.proofs.WayGraph.Terms.{all_given}
 -- any way
 abbrev pub some_way : Way
 some_way = Lent 0 None
-
--- the way that is read is the one at the place
-pub read_way : (ways read : List Way) (place : ℕ) (way found : Way) → read ≡ ways → slice_get ways place ≡ Some way → found ≡ get_or read place found → found ≡ way
-read_way ways read place way found same at is = is ∙ ap (λ ws. get_or ws place found) same ∙ get_or_from_slice_get ways place way found at
 
 pub leq_each_of : {X : Type 0} (f : X → List Edge) (others : List Edge) (xs : List X) → edges_leq (flat_map f xs) others ≡ list_all (λ x. edges_leq (f x) others) xs
 leq_each_of f others [] = refl

@@ -1,11 +1,15 @@
-// What is asked of edges while they are told.
-ghost use Rattle.std.specs.Prelude.{◌≡◌, true};
+// What is made of edges, and what is asked of them, while they are told.
+ghost use Rattle.std.specs.Prelude.{◌≡◌, ◌++◌, ◌∷◌, [], false, true, IfOk, OnOk};
 ghost use Rattle.std.specs.List.{list_any};
 ghost use Rattle.mv_edges.specs.Edges.{edge_leq};
+ghost use Rattle.mv_edges.specs.Sorted.{sorted};
+ghost use Rattle.mv_ways.specs.Listing.{listed};
 
 use super::sink::Sink;
 use super::told::Told;
-use mv_edges::Edges;
+use mv_edges::{Edge, Edges};
+use std::alloc::{AllocError, Global};
+use std::mem::replace;
 
 /// Whether an edge is below one of a list's.
 pub(super) fn has_above(others: &Edges, e: &Told<'_>) -> bool
@@ -63,5 +67,97 @@ impl<'a> Sink for Under<'a> {
     fn tell(&mut self, e: &Told<'_>) -> bool {
         self.holds = self.holds && has_above(self.others, e);
         self.holds
+    }
+}
+
+/// How many edges are told before they are put in order.
+const MANY_EDGES: usize = 1_024;
+
+/// A list of all that it is told.
+#[derive(Drop)]
+pub(super) struct Listing {
+    ordered: Edges,
+    // Edges that aren't in order yet: never many more than those that are, so that one that is told often takes little room.
+    items: Vec<Edge>,
+    // Whether an allocation failed. The edges are of no use then.
+    has_failed: bool,
+}
+
+impl Listing {
+    /// Nothing has been told.
+    pub(super) fn new(alloc: Global) -> Self
+        ensures edges { listed result ≡ [] }
+        ensures failed { result.has_failed ≡ false }
+    {
+        Listing {
+            ordered: Edges::new(alloc),
+            items: Vec::new(alloc),
+            has_failed: false,
+        }
+    }
+
+    /// Puts all edges in order.
+    #[tactic(auto, using(crate::proofs::Listed::put_in_order))]
+    fn put_in_order(&mut self) -> Result<(), AllocError>
+        ensures edges { OnOk result (sorted (listed self.new) ≡ sorted (listed self.old)) }
+        ensures failed { self.new.has_failed ≡ self.old.has_failed }
+    {
+        let alloc = *self.items.allocator();
+        let items = replace(&mut self.items, Vec::new(alloc));
+        self.ordered.add_all(Edges::of_unordered(items)?)?;
+        Ok(())
+    }
+
+    /// Adds an edge.
+    fn push(&mut self, e: &Told<'_>) -> Result<(), AllocError>
+        ensures edges { OnOk result (sorted (listed self.new) ≡ sorted (listed self.old ++ e.now ∷ [])) }
+        ensures failed { self.new.has_failed ≡ self.old.has_failed }
+    {
+        let alloc = *self.items.allocator();
+        self.items.push(e.edge(alloc)?)?;
+        if self.items.len() < MANY_EDGES || self.items.len() < self.ordered.len() {
+            return Ok(());
+        }
+        self.put_in_order()
+    }
+
+    /// The edges in order, each once.
+    ///
+    /// # Errors
+    /// If an allocation failed, now or while edges were told.
+    #[tactic(auto, using(crate::proofs::Listed::all_in_order))]
+    pub(super) fn edges(self) -> Result<Edges, AllocError>
+        ensures edges { IfOk result (λ es. es ≡ sorted (listed self)) }
+        ensures failed { OnOk result (self.has_failed ≡ false) }
+    {
+        if self.has_failed {
+            return Err(AllocError);
+        }
+        let mut edges = Edges::of_unordered(self.items)?;
+        edges.add_all(self.ordered)?;
+        Ok(edges)
+    }
+}
+
+impl Sink for Listing {
+    ghost use Rattle.std.specs.Prelude.{◌≡◌, ◌++◌, false};
+    ghost use Rattle.std.proofs.Common.{◌∙◌};
+    ghost use Rattle.mv_edges.specs.Sorted.{sorted};
+    ghost use Rattle.mv_ways.specs.Listing.{listed};
+    ghost use Rattle.mv_ways.specs.Sinks.{listed_alike, listed_joined, listed_none};
+
+    ghost after = { λ old es new. new.has_failed ≡ false → (old.has_failed ≡ false) × (sorted (listed new) ≡ sorted (listed old ++ es)) };
+
+    ghost none = { λ s h. (h, listed_none (listed s)) };
+
+    ghost joined = { λ r s t es fs first second h. ((first (second h).0).0, listed_joined (listed r) (listed s) (listed t) es fs (first (second h).0).1 (second h).1) };
+
+    ghost alike = { λ s t es fs same it h. ((it h).0, (it h).1 ∙ listed_alike (listed s) es fs same) };
+
+    fn tell(&mut self, e: &Told<'_>) -> bool {
+        if self.push(e).is_err() {
+            self.has_failed = true;
+        }
+        !self.has_failed
     }
 }

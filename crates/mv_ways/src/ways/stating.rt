@@ -11,34 +11,11 @@ ghost use Rattle.mv_ways.specs.Ways.{edges_of, lead_edges, opened_into};
 
 use super::super::graph::Heir;
 use super::{Lead, Way, WayGraph};
-use mv_edges::{Change, Edge, Edges, is_same};
+use mv_edges::{Change, Edge, Edges};
 use mv_move_types::Node;
 use std::alloc::{AllocError, Global};
 
 impl WayGraph {
-    /// Adds the edges that lead into a node, in any order.
-    fn push_led_into(&self, alloc: Global, n: Node, edges: &mut Vec<Edge>) -> Result<(), AllocError>
-        ensures { OnOk result (sorted edges.new.items ≡ sorted (edges.old.items ++ into n (edges_of self.now))) }
-    {
-        for r in self.references() {
-            if is_same(r.node(), n) {
-                self.push_edges(alloc, r.way(), n, edges)?;
-            }
-        }
-        Ok(())
-    }
-
-    /// The edges that lead into some nodes.
-    fn led_into(&self, alloc: Global, nodes: &[Node]) -> Result<Edges, AllocError>
-        ensures { IfOk result (λ es. es ≡ sorted (flat_map (λ n. into n (edges_of self.now)) nodes.now)) }
-    {
-        let mut edges = Vec::new(alloc);
-        for n in nodes {
-            self.push_led_into(alloc, *n, &mut edges)?;
-        }
-        Edges::of_unordered(edges)
-    }
-
     /// Adds where an edge comes from, with a change made to its label.
     fn push_lead(
         &mut self,

@@ -1,11 +1,12 @@
 // An edge that is told, with its positions where they stand.
-ghost use Rattle.std.specs.Prelude.{◌≡◌, length, slice_get};
+ghost use Rattle.std.specs.Prelude.{◌≡◌, ◌≤◌, length, slice_get, IfOk, IfSome, IsSome};
 ghost use Rattle.mv_move_types.specs.Paths.{begins};
-ghost use Rattle.mv_edges.specs.Edges.{an_edge, composed, edge_leq};
+ghost use Rattle.mv_edges.specs.Edges.{an_edge, composed, edge_leq, same_edge, same_label};
 ghost use Rattle.mv_ways.specs.Told.{is_beside, same_position};
 
 use mv_edges::{Edge, Label, is_same};
 use mv_move_types::Node;
+use std::alloc::{AllocError, Global};
 use std::marker::Model;
 
 /// An edge. Its label is one that stands elsewhere, with positions behind it.
@@ -63,6 +64,36 @@ impl<'a> Told<'a> {
             is_open: label.is_open(),
             to: e.to(),
         }
+    }
+
+    /// The edge, with its positions copied.
+    pub(super) fn edge(&self, alloc: Global) -> Result<Edge, AllocError>
+        ensures { IfOk result (λ e. e ≡ self.now) }
+    {
+        let label = Label::from_slice(alloc, self.first, self.is_open && self.behind.is_empty())?;
+        if self.behind.is_empty() {
+            return Ok(Edge::new(self.from, label, self.to));
+        }
+        let behind = Label::from_slice(alloc, self.behind, self.is_open)?;
+        let label = label.followed_by(alloc, &behind)?;
+        Ok(Edge::new(self.from, label, self.to))
+    }
+
+    /// The edge, if its positions lie in the label itself: at most 8.
+    pub(super) fn short_edge(&self, alloc: Global) -> Option<Edge>
+        ensures value { IfSome result (λ e. e ≡ self.now) }
+        ensures short { length self.now.label.path ≤ 8 → IsSome result }
+    {
+        let mut room = [0; 8];
+        let count = self.depth();
+        if count > room.len() {
+            return None;
+        }
+        for place in 0..count {
+            room[place] = self.position(place)?;
+        }
+        let label = Label::from_slice(alloc, &room[..count], self.is_open).ok()?;
+        Some(Edge::new(self.from, label, self.to))
     }
 
     /// The node that it leads out of.
@@ -125,9 +156,24 @@ impl<'a> Told<'a> {
         is_same(self.from, other.from) && is_same(self.to, other.to)
     }
 
+    /// Whether both have the same label.
+    #[tactic(auto, using(crate::proofs::Told::same_by_begins))]
+    fn has_label_of(&self, other: &Told<'_>) -> bool
+        ensures { result ≡ same_label self.now.label other.now.label }
+    {
+        other.begins(self) && self.depth() == other.depth() && self.is_open == other.is_open
+    }
+
+    /// Whether both are one edge.
+    pub(crate) fn is_same(&self, other: &Told<'_>) -> bool
+        ensures { result ≡ same_edge self.now other.now }
+    {
+        is_same(self.from, other.from) && self.has_label_of(other) && is_same(self.to, other.to)
+    }
+
     /// Whether the other one leads between the same nodes by a label above its own.
     #[tactic(auto, using(crate::proofs::Told::not_beside, crate::proofs::Told::not_begun, crate::proofs::Told::below_open, crate::proofs::Told::open_not_below, crate::proofs::Told::below_exact))]
-    pub(super) fn is_below(&self, other: &Told<'_>) -> bool
+    pub(crate) fn is_below(&self, other: &Told<'_>) -> bool
         ensures { result ≡ edge_leq self.now other.now }
     {
         if !self.is_beside(other) {

@@ -1,9 +1,6 @@
-use Rattle.std.proofs.Common.{List, Option, IsTrue, ◌∙◌, ap, sym, subst, ⊎_elim}
-use Rattle.std.specs.Prelude.{⊤}
+use Rattle.std.proofs.Common.{List, Option, ◌∙◌, ap, sym, subst, ⊎_elim}
 use Rattle.mv_move_types.specs.declared.borrow.Availability.{Availability}
 use Rattle.mv_lattice.specs.Search.{EndsWith, MeetsNeed}
-use Rattle.mv_certificate_rules.specs.LocalsRules.{locals_leq}
-use Rattle.mv_locals_safety.specs.Domain.{joined}
 use Rattle.mv_certificate.specs.Functions.{LocalsHoldAt}
 use Rattle.mv_certificate.proofs.States.{graph-at}
 use Rattle.mv_analyser.specs.States.{locals_alone, EndsLocals, IsErrorAt}
@@ -56,7 +53,7 @@ pub returns-in-Ok-clause-found : goal.returns-in-Ok-clause-found
 returns-in-Ok-clause-found c =
     locals_end c.args.m.now c.in_ok-domain.domain.home c.args.f c.function_at-function.result.now c.in_ok-domain.domain.function c.graph_of-graph.result.now
     c.in_ok-domain.ensures.home c.function_at-function.ensures.at c.in_ok-domain.ensures.function c.graph_of-graph.ensures c.function_at-function.ensures.typed c.in_ok-start.start c.in_ok-start.ensures.start
-    (λ step h s. (flow : List (Option (List Availability))) × EndsWith (λ s. ⊤) (λ a b. IsTrue (locals_leq a b)) joined step h s flow) (c.in-Ok.least.items, c.in-Ok.ensures.ends)
+    (λ o h s. (flow : List (Option (List Availability))) × EndsWith o h s flow) (c.in-Ok.least.items, c.in-Ok.ensures.ends)
 
 pub returns-clause-ends : goal.returns-clause-ends
 returns-clause-ends c =
@@ -65,7 +62,7 @@ returns-clause-ends c =
     (λ h.
     locals_end c.args.m.now c.in_ok-domain.domain.home c.args.f c.function_at-function.result.now c.in_ok-domain.domain.function c.graph_of-graph.result.now
     c.in_ok-domain.ensures.home c.function_at-function.ensures.at c.in_ok-domain.ensures.function c.graph_of-graph.ensures c.function_at-function.ensures.typed c.in_ok-start.start c.in_ok-start.ensures.start
-    (λ step g s. MeetsNeed (λ s. ⊤) (λ a b. IsTrue (locals_leq a b)) joined step g s) (c.in-Err.ensures.fails h))
+    MeetsNeed (c.in-Err.ensures.fails h))
     (λ h.
     let few = few_locals c.args.m.now c.in_ok-domain.domain.home c.args.f c.function_at-function.result.now c.in_ok-domain.domain.function c.graph_of-graph.result.now
     c.in_ok-domain.ensures.home c.function_at-function.ensures.at c.in_ok-domain.ensures.function c.graph_of-graph.ensures c.function_at-function.ensures.typed c.in_ok-start.start c.in_ok-start.ensures.start c.function_at-function.ensures.small in

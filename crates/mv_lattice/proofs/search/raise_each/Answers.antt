@@ -1,70 +1,54 @@
-use Rattle.std.proofs.Common.{◌≡◌, ◌<◌, length, get_or, take, ◌++◌, ◌∷◌, [], ◌+◌, Contains, subst, sym, arith}
-use Rattle.std.proofs.lemmas.List.{take_more, take_all}
-use Rattle.std.proofs.lemmas.List.Elements.{Contains-get_or}
-use Rattle.std.proofs.lemmas.Result.{err_from_is_err_and}
-use Rattle.mv_lattice.specs.Search.{FlowsIntoEach}
+use Rattle.std.proofs.Common.{◌∙◌, ◌<◌, ◌-◌, [], length, take, drop, sym, subst, arith, All, Contains}
+use Rattle.std.proofs.lemmas.List.{append-nil, take_all, take_rest, take-append-drop}
+use Rattle.std.proofs.lemmas.List.Elements.{All-drop, Contains-append_right}
+use Rattle.std.proofs.lemmas.Result.{on_ok_weaker}
+use Rattle.mv_lattice.specs.Search.{FlowsIntoEach, ExceedsAt}
 use Rattle.mv_lattice.specs.Work.{standing}
-use Rattle.mv_lattice.proofs.Searches.{flows_none, flows_more, flows_valid, exceeds_before}
+use Rattle.mv_lattice.proofs.Searches.{flows_none, flows_after}
 use Rattle.mv_lattice.proofs.search.raise_each.Goals as goal
 
-pub loop-n-init : goal.loop-n-init
-loop-n-init g c =
-    let m = g.D.Domain in
+pub returns-then-above-blocks-clause-ok : goal.returns-then-above-blocks-clause-ok
+returns-then-above-blocks-clause-ok g c =
     let d = c.args.d.now in
-    flows_none (g.met.D.Domain.laws d) c.args.t.now c.requires.state (m.is_small d) (standing c.args.states.now c.args.waiting.now)
-
-pub loop-n-preserved : goal.loop-n-preserved
-loop-n-preserved g c =
-    let m = g.D.Domain in
-    let d = c.args.d.now in
-    let n = get_or c.args.blocks.now c.loop-n.n-index 0 in
-    let xs = take c.loop-n.n-index c.args.blocks.now in
-    let more : take (c.loop-n.n-index + 1) c.args.blocks.now ≡ xs ++ (n ∷ []) = take_more c.args.blocks.now c.loop-n.n-index 0 c.loop-n-test.true in
-    subst (λ zs. FlowsIntoEach (m.is_small d) (m.below d) (m.joined d) (Contains zs) c.args.t.now (standing c.args.states.now c.args.waiting.now) (standing c.raise.new.states c.raise.new.waiting)) (sym more)
-    (flows_more (g.met.D.Domain.laws d) c.args.t.now c.requires.state (m.is_small d) xs n (standing c.args.states.now c.args.waiting.now) (standing c.loop-n.states c.loop-n.waiting) (standing c.raise.new.states c.raise.new.waiting)
-    c.requires.states c.loop-n.invariant c.in_ok-raise.ensures.ok)
-
-pub returns-in_err-raise-clause-exceeds : goal.returns-in_err-raise-clause-exceeds
-returns-in_err-raise-clause-exceeds g c = λ e.
-    let m = g.D.Domain in
-    let d = c.args.d.now in
-    let n = get_or c.args.blocks.now c.loop-n.n-index 0 in
-    let xs = take c.loop-n.n-index c.args.blocks.now in
-    let p = err_from_is_err_and c.from_residual.result c.from_residual.ensures.1 in
-    let here = c.in_err-raise.ensures.exceeds (cc (p.1, p.2, e)) in (
-      n,
-      (
-        Contains-get_or c.args.blocks.now c.loop-n.n-index 0 c.loop-n-test.true,
-        exceeds_before (g.met.D.Domain.laws d) c.args.t.now c.requires.state (m.is_small d) xs n (standing c.args.states.now c.args.waiting.now) (standing c.loop-n.states c.loop-n.waiting) c.requires.states c.loop-n.invariant here,
-      ),
-    )
-
-pub raise-requires-clause-inside : goal.raise-requires-clause-inside
-raise-requires-clause-inside g c =
-    let low : get_or c.args.blocks.now c.loop-n.n-index 0 < length c.args.states.now = c.requires.inside c.loop-n.n-index 0 c.loop-n-test.true in
-    omega (arith, low, c.loop-n.auto.states)
-
-pub raise-requires-clause-marked : goal.raise-requires-clause-marked
-raise-requires-clause-marked g c =
-    let low : get_or c.args.blocks.now c.loop-n.n-index 0 < length c.args.states.now = c.requires.inside c.loop-n.n-index 0 c.loop-n-test.true in
-    omega (arith, low, c.requires.marked, c.loop-n.auto.waiting)
-
-pub raise-requires-clause-state : goal.raise-requires-clause-state
-raise-requires-clause-state g c = c.requires.state
-
-pub raise-requires-clause-states : goal.raise-requires-clause-states
-raise-requires-clause-states g c =
-    let m = g.D.Domain in
-    let d = c.args.d.now in
-    flows_valid (g.met.D.Domain.laws d) c.args.t.now c.requires.state (m.is_small d) (take c.loop-n.n-index c.args.blocks.now) (standing c.args.states.now c.args.waiting.now) (standing c.loop-n.states c.loop-n.waiting) c.requires.states c.loop-n.invariant
-
-pub returns-in_err-raise-clause-need : goal.returns-in_err-raise-clause-need
-returns-in_err-raise-clause-need g c = λ e.
-    let p = err_from_is_err_and c.from_residual.result c.from_residual.ensures.1 in c.in_err-raise.ensures.need (cc (p.1, p.2, e))
+    let blocks = c.args.blocks.now in
+    let above = c.count_above-above.result in
+    let x = standing c.args.states.now c.args.waiting.now in
+    flows_after (g.met.D.Domain.laws d) c.args.t.now c.requires.state (take above blocks) [] blocks x x (append-nil (take above blocks) ∙ take_all above blocks (omega (arith, c.if-above-blocks.true)))
+    c.count_above-above.ensures.above (flows_none (g.met.D.Domain.laws d) c.args.t.now c.requires.state x)
 
 pub returns-clause-ok : goal.returns-clause-ok
 returns-clause-ok g c =
-    let m = g.D.Domain in
     let d = c.args.d.now in
-    subst (λ zs. FlowsIntoEach (m.is_small d) (m.below d) (m.joined d) (Contains zs) c.args.t.now (standing c.args.states.now c.args.waiting.now) (standing c.loop-n.states c.loop-n.waiting))
-    (take_all c.loop-n.n-index c.args.blocks.now c.loop-n-test.false) c.loop-n.invariant
+    let o = g.D.Domain.order d in
+    let blocks = c.args.blocks.now in
+    let above = c.count_above-above.result in
+    let x = standing c.args.states.now c.args.waiting.now in
+    let y = standing c.raise_all.new.states c.raise_all.new.waiting in
+    on_ok_weaker c.raise_all.result
+    (λ flows. flows_after (g.met.D.Domain.laws d) c.args.t.now c.requires.state (take above blocks) (drop above blocks) blocks x y (take-append-drop above blocks) c.count_above-above.ensures.above
+    (subst (λ s. FlowsIntoEach o (Contains (drop above blocks)) s x y) c.in_ok-copied.ensures
+    (subst (λ ns. FlowsIntoEach o (Contains ns) c.in_ok-copied.copied x y) (take_rest blocks above) flows)))
+    c.raise_all.ensures.ok
+
+pub returns-clause-exceeds : goal.returns-clause-exceeds
+returns-clause-exceeds g c = λ e.
+    let o = g.D.Domain.order c.args.d.now in
+    let blocks = c.args.blocks.now in
+    let above = c.count_above-above.result in
+    let h = c.raise_all.ensures.exceeds e in
+    let there : Contains (drop above blocks) h.0 = subst (λ ns. Contains ns h.0) (take_rest blocks above) h.1.0 in (
+      h.0,
+      (
+        subst (λ ns. Contains ns h.0) (take-append-drop above blocks) (Contains-append_right (take above blocks) (drop above blocks) h.0 there),
+        subst (λ s. ExceedsAt o s h.0 c.args.states.now) c.in_ok-copied.ensures h.1.1,
+      ),
+    )
+
+pub raise_all-requires-clause-inside : goal.raise_all-requires-clause-inside
+raise_all-requires-clause-inside g c =
+    let blocks = c.args.blocks.now in
+    let above = c.count_above-above.result in
+    subst (All (λ n. n < length c.args.states.now)) (sym (take_rest blocks above)) (All-drop (λ n. n < length c.args.states.now) above blocks c.requires.inside)
+
+pub raise_all-requires-clause-state : goal.raise_all-requires-clause-state
+raise_all-requires-clause-state g c = subst (g.D.Domain.order c.args.d.now).is_state (sym c.in_ok-copied.ensures) c.requires.state

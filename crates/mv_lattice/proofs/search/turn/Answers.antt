@@ -18,42 +18,42 @@ left_there waiting left n k waits lefts marks =
 
 pub returns-then-left-k-eq0-clause-limit : goal.returns-then-left-k-eq0-clause-limit
 returns-then-left-k-eq0-clause-limit g c = λ _ start has.
-    let m = g.D.Domain in
     let d = c.args.d.now in
+    let o = g.D.Domain.order d in
     let k = c.args.k in
     let l = get_or c.args.left.now k 0 in
     let left = left_there c.args.waiting.now c.args.left.now _ k c.requires.waits c.requires.lefts c.requires.marks in
-    turn_over (m.is_small d) (m.below d) (m.joined d) (m.steps d) c.args.g.now start c.args.left.now c.args.states.now c.args.waiting.now has k l c.requires.waits c.requires.first left c.if-left-k-eq0.true
+    turn_over o c.args.g.now start c.args.left.now c.args.states.now c.args.waiting.now has k l c.requires.waits c.requires.first left c.if-left-k-eq0.true
 
 pub returns-clause-search : goal.returns-clause-search
 returns-clause-search g c =
-    let m = g.D.Domain in
     let d = c.args.d.now in
+    let o = g.D.Domain.order d in
     let k = c.args.k in
     let l = get_or c.args.left.now k 0 in
     let left = left_there c.args.waiting.now c.args.left.now _ k c.requires.waits c.requires.lefts c.requires.marks in
     let some : 0 < l = omega (arith, c.if-left-k-eq0.false) in
-    on_ok_weaker c.visit.result (λ visit start has. turn_done (m.is_small d) (m.below d) (m.joined d) (m.steps d) c.args.g.now start c.args.left.now c.args.states.now c.args.waiting.now has k l c.requires.waits c.requires.first left some c.visit.new.states c.visit.new.waiting visit) c.visit.ensures.ok
+    on_ok_weaker c.visit.result (λ visit start has. turn_done o c.args.g.now start c.args.left.now c.args.states.now c.args.waiting.now has k l c.requires.waits c.requires.first left some c.visit.new.states c.visit.new.waiting visit) c.visit.ensures.ok
 
 pub returns-clause-fails : goal.returns-clause-fails
 returns-clause-fails g c = λ e start has.
-    let m = g.D.Domain in
     let d = c.args.d.now in
+    let o = g.D.Domain.order d in
     let k = c.args.k in
     let l = get_or c.args.left.now k 0 in
     let left = left_there c.args.waiting.now c.args.left.now _ k c.requires.waits c.requires.lefts c.requires.marks in
     let some : 0 < l = omega (arith, c.if-left-k-eq0.false) in
-    turn_fails (m.is_small d) (m.below d) (m.joined d) (m.steps d) c.args.g.now start c.args.left.now c.args.states.now c.args.waiting.now has k l c.requires.waits c.requires.first left some (c.visit.ensures.fails e)
+    turn_fails o c.args.g.now start c.args.left.now c.args.states.now c.args.waiting.now has k l c.requires.waits c.requires.first left some (c.visit.ensures.fails e)
 
 pub returns-clause-limit : goal.returns-clause-limit
 returns-clause-limit g c = λ e start has.
-    let m = g.D.Domain in
     let d = c.args.d.now in
+    let o = g.D.Domain.order d in
     let k = c.args.k in
     let l = get_or c.args.left.now k 0 in
     let left = left_there c.args.waiting.now c.args.left.now _ k c.requires.waits c.requires.lefts c.requires.marks in
     let some : 0 < l = omega (arith, c.if-left-k-eq0.false) in
-    turn_exceeds (m.is_small d) (m.below d) (m.joined d) (m.steps d) c.args.g.now start c.args.left.now c.args.states.now c.args.waiting.now has k l c.requires.waits c.requires.first left some (c.visit.ensures.exceeds e)
+    turn_exceeds o c.args.g.now start c.args.left.now c.args.states.now c.args.waiting.now has k l c.requires.waits c.requires.first left some (c.visit.ensures.exceeds e)
 
 pub returns-clause-fewer : goal.returns-clause-fewer
 returns-clause-fewer g c =
@@ -73,24 +73,21 @@ visit-requires-clause-inside g c =
 
 pub visit-requires-clause-entries : goal.visit-requires-clause-entries
 visit-requires-clause-entries g c =
-    let m = g.D.Domain in
     let d = c.args.d.now in
     let u = c.requires.search in
-    reached_entries (g.met.D.Domain.laws d) (m.is_small d) c.args.g.now c.requires.graph c.requires.same u.start u.valid u.begins u.search.visited (standing c.args.states.now c.args.waiting.now) u.search.reached
+    reached_entries (g.met.D.Domain.laws d) c.args.g.now c.requires.graph c.requires.same u.start u.valid u.begins u.search.visited (standing c.args.states.now c.args.waiting.now) u.search.reached
 
 pub visit-requires-clause-marks : goal.visit-requires-clause-marks
 visit-requires-clause-marks g c = length-set c.args.waiting.now c.args.k false ∙ c.requires.marks
 
 pub visit-requires-clause-states : goal.visit-requires-clause-states
 visit-requires-clause-states g c =
-    let m = g.D.Domain in
     let d = c.args.d.now in
     let u = c.requires.search in
-    reached_states (g.met.D.Domain.laws d) (m.is_small d) c.args.g.now c.requires.graph c.requires.same u.start u.valid u.begins u.search.visited (standing c.args.states.now c.args.waiting.now) u.search.reached
+    reached_states (g.met.D.Domain.laws d) c.args.g.now c.requires.graph c.requires.same u.start u.valid u.begins u.search.visited (standing c.args.states.now c.args.waiting.now) u.search.reached
 
 pub visit-requires-clause-stated : goal.visit-requires-clause-stated
 visit-requires-clause-stated g c =
-    let m = g.D.Domain in
     let d = c.args.d.now in
     let u = c.requires.search in
-    reached_active (g.met.D.Domain.laws d) (m.is_small d) c.args.g.now c.requires.graph c.requires.same u.start u.valid u.begins u.search.visited (standing c.args.states.now c.args.waiting.now) u.search.reached c.args.k c.requires.waits
+    reached_active (g.met.D.Domain.laws d) c.args.g.now c.requires.graph c.requires.same u.start u.valid u.begins u.search.visited (standing c.args.states.now c.args.waiting.now) u.search.reached c.args.k c.requires.waits

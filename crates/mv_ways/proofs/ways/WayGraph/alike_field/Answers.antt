@@ -1,5 +1,4 @@
 use Rattle.mv_edges.proofs.Common.{◌≡◌, ◌<◌, ◌∙◌, Some, ap, arith, get_or, length, slice_get}
-use Rattle.mv_ways.specs.declared.ways.Way.TheVariants.{Field}
 use Rattle.mv_ways.specs.Ways.{all_leads, leads_of}
 use Rattle.mv_ways.proofs.WayGraph.Listing.{leads_at-way}
 use Rattle.mv_ways.proofs.WayGraph.Noted.{way_at}

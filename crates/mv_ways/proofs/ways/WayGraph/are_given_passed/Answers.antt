@@ -1,8 +1,8 @@
-use Rattle.mv_edges.proofs.Common.{◌≡◌, ◌<◌, ◌+◌, ◌∙◌, ℕ, Bool, ap, arith, cases_lt, get_or, inl, inr, length, refl, slice_get, subst, sym, true, false, true≢false}
+use Rattle.mv_edges.proofs.Common.{◌≡◌, ◌<◌, ◌+◌, ◌∙◌, ℕ, Bool, ap, arith, cases_lt, inl, inr, length, refl, subst, sym, true, false, true≢false}
 use Rattle.std.specs.Prelude.{IfSome}
 use Rattle.mv_ways.specs.Covered.{AreCovered}
 use Rattle.mv_ways.specs.Drawn.{is_passed}
-use Rattle.mv_ways.specs.Going.{IsReturned, LeadsTo, original}
+use Rattle.mv_ways.specs.Going.{IsReturned, LeadsTo}
 use Rattle.mv_ways.specs.Going.LeadsTo.{by_drawn, by_given}
 use Rattle.mv_ways.proofs.WayGraph.Covered.{none_noted}
 use Rattle.mv_ways.proofs.WayGraph.Drawn.{original_below}

@@ -1,4 +1,4 @@
-use Rattle.mv_edges.proofs.Common.{◌≡◌, ◌&&◌, ◌<◌, ◌+◌, ◌∙◌, ◌∷◌, [], Some, ap, append-nil, arith, edges_leq, flat_map, get_or, length, slice_get, slice_get-get_or, sym, take, true}
+use Rattle.mv_edges.proofs.Common.{◌≡◌, ◌&&◌, ◌<◌, ◌+◌, ◌∙◌, ◌∷◌, [], Some, ap, append-nil, arith, edges_leq, flat_map, get_or, length, slice_get, slice_get-get_or, sym, take}
 use Rattle.std.proofs.Math.Bool.{and-true}
 use Rattle.mv_ways.specs.Behind.{led_edges, tail_edges}
 use Rattle.mv_ways.specs.Covered.{open_tail}

@@ -1,4 +1,4 @@
-use Rattle.mv_edges.proofs.Common.{◌≡◌, ◌∷◌, [], edges_leq, flat_map, length, take}
+use Rattle.mv_edges.proofs.Common.{◌≡◌, ◌∷◌, [], edges_leq, flat_map, take}
 use Rattle.mv_ways.specs.Behind.{led_edges}
 use Rattle.mv_ways.specs.Covered.{AreCovered, open_tail}
 use Rattle.mv_ways.proofs.ways.WayGraph.are_leads_covered.Given as goal

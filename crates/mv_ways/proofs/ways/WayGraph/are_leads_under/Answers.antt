@@ -1,4 +1,4 @@
-use Rattle.mv_edges.proofs.Common.{◌≡◌, ◌&&◌, ◌<◌, ◌+◌, ◌∙◌, ◌∷◌, [], Some, ap, append-nil, arith, edges_leq, false, flat_map, get_or, length, slice_get, slice_get-get_or, subst, sym, take, true}
+use Rattle.mv_edges.proofs.Common.{◌≡◌, ◌&&◌, ◌<◌, ◌∙◌, ◌∷◌, [], Some, ap, append-nil, arith, edges_leq, false, get_or, length, slice_get, slice_get-get_or, sym, true}
 use Rattle.std.proofs.lemmas.List.Folds.{list_all_at}
 use Rattle.mv_ways.specs.Behind.{led_edges, tail_edges}
 use Rattle.mv_ways.specs.Covered.{open_tail, stated}

@@ -1,5 +1,5 @@
 use Rattle.mv_edges.proofs.Common.{◌≡◌, edges_leq, length, list_all, take, true}
-use Rattle.mv_ways.specs.Ways.{all_leads, are_earlier, reference_edges}
+use Rattle.mv_ways.specs.Ways.{all_leads, reference_edges}
 use Rattle.mv_ways.proofs.ways.WayGraph.are_under.Given as goal
 
 -- the edges of the first references are below the others

@@ -1,4 +1,4 @@
-use Rattle.mv_edges.proofs.Common.{◌≡◌, ◌&&◌, ◌∙◌, ◌<◌, ◌∷◌, [], ◌+◌, Some, ap, arith, drop, edges_leq, get_or, length, option_map_or, slice_get, slice_get-get_or, subst, sym, true, false}
+use Rattle.mv_edges.proofs.Common.{◌≡◌, ◌&&◌, ◌∙◌, ◌<◌, ◌∷◌, [], Some, ap, arith, drop, edges_leq, get_or, length, option_map_or, slice_get, slice_get-get_or, subst, sym, true, false}
 use Rattle.std.specs.Prelude.{IfSome}
 use Rattle.mv_ways.specs.Behind.{begun_edges}
 use Rattle.mv_ways.specs.Covered.{open_tail}

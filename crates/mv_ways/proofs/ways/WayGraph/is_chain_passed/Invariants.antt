@@ -1,4 +1,4 @@
-use Rattle.mv_edges.proofs.Common.{◌≡◌, ◌<◌, ◌≤◌, ℕ, Bool, List, Option, drop, length, option_map_or, suc, true}
+use Rattle.mv_edges.proofs.Common.{◌≡◌, ◌<◌, ◌≤◌, ℕ, Bool, Option, drop, length, option_map_or, suc, true}
 use Rattle.std.specs.Prelude.{IfSome}
 use Rattle.mv_ways.specs.Drawn.{is_passed}
 use Rattle.mv_ways.proofs.WayGraph.Covered.{is_under}

@@ -1,9 +1,8 @@
 use Rattle.std.proofs.Common.{◌≡◌, ◌++◌, ◌∷◌, [], append-nil, sym, subst, ap, ◌∙◌}
 use Rattle.mv_edges.specs.Edges.{here}
-use Rattle.mv_ways.specs.Behind.{a_tail, begun_edges, edges_with, tail_edges}
+use Rattle.mv_ways.specs.Behind.{a_tail, begun_edges, tail_edges}
 use Rattle.mv_ways.specs.Told.{IsTold}
 use Rattle.mv_ways.specs.Ways.{a_lead}
-use Rattle.mv_ways.specs.declared.ways.Way.TheVariants.{Lent}
 use Rattle.mv_ways.proofs.ways.WayGraph.tell_begun.Goals as goal
 
 pub returns-in-Lent : goal.returns-in-Lent

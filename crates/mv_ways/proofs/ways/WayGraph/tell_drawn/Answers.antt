@@ -1,7 +1,7 @@
-use Rattle.mv_edges.proofs.Common.{◌≡◌, ◌++◌, ◌∷◌, ◌∙◌, ◌<◌, [], ◌+◌, arith, ap, sym, drop, get_or, length, subst, sorted, option_map_or, refl, Edge, Some, ℕ, Option}
+use Rattle.mv_edges.proofs.Common.{◌≡◌, ◌++◌, ◌∷◌, ◌∙◌, ◌<◌, [], arith, ap, sym, drop, get_or, length, subst, sorted, option_map_or}
 use Rattle.std.specs.Prelude.{IfSome}
 use Rattle.mv_ways.specs.Behind.{a_tail, begun_edges, edges_with}
-use Rattle.mv_ways.specs.Drawn.{all_drawn, path_before}
+use Rattle.mv_ways.specs.Drawn.{all_drawn}
 use Rattle.mv_ways.specs.Going.{original}
 use Rattle.mv_ways.specs.Ways.{leads_at}
 use Rattle.mv_ways.proofs.WayGraph.Drawn.{drawn_all, drawn_on, original_below, some_smaller, some_weaker, tail_before, tail_path}

@@ -1,6 +1,5 @@
-use Rattle.mv_edges.proofs.Common.{◌≡◌, ◌++◌, ◌∷◌, ◌∙◌, [], ◌+◌, ap, append-nil, sym, take, drop, get_or, flat_map, length, subst, Edge}
-use Rattle.mv_ways.specs.Behind.{a_tail, edges_with, led_edges, tail_edges}
-use Rattle.mv_ways.specs.Leads.{Lead}
+use Rattle.mv_edges.proofs.Common.{◌≡◌, ◌++◌, ◌∷◌, ◌∙◌, [], ◌+◌, ap, append-nil, sym, take, drop, get_or, flat_map, subst}
+use Rattle.mv_ways.specs.Behind.{a_tail, led_edges, tail_edges}
 use Rattle.mv_ways.specs.Ways.{a_lead}
 use Rattle.mv_ways.proofs.WayGraph.Drawn.{led_more, led_rest}
 use Rattle.mv_ways.proofs.ways.WayGraph.tell_stated.Goals as goal

@@ -1,4 +1,4 @@
-use Rattle.mv_edges.proofs.Common.{◌≡◌, ◌<◌, ◌≤◌, ◌∙◌, ap, arith, filter, get_or, length, list_any, list_any_at, subst, sym, take_all, true, Edge}
+use Rattle.mv_edges.proofs.Common.{◌≡◌, ◌<◌, ◌≤◌, ◌∙◌, ap, arith, filter, get_or, length, list_any, list_any_at, subst, sym, take_all, true}
 use Rattle.mv_edges.specs.Edges.{edge_leq, leads_between}
 use Rattle.mv_ways.proofs.Told.{any_between}
 use Rattle.mv_ways.proofs.ways.sinks.has_above.Goals as goal

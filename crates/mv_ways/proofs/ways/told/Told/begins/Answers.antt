@@ -1,4 +1,4 @@
-use Rattle.mv_edges.proofs.Common.{◌≡◌, ◌<◌, ◌∙◌, ap, arith, length, sym, take_all}
+use Rattle.mv_edges.proofs.Common.{◌<◌, ◌∙◌, ap, arith, length, sym, take_all}
 use Rattle.mv_move_types.specs.Paths.{begins}
 use Rattle.mv_ways.proofs.Told.{begins_more, not_begins}
 use Rattle.mv_ways.proofs.ways.told.Told.begins.Goals as goal

@@ -1,0 +1,155 @@
+// The edges of a graph of ways, told one by one: of each reference what is drawn to its way, and, opened, what is drawn to each way that
+// was given to a function on the way there. It takes no memory but tables on the stack.
+ghost use Rattle.std.specs.Prelude.{◌≡◌, ◌<◌, ◌≤◌, length, true, IsTrue};
+ghost use Rattle.mv_ways.specs.Telling.{edges_at, edges_into, given_edges, marked_edges};
+ghost use Rattle.mv_ways.specs.Told.{IsTold};
+ghost use Rattle.mv_ways.specs.Drawn.{drawn_edges};
+ghost use Rattle.mv_ways.specs.Ways.{all_leads, are_earlier, reference_edges};
+
+use super::super::nodes::NodeSet;
+use super::sink::Sink;
+use super::under::leading::Mark;
+use super::{FEW_WAYS, MOST_WAYS, Reference, WayGraph};
+use mv_move_types::Node;
+
+impl WayGraph {
+    /// Tells what is drawn to a way, opened, if the way is marked as given to a function.
+    fn tell_marked<S: Sink>(
+        &self,
+        mark: Mark,
+        room: &mut [u8],
+        place: usize,
+        to: Node,
+        sink: &mut S,
+    ) -> bool
+        requires inside { place < length self.now.ways }
+        requires room { place < length room.old }
+        ensures { IsTold S.after sink.old (marked_edges (drawn_edges self.now to true) mark place) result sink.new }
+    {
+        if mark.is_returned() {
+            self.tell_drawn(room, place, true, to, sink)
+        } else {
+            true
+        }
+    }
+
+    /// Tells what is drawn to each way that is marked as given to a function, opened.
+    fn tell_given<S: Sink>(&self, marks: &[Mark], room: &mut [u8], to: Node, sink: &mut S) -> bool
+        requires marks { length marks.now ≡ length self.now.ways }
+        requires room { length room.old ≡ length self.now.ways }
+        ensures { IsTold S.after sink.old (given_edges (drawn_edges self.now to true) marks.now (length marks.now)) result sink.new }
+    {
+        for place in 0..marks.len() {
+            if !self.tell_marked(marks[place], room, place, to, sink) {
+                return false;
+            }
+        }
+        true
+    }
+
+    /// Tells the edges of a reference.
+    fn tell_reference<S: Sink>(
+        &self,
+        marks: &mut [Mark],
+        room: &mut [u8],
+        reference: Reference,
+        sink: &mut S,
+    ) -> bool
+        requires inside { reference.way < length self.now.ways }
+        requires marks { length marks.old ≡ length self.now.ways }
+        requires room { length room.old ≡ length self.now.ways }
+        requires earlier { IsTrue (are_earlier 0 self.now.ways) }
+        ensures { IsTold S.after sink.old (reference_edges self.now.sources (all_leads self.now.ways) reference) result sink.new }
+    {
+        self.mark(marks, reference.way());
+        self.tell_given(marks, room, reference.node(), sink)
+            && self.tell_drawn(room, reference.way(), false, reference.node(), sink)
+    }
+
+    /// Tells the edges of a reference, if it is of one of some nodes.
+    fn tell_at<S: Sink, N: NodeSet>(
+        &self,
+        marks: &mut [Mark],
+        room: &mut [u8],
+        nodes: &N,
+        reference: Reference,
+        sink: &mut S,
+    ) -> bool
+        requires inside { reference.way < length self.now.ways }
+        requires marks { length marks.old ≡ length self.now.ways }
+        requires room { length room.old ≡ length self.now.ways }
+        requires earlier { IsTrue (are_earlier 0 self.now.ways) }
+        ensures { IsTold S.after sink.old (edges_at (N.test nodes.now) self.now reference) result sink.new }
+    {
+        if nodes.has(reference.node()) {
+            self.tell_reference(marks, room, reference, sink)
+        } else {
+            true
+        }
+    }
+
+    /// Tells the edges of each reference of some nodes, with room for what is noted of each way.
+    fn tell_references<S: Sink, N: NodeSet>(
+        &self,
+        marks: &mut [Mark],
+        room: &mut [u8],
+        nodes: &N,
+        sink: &mut S,
+    )
+        requires marks { length marks.old ≡ length self.now.ways }
+        requires room { length room.old ≡ length self.now.ways }
+        ensures { S.after sink.old (edges_into (N.test nodes.now) self.now) sink.new }
+    {
+        for reference in self.references() {
+            if !self.tell_at(marks, room, nodes, *reference, sink) {
+                return;
+            }
+        }
+    }
+
+    /// The same with more room than needed.
+    fn tell_within<S: Sink, N: NodeSet>(
+        &self,
+        marks: &mut [Mark],
+        room: &mut [u8],
+        nodes: &N,
+        sink: &mut S,
+    )
+        requires marks { length self.now.ways ≤ length marks.old }
+        requires room { length self.now.ways ≤ length room.old }
+        ensures { S.after sink.old (edges_into (N.test nodes.now) self.now) sink.new }
+    {
+        let count = self.ways().len();
+        self.tell_references(&mut marks[..count], &mut room[..count], nodes, sink);
+    }
+
+    /// Tells the edges that lead into some nodes, where there are few ways.
+    fn tell_few<S: Sink, N: NodeSet>(&self, nodes: &N, sink: &mut S)
+        requires { length self.now.ways ≤ FEW_WAYS }
+        ensures { S.after sink.old (edges_into (N.test nodes.now) self.now) sink.new }
+    {
+        let marks = &mut [Mark::NOTHING; FEW_WAYS];
+        self.tell_within(marks, &mut [0; FEW_WAYS], nodes, sink);
+    }
+
+    /// Tells the edges that lead into some nodes, where there are many ways.
+    #[inline(never)]
+    fn tell_many<S: Sink, N: NodeSet>(&self, nodes: &N, sink: &mut S)
+        requires { length self.now.ways ≤ MOST_WAYS }
+        ensures { S.after sink.old (edges_into (N.test nodes.now) self.now) sink.new }
+    {
+        let marks = &mut [Mark::NOTHING; MOST_WAYS];
+        self.tell_within(marks, &mut [0; MOST_WAYS], nodes, sink);
+    }
+
+    /// Tells the edges that lead into some nodes, in any order, and any of them more than once, until no more are wanted.
+    pub(crate) fn tell_each<S: Sink, N: NodeSet>(&self, nodes: &N, sink: &mut S)
+        ensures { S.after sink.old (edges_into (N.test nodes.now) self.now) sink.new }
+    {
+        if self.ways().len() <= FEW_WAYS {
+            self.tell_few(nodes, sink);
+        } else {
+            self.tell_many(nodes, sink);
+        }
+    }
+}
