@@ -94,6 +94,8 @@ class Writer:
         self.pipeline.stop()
         for thread in self.threads:
             thread.join()
+        for log in (*self.logs, self.pipeline.log, self.rules.log):
+            log.etcd.close()
 
 
 def put_large(log: Log, offer: Offer, submitter: str) -> Outcome:
