@@ -136,6 +136,7 @@ class OnTheirWay(unittest.TestCase):
         flights = self.flights("ab cd ef gh")
         self.assertEqual(len(flights), MOST_FLYING)
         self.answered(*flights)
+        self.assertTrue(all(flight.is_done for flight in flights))
         self.rest()
         self.check("abcdefghij")
 
@@ -232,7 +233,10 @@ class OnTheirWay(unittest.TestCase):
         self.want("abcd")
         one, two = self.flights("ab cd")
         list(self.log.append([Offer("y", run(1)), Offer("z", run(2))], "rich", self.log.settings()))
-        self.answered(one, two)
+        for flight in (one, two):
+            flight.send(self.store)
+        for flight in (two, one):
+            self.pipeline.end(flight)
         self.rest()
         self.check("yzabcd", "abcd")
 
@@ -288,9 +292,10 @@ class OnTheirWay(unittest.TestCase):
     def test_what_was_cleared_counts_no_more(self) -> None:
         self.want("ab", "poor")
         self.rest()
-        self.want("c", "poor")
+        self.want("abc", "poor")
         self.rest()
         self.assertIsInstance(self.told["c"], Refused)
+        self.check("ab")
         self.store.put(self.log.keys.gone("poor"), b"4")
         self.want("cd", "poor")
         self.rest()
