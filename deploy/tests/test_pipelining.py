@@ -279,6 +279,7 @@ class OnTheirWay(unittest.TestCase):
         self.want("de", "rich")
         two, three = self.flights("d e")
         self.assertNotIn("c", self.told)
+        self.assertEqual(self.pipeline.held, {"poor"})
         self.answered(one, by=Refusing())
         self.answered(two, three)
         self.rest()
