@@ -10,6 +10,7 @@ from .errors import Full, LogError, Refused, Unreachable
 from .final import Final
 from .keys import LINES
 from .log import NO_MORE, Log
+from .nodes import FIRST_SECONDS
 from .pipelining import MOST_FLYING, Pipeline, Wanted
 from .settings import Settings
 from .votes import MOST_COMPARED, Vote, majority, votes_in
@@ -52,13 +53,15 @@ class Rules:
             self.settings, self.read = settings, began
 
     def work(self) -> None:
-        while not self.is_stopping.wait(LOOK_SECONDS):
+        self.is_asked.set()
+        while not self.is_stopping.is_set():
             if self.is_asked.is_set():
                 self.is_asked.clear()
                 try:
                     self.look()
                 except Exception:  # noqa: BLE001
                     self.read = 0.0
+            self.is_stopping.wait(LOOK_SECONDS)
 
 
 class Writer:
@@ -81,12 +84,16 @@ class Writer:
         self.pipeline.want(one)
 
     def work(self, log: Log) -> None:
+        by = time.monotonic() + FIRST_SECONDS
+        log.etcd.find(by)
+        with self.turn:
+            self.pipeline.log.etcd.find(by)
         while True:
             with self.turn:
                 flight = self.pipeline.next()
             if flight is None:
                 return
-            flight.send(log.etcd)
+            flight.send(log.etcd, self.pipeline.departed)
             self.pipeline.end(flight)
 
     def stop(self) -> None:

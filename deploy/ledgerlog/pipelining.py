@@ -9,6 +9,7 @@ have put, with what that one makes of them. It may come before that one, or that
 - Where one fails, nothing is sent until all that are on their way have ended. Then it is read which of the ids in those that failed stand in
   the log (one that was asked twice, since its answer was lost, fails by its own ids): these records are told their numbers, if they are the
   same. The rest goes again, in its order and before what came later, behind what is the last record by then.
+  Where the first that failed was sent behind another one that is put, it came too early, most likely: it is tried again before that is read.
 - One that isn't answered for as long as the client of etcd has patience is unknown. Its records are told so, and come again with the same
   ids. It may be put later, but only where nothing was put since: then what is put next fails, and finds its ids.
 - So each id is put once: whoever puts it compares that it isn't there. It is on its way once at a time.
@@ -66,8 +67,10 @@ class Flight:
         """A comparison: these records are put, behind which others are on their way."""
         return equal(self.batch.ids()[-1], numbered(self.batch.end))
 
-    def send(self, etcd: Etcd) -> None:
+    def send(self, etcd: Etcd, departed: Callable[["Flight"], None] = lambda flight: None) -> None:
+        """Sends it, and waits for the answer. `departed` is called when it is on its way."""
         began = time.monotonic()
+        etcd.nodes.on_sent = lambda: departed(self)
         try:
             self.is_done = etcd.transact([*self.batch.conditions(), *self.behind], self.batch.puts(), [])[0]
         except Exception as why:  # noqa: BLE001
@@ -106,7 +109,11 @@ class Pipeline:
         self.held: Set[str] = set()
         self.is_blocked = False
         self.is_stopping = False
+        # The last one that was taken, while it isn't on its way yet; when it was; and the mean of what one takes.
+        self.leaving: Optional[Flight] = None
         self.sent = self.mean = 0.0
+        # Up to which number it is known that what was on its way is put.
+        self.put_up_to = 0
         self.least = LEAST_SECONDS
         self.most_gathered, self.most_operations = MOST_GATHERED, MOST_AT_ONCE
         # What the last one on its way will leave: the last number, None where it isn't known, and what submitters will have put; and what
@@ -145,7 +152,7 @@ class Pipeline:
         """Whether there is something to do."""
         if self.failed or not self.flying:
             return not self.flying and bool(self.failed or self.wanted)
-        return self.may_fly() and time.monotonic() >= self.sent + self.gap()
+        return self.may_fly() and self.leaving is None and time.monotonic() >= self.sent + self.gap()
 
     def may_fly(self) -> bool:
         return bool(self.wanted) and not self.is_blocked and not self.failed and len(self.flying) < MOST_FLYING
@@ -155,7 +162,8 @@ class Pipeline:
 
     def due_in(self) -> Optional[float]:
         """How many seconds to wait until there is something to do, where that is known."""
-        return max(0.0, self.sent + self.gap() - time.monotonic()) if self.flying and self.may_fly() else None
+        is_next = self.flying and self.may_fly() and self.leaving is None
+        return max(0.0, self.sent + self.gap() - time.monotonic()) if is_next else None
 
     def take(self) -> Optional[Flight]:
         """The transaction that goes now, where one does. Begins anew behind one that failed, when all have ended."""
@@ -208,7 +216,6 @@ class Pipeline:
             settings = self.rules()
             self.learn(wanted)
         except Exception as why:  # noqa: BLE001
-            self.forget()
             tell(wanted, error_of(why))
             return None
         going = self.going(wanted, settings)
@@ -221,7 +228,7 @@ class Pipeline:
                 return None
             flight = Flight(Batch(self.keys, ones, self.last, self.used), going, [one.is_put() for one in self.flying[-1:]])
             self.flying.append(flight)
-            self.sent = time.monotonic()
+            self.leaving = flight
         self.last = flight.batch.end
         self.used.update(flight.batch.used_then())
         return flight
@@ -309,6 +316,12 @@ class Pipeline:
             one.done(number_of(waiting(one.offer, one.submitter), text, value))
         return [one for one, text in zip(wanted, texts) if text is None]
 
+    def departed(self, flight: Flight) -> None:
+        with self.changed:
+            if self.leaving is flight:
+                self.leaving, self.sent = None, time.monotonic()
+                self.changed.notify()
+
     def end(self, flight: Flight) -> None:
         """Takes one that has its answer, or has none."""
         if flight.is_done:
@@ -316,7 +329,10 @@ class Pipeline:
         with self.changed:
             self.flying.remove(flight)
             self.is_blocked = False
+            if self.leaving is flight:
+                self.leaving = None
             if flight.is_done:
+                self.put_up_to = max(self.put_up_to, flight.batch.end)
                 self.mean += NEWEST_PART * (flight.seconds - self.mean) if self.mean else flight.seconds
             else:
                 self.failed.append(flight)
@@ -324,10 +340,14 @@ class Pipeline:
 
     def settle(self, failed: List[Flight]) -> None:
         """Begins anew: tells what is known of those that failed, and has the rest go again."""
+        failed.sort(key=lambda one: one.batch.first)
+        if all(flight.error is None for flight in failed) and failed[0].behind and failed[0].batch.last == self.put_up_to:
+            self.send_again(failed)
+            return
         self.forget()
         most = self.most_operations
         again: List[Wanted] = []
-        for flight in sorted(failed, key=lambda one: one.batch.first):
+        for flight in failed:
             if flight.error is None:
                 again += flight.wanted
             elif TOO_MANY in str(flight.error) and most > MOST_OPERATIONS:
@@ -338,5 +358,11 @@ class Pipeline:
         try:
             self.put_back(self.missing(again, self.learn(again, [self.keys.id(one.offer.id) for one in again])))
         except Exception as why:  # noqa: BLE001
-            self.forget()
             tell(again, error_of(why))
+
+    def send_again(self, failed: List[Flight]) -> None:
+        """Has those go again of which the first came before the one before it, which is put by now: nothing needs to be read for that."""
+        self.last = failed[0].batch.last
+        for flight in reversed(failed):
+            self.used.update(flight.batch.used)
+        self.put_back([one for flight in failed for one in flight.wanted])

@@ -232,7 +232,7 @@ class OnTheirWay(unittest.TestCase):
     def test_another_writer_puts_as_many_in_place_of_the_first(self) -> None:
         self.want("abcd")
         one, two = self.flights("ab cd")
-        list(self.log.append([Offer("y", run(1)), Offer("z", run(2))], "rich", self.log.settings()))
+        list(self.log.append([Offer("y", run(1)), Offer("z", run(2))], "s", self.log.settings()))
         for flight in (one, two):
             flight.send(self.store)
         for flight in (two, one):
