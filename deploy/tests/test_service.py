@@ -16,7 +16,7 @@ from ledgerlog.pipelining import Pipeline, Wanted
 from ledgerlog.service import Port, Service
 from ledgerlog.written import INLINE_BYTES
 
-from .store import Store, made_log, put_vote, run
+from .store import PATIENCE, Store, made_log, put_vote, run, until
 from .test_commands import done
 from .test_log import large
 
@@ -38,7 +38,7 @@ class Serving(unittest.TestCase):
         self.addCleanup(lambda: service.close() if service.socket.fileno() >= 0 else None)
         return service
 
-    def ledger(self, submitter: str = "anyone", seconds: float = 120.0) -> Ledger:
+    def ledger(self, submitter: str = "anyone", seconds: float = PATIENCE) -> Ledger:
         made = Ledger(self.path, submitter, seconds)
         self.addCleanup(made.close)
         return made
@@ -60,9 +60,22 @@ class Serving(unittest.TestCase):
             thread.join()
         return [told[at] for at in range(len(calls))]
 
+    def let_go_where_waiting(self, count: int) -> None:
+        """Has the service put nothing more until so many wait beside those that it puts then."""
+        writer = self.service.writer
+        real = writer.put
+
+        def put(batch: List[Wanted]) -> None:
+            until(lambda: writer.waiting.qsize() >= count)
+            setattr(writer, "put", real)
+            real(batch)
+
+        setattr(writer, "put", put)
+
     def test_many_at_once_get_a_number_each_in_few_transactions(self) -> None:
         ledgers = [self.ledger(f"s{at % 20}") for at in range(40)]
         before = self.store.revision
+        self.let_go_where_waiting(2)
         placed = self.at_once(*(lambda at=at: [ledgers[at].submit(run(10 * at + one)).number for one in range(5)]
                                 for at in range(40)))
         numbers = sorted(number for one in placed for number in one)
@@ -205,7 +218,7 @@ class OverTls(unittest.TestCase):
     def tls(self, name: str) -> Tls:
         return Tls(self.file("ca.pem"), self.file(f"{name}.pem"), self.file(f"{name}.key"))
 
-    def ledger(self, name: str, seconds: float = 120.0, submitter: str = "bob") -> Ledger:
+    def ledger(self, name: str, seconds: float = PATIENCE, submitter: str = "bob") -> Ledger:
         made = Ledger(self.place, submitter, seconds, self.tls(name))
         self.addCleanup(made.close)
         return made
@@ -256,9 +269,13 @@ class OverTls(unittest.TestCase):
         threading.Timer(0.5, vote).start()
         it = self.submitted(run(1), "--wait", place=self.socket)
         self.assertEqual((it.returncode, it.stdout), (0, b"1\n1 returned 5\n"), it.stderr)
-        it = self.submitted(run(2), "--wait", "--seconds", "1", place=self.socket)
+        for seconds in (1, 10, 100):
+            it = self.submitted(run(2), "--id", "pay-2", "--wait", "--seconds", str(seconds), place=self.socket)
+            # A busy machine may not have put it in so short a time.
+            if it.stdout:
+                break
         self.assertEqual((it.returncode, it.stdout), (1, b"2\n"))
-        self.assertIn(b"record 2 is in the log, and no majority has answered it alike within 1 seconds", it.stderr)
+        self.assertIn(b"record 2 is in the log, and no majority has answered it alike within %d seconds" % seconds, it.stderr)
         it = self.submitted(run(3), "--id", "pay-9", "--seconds", "1", place=self.socket + "-none")
         self.assertEqual(it.returncode, 1)
         self.assertIn(b"it isn't known what was put: try again with --id pay-9", it.stderr)
