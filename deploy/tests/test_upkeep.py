@@ -4,12 +4,12 @@ import unittest
 from typing import Dict, List, Tuple
 
 from ledgerlog.backups import counted
-from ledgerlog.clearing import Size, defragment
+from ledgerlog.clearing import Size, defragment, disarm
 from ledgerlog.errors import LogError
 from ledgerlog.etcd import Access
 from ledgerlog.keys import Keys
 from ledgerlog.requests import Body
-from ledgerlog.users import change_passwords
+from ledgerlog.users import change_passwords, make_user
 
 from .store import Store, fill, made_log
 from .test_etcd import GOOD, OverNodes
@@ -33,7 +33,31 @@ class Asked(Store):
         return {}
 
 
+class Alarmed(Store):
+    """A store whose nodes raise alarms, the next ones when those before are disarmed."""
+
+    def __init__(self, *raised: List[str]) -> None:
+        super().__init__()
+        self.raised = [set(names) for names in raised]
+
+    def ask(self, path: str, body: Body) -> Body:
+        there = self.raised[0] if self.raised else set()
+        if body["action"] == "GET":
+            return {"alarms": [{"memberID": name, "alarm": "NOSPACE"} for name in sorted(there)]} if there else {}
+        there.remove(body["memberID"])
+        if not there:
+            self.raised.pop(0)
+        return {}
+
+
 class Room(unittest.TestCase):
+    def test_an_alarm_that_a_slow_node_raises_later_is_disarmed_too(self) -> None:
+        cases: List[List[List[str]]] = [[], [["1", "2"]], [["1"], ["2", "3"]]]
+        for raised in cases:
+            store = Alarmed(*raised)
+            self.assertEqual((disarm(store), store.raised), (sum(map(len, raised)), []))
+        self.assertLess(disarm(Alarmed(*[["1"]] * 100)), 100)
+
     def test_a_node_stands_still_only_for_what_is_worth_it(self) -> None:
         self.assertTrue(Size(200, 100).is_loose())
         self.assertFalse(Size(199, 100).is_loose())
@@ -80,6 +104,29 @@ class Passwords(OverNodes):
             new = file.read().strip()
         change_passwords(Asked(), Keys("L"), self.folder)
         self.assertEqual(self.read("L-keeper"), new)
+
+    def test_a_user_whose_making_was_answered_late_is_made_once(self) -> None:
+        rows: List[Tuple[List[str], bool]] = [([], True), (["x"], False)]
+        for roles, is_made in rows:
+            path = self.path(f"user{len(roles)}")
+            etcd = Asked()
+            real = etcd.ask
+
+            def there(asked: str, body: Body, roles: List[str] = roles) -> Body:
+                real(asked, body)
+                if asked.endswith("user/add"):
+                    raise LogError("etcdserver: user name already exists")
+                return {"roles": roles}
+
+            setattr(etcd, "ask", there)
+            if is_made:
+                make_user(etcd, "x", path)
+                self.assertEqual(etcd.asked[-1][0], "/v3/auth/user/changepw")
+                self.assertEqual(etcd.asked[-1][1]["password"], self.read("user0"))
+            else:
+                with self.assertRaisesRegex(LogError, "already exists"):
+                    make_user(etcd, "x", path)
+            self.assertEqual(os.path.exists(path), is_made)
 
     def test_a_password_that_changes_is_read_again(self) -> None:
         path = self.write("me", "old")
