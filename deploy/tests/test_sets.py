@@ -8,6 +8,7 @@ from ledgerlog.final import Final
 from ledgerlog.keys import LINES, SAVED, TOLD, VOTE
 from ledgerlog.requests import Body
 from ledgerlog.ruling import change_set, skip_record
+from ledgerlog.saves import SavedVote
 from ledgerlog.settings import Agreed, Settings, Settled, settings_of
 from ledgerlog.votes import votes_in
 
@@ -234,6 +235,8 @@ class Settling(unittest.TestCase):
         self.assertEqual(self.log.settings().former, {"b": 15})
         for first in (1, 7, 13):
             self.assertEqual(self.final(first), [chain.lines[number] for number in range(first, 16)])
+        for name in "ade":
+            put_vote(self.log, name, SAVED, 15, SavedVote(b"MVL2 x", START, 1).value())
         self.store.put(self.log.keys.cleared, b"14")
         self.assertEqual(self.changed("d", "e", "f"), self.settled(chain, 15))
         self.assertEqual(self.log.settings().former, {"b": 15})
