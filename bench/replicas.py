@@ -4,8 +4,8 @@ transaction each, through the submit service, and by submitters of their own; wh
 log is cleared, alone and while records come; and how long answers stand still while a save is made. Three nodes run on the loopback
 interface, and with a delay their links, and those to the second and the third, are that long. Each figure with a bound says whether it is
 kept. All of it is in one folder, which goes, and all processes end with it.
-usage: bench/replicas.py [--parts putting,votes,clearing,saving] [--delays 0,25] [--submitters 1,8,64,300] [--seconds S] [--records N]
-                         [--moveledger PROGRAM]"""
+usage: bench/replicas.py [--parts putting,votes,clearing,saving] [--delays 0,25] [--submitters 1,8,64,300] [--seconds S] [--times N] [--alone]
+                         [--old] [--records N] [--moveledger PROGRAM]"""
 
 import argparse
 import os
@@ -18,7 +18,7 @@ import threading
 import time
 from contextlib import contextmanager
 from pathlib import Path
-from typing import Callable, Iterator, List, NamedTuple, Optional, Sequence
+from typing import Callable, Iterator, List, NamedTuple, Optional, Sequence, Tuple
 
 HERE = Path(__file__).resolve().parent
 DEPLOY = HERE.parent / "deploy"
@@ -234,23 +234,40 @@ def service(one: Fleet, ledger: str) -> Iterator[Path]:
         started.wait()
 
 
+def middle(some: List[Paced]) -> Paced:
+    """The one of the middle rate."""
+    return sorted(some)[len(some) // 2]
+
+
 def putting(given: argparse.Namespace) -> None:
-    """Records a second, beside etcd's own puts."""
+    """Records a second, beside etcd's own puts: the middle of some measurements, which take turns."""
     for delay in given.delays:
         with fleet(delay / 1e3) as one:
             one.log("put")
             for submitters in given.submitters:
-                own = paced(by_etcd(one), submitters, given.seconds)
-                with service(one, "put") as socket:
-                    served = paced(by_service(socket), submitters, given.seconds)
-                alone = paced(by_itself(one, "put"), submitters, given.seconds)
-                where = f"{delay} ms one way, {submitters} submitter{'s' * (submitters > 1)}"
-                is_kept = served.rate * TIMES >= own.rate
-                bound = kept(is_kept, f"within {TIMES} times of etcd ({own.rate / max(served.rate, 1e-9):.2f})")
-                tell(Figure(f"{where}: etcd's own puts", own.text()), Figure(f"{where}: through the service", served.text(), bound),
-                     Figure(f"{where}: each by itself", alone.text()))
-                if delay == 25 and submitters == 64:
-                    tell(Figure(f"{where}: the aim", f"{served.rate:8.0f} a second", kept(served.rate >= FAR_RATE, f"{FAR_RATE:.0f}")))
+                own: List[Paced] = []
+                served: List[Paced] = []
+                for _ in range(given.times):
+                    own.append(paced(by_etcd(one), submitters, given.seconds))
+                    with service(one, "put") as socket:
+                        served.append(paced(by_service(socket), submitters, given.seconds))
+                tell(*compared(middle(own), middle(served), delay, submitters))
+                if given.alone:
+                    alone = paced(by_itself(one, "put"), submitters, given.seconds)
+                    tell(Figure(f"{place(delay, submitters)}: each by itself", alone.text()))
+
+
+def place(delay: int, submitters: int) -> str:
+    return f"{delay} ms one way, {submitters} submitter{'s' * (submitters > 1)}"
+
+
+def compared(own: Paced, served: Paced, delay: int, submitters: int) -> List[Figure]:
+    where = place(delay, submitters)
+    bound = kept(served.rate * TIMES >= own.rate, f"within {TIMES} times of etcd ({own.rate / max(served.rate, 1e-9):.2f})")
+    told = [Figure(f"{where}: etcd's own puts", own.text()), Figure(f"{where}: through the service", served.text(), bound)]
+    if delay == 25 and submitters == 64:
+        told.append(Figure(f"{where}: the aim", f"{served.rate:8.0f} a second", kept(served.rate >= FAR_RATE, f"{FAR_RATE:.0f}")))
+    return told
 
 
 def filled(log: Log, count: int, submitter: str = "bench") -> None:
@@ -270,10 +287,15 @@ def all_final(log: Log, last: int) -> bool:
     return bool(final.lines(last, 1)) and len(final.answered_by(last)) == len(NAMES)
 
 
+def protocols(given: argparse.Namespace, old: str) -> List[Tuple[int, str]]:
+    """The protocols that are measured, and how they are called."""
+    return [*([(3, old)] if given.old else []), (4, "by chain")]
+
+
 def votes(given: argparse.Namespace) -> None:
     """What votes take: three replicas answer a log that is there already, by votes on single records, and by chain."""
     sizes: List[float] = []
-    for protocol, how in ((3, "on single records"), (4, "by chain")):
+    for protocol, how in protocols(given, "on single records"):
         with fleet() as one:
             log = one.log("votes", protocol)
             empty = one.bytes_used()
@@ -285,7 +307,7 @@ def votes(given: argparse.Namespace) -> None:
                 time.sleep(0.2)
             took, used = time.monotonic() - began, one.processor() - used
             sizes.append((one.bytes_used() - before) / given.records)
-            bound = kept(sizes[1] * 5 <= sizes[0], "a fifth of the bytes on single records") if protocol == 4 else ""
+            bound = kept(sizes[1] * 5 <= sizes[0], "a fifth of the bytes on single records") if len(sizes) > 1 else ""
             tell(Figure(f"votes {how}: bytes a record, of three replicas", f"{sizes[-1]:8.0f}", bound),
                  Figure(f"votes {how}: processor time of the nodes for 100,000", f"{used * 1e5 / given.records:8.1f} s"),
                  Figure(f"votes {how}: records a second until all three have answered", f"{given.records / took:8.0f}"))
@@ -322,7 +344,7 @@ def agreed(log: Log, number: int) -> None:
 
 def clearing(given: argparse.Namespace) -> None:
     """Records cleared a second, alone and while records come."""
-    for protocol, how in ((3, "as before"), (4, "by chain")):
+    for protocol, how in protocols(given, "as before"):
         with fleet() as one:
             count = given.records if protocol == 4 else min(given.records, 5_000)
             log = one.log("clear", protocol)
@@ -433,6 +455,9 @@ def words() -> argparse.Namespace:
     parser.add_argument("--delays", type=numbers, default=[0, 25])
     parser.add_argument("--submitters", type=numbers, default=[1, 8, 64, 300])
     parser.add_argument("--seconds", type=float, default=4.0, help="for each measurement of putting")
+    parser.add_argument("--times", type=positive_number, default=3, help="how often putting is measured: the middle one counts")
+    parser.add_argument("--alone", action="store_true", help="measures submitters that put by themselves, too")
+    parser.add_argument("--old", action="store_true", help="measures votes and clears by the protocol before, too")
     parser.add_argument("--records", type=positive_number, default=20_000, help="for votes and clearing")
     parser.add_argument("--stored", type=positive_number, default=12, help="how many times 8 MB the ledger of `saving` has")
     parser.add_argument("--moveledger", default=os.environ.get("MOVELEDGER") or own_program())
@@ -452,12 +477,12 @@ def main() -> int:
         return LEFT_OUT
     adopt()
     signal.signal(signal.SIGTERM, lambda *_: sys.exit(1))
-    print(f"load {os.getloadavg()[0]:.1f} of {os.cpu_count()} processors", flush=True)
     calls = {"putting": putting, "votes": votes, "clearing": clearing, "saving": saving}
     for part in given.parts:
+        print(f"{part}, at a load of {os.getloadavg()[0]:.1f} of {os.cpu_count()} processors", flush=True)
         calls[part](given)
     wait_for_left()
-    print(f"load {os.getloadavg()[0]:.1f}")
+    print(f"at a load of {os.getloadavg()[0]:.1f}")
     return 0
 
 

@@ -10,9 +10,9 @@ from typing import Any, Callable, Dict, List, Optional
 from ledgerlog.client import Ledger, Placed, Refused, Tls, Unknown
 from ledgerlog.errors import Unreachable
 from ledgerlog.etcd import Access
-from ledgerlog.gathering import Wanted, Writer
 from ledgerlog.keys import LINES
 from ledgerlog.log import Log, Offer
+from ledgerlog.pipelining import Pipeline, Wanted
 from ledgerlog.service import Port, Service
 from ledgerlog.written import INLINE_BYTES
 
@@ -281,41 +281,54 @@ class OverTls(unittest.TestCase):
         self.assertIn(b"it isn't known what was put: try again with --id pay-9", it.stderr)
 
 
+def put_all(pipeline: Pipeline, store: Store) -> None:
+    """Puts all that waits, one transaction after the other."""
+    while pipeline.wanted or pipeline.failed:
+        flight = pipeline.take()
+        if flight is not None:
+            flight.send(store)
+            pipeline.end(flight)
+
+
 class Batches(unittest.TestCase):
+    def pipeline(self, store: Store, **given: Any) -> Pipeline:
+        log = made_log(store, **given)
+        return Pipeline(log, log.settings)
+
     def test_a_transaction_has_no_more_operations_than_it_takes(self) -> None:
-        writer = Writer(made_log(Store()))
+        store = Store()
+        pipeline = self.pipeline(store)
         told: List[Any] = []
         for at in range(200):
-            writer.waiting.put(Wanted(Offer(f"x{at}", run(at)), f"s{at}", told.append))
-        while len(told) < 200:
-            writer.put(writer.next())
+            pipeline.want(Wanted(Offer(f"x{at}", run(at)), f"s{at}", told.append))
+        put_all(pipeline, store)
         self.assertEqual(told, list(range(1, 201)))
 
     def test_as_many_as_the_nodes_take_and_no_more_bytes(self) -> None:
         store = Store()
         store.most_operations = 1024
-        writer = Writer(made_log(store))
+        pipeline = self.pipeline(store)
         told: List[Any] = []
         for at in range(400):
-            writer.waiting.put(Wanted(Offer(f"x{at}", run(at)), f"s{at % 20}", told.append))
+            pipeline.want(Wanted(Offer(f"x{at}", run(at)), f"s{at % 20}", told.append))
         before = store.revision
-        writer.put(writer.next())
+        put_all(pipeline, store)
         self.assertEqual((told, store.revision), (list(range(1, 401)), before + 1))
         large_ones = [b"\2" + b"\x80\x7d" + bytes(16_000)] * 100
         for at, record in enumerate(large_ones):
-            writer.waiting.put(Wanted(Offer(f"y{at}", record), "s", told.append))
-        batch = writer.next()
-        self.assertLess(sum(len(one.offer.record) for one in batch), 1_000_000)
-        self.assertEqual(len(batch) + len(writer.left), 100)
+            pipeline.want(Wanted(Offer(f"y{at}", record), "s", told.append))
+        flight = pipeline.take()
+        assert flight is not None
+        self.assertLess(sum(len(one.offer.record) for one in flight.wanted), 1_000_000)
+        self.assertEqual(len(flight.wanted) + len(pipeline.wanted), 100)
 
     def test_in_one_transaction_each_id_is_once_and_a_quota_binds_its_submitter_alone(self) -> None:
         store = Store()
-        writer = Writer(made_log(store, quotas={"poor": 4}))
+        pipeline = self.pipeline(store, quotas={"poor": 4})
         told: Dict[str, Any] = {}
         for name, who, number in (("a", "poor", 1), ("b", "rich", 2), ("c", "poor", 3), ("b", "rich", 2), ("d", "rich", 4)):
-            writer.waiting.put(Wanted(Offer(name, run(number)), who, partial(told.setdefault, name)))
-        while len(told) < 4 or writer.left:
-            writer.put(writer.next())
-        self.assertEqual([told[name] for name in "bd"], [1, 2])
-        self.assertEqual([str(told[name]) for name in "ac"], ["poor has 0 bytes in the log, and may have 4"] * 2)
+            pipeline.want(Wanted(Offer(name, run(number)), who, partial(told.setdefault, name)))
+        put_all(pipeline, store)
+        self.assertEqual([told[name] for name in "abd"], [1, 2, 3])
+        self.assertEqual(str(told["c"]), "poor has 4 bytes in the log, and may have 4")
         self.assertEqual(store.get(b"L/used/rich"), b"8")
