@@ -82,7 +82,8 @@ class Passwords(OverNodes):
         self.assertEqual(self.read("L-keeper"), new)
 
     def test_a_user_whose_making_was_answered_late_is_made_once(self) -> None:
-        for roles, is_made in ([], True), (["x"], False):
+        rows: List[Tuple[List[str], bool]] = [([], True), (["x"], False)]
+        for roles, is_made in rows:
             path = self.path(f"user{len(roles)}")
             etcd = Asked()
             real = etcd.ask
