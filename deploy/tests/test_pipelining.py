@@ -19,7 +19,7 @@ from .store import Store, made_log, run
 
 Told = Tuple[bool, List[List[Entry]]]
 # More than any machine takes.
-DEADLINE = 120.0
+DEADLINE = 600.0
 
 
 class Refusing(Store):

@@ -60,22 +60,29 @@ class Serving(unittest.TestCase):
             thread.join()
         return [told[at] for at in range(len(calls))]
 
-    def let_go_where_waiting(self, count: int) -> None:
-        """Has the service put nothing more until so many wait beside those that it puts then."""
+    def put_once_there(self, count: int) -> None:
+        """Has the store put nothing until so many records have come to the service."""
+        there: List[Wanted] = []
         writer = self.service.writer
-        real = writer.put
+        real_want, real_done = writer.want, self.store.done
 
-        def put(batch: List[Wanted]) -> None:
-            until(lambda: writer.waiting.qsize() >= count)
-            setattr(writer, "put", real)
-            real(batch)
+        def want(one: Wanted) -> None:
+            there.append(one)
+            real_want(one)
 
-        setattr(writer, "put", put)
+        def once_there(body: Any) -> Any:
+            if any("request_put" in one for one in body["success"]):
+                until(lambda: len(there) >= count)
+                setattr(self.store, "done", real_done)
+            return real_done(body)
+
+        setattr(writer, "want", want)
+        setattr(self.store, "done", once_there)
 
     def test_many_at_once_get_a_number_each_in_few_transactions(self) -> None:
         ledgers = [self.ledger(f"s{at % 20}") for at in range(40)]
         before = self.store.revision
-        self.let_go_where_waiting(2)
+        self.put_once_there(40)
         placed = self.at_once(*(lambda at=at: [ledgers[at].submit(run(10 * at + one)).number for one in range(5)]
                                 for at in range(40)))
         numbers = sorted(number for one in placed for number in one)
