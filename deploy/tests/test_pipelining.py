@@ -154,8 +154,11 @@ class OnTheirWay(unittest.TestCase):
         one, two, three = self.flights("ab cd ef")
         self.answered(two, one, three)
         self.want("gh")
-        self.flights("cd ef gh")
+        again = self.flights("cd ef gh")
         self.assertEqual(self.told, {"a": 1, "b": 2})
+        self.answered(*again)
+        self.assertTrue(all(flight.is_done for flight in again))
+        self.check("abcdefgh")
 
     def test_nothing_goes_behind_one_that_failed_until_all_have_ended(self) -> None:
         self.want("abcdef")
