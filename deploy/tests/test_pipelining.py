@@ -12,6 +12,7 @@ from ledgerlog.gathering import Writer
 from ledgerlog.log import Log, Offer
 from ledgerlog.pipelining import MOST_FLYING, Flight, Pipeline, Wanted
 from ledgerlog.requests import Body, Entry
+from ledgerlog.settings import Settings
 from ledgerlog.written import head_of
 
 from .served import Served
@@ -172,6 +173,22 @@ class OnTheirWay(unittest.TestCase):
         self.answered(three)
         self.rest()
         self.check("zabcdefg", "abcdefg")
+
+    def test_one_that_fails_while_the_next_is_made_keeps_it_back(self) -> None:
+        self.want("ab")
+        one, = self.flights("ab")
+        self.want("cd")
+
+        def rules() -> Settings:
+            if self.pipeline.flying:
+                self.answered(one, by=Refusing())
+            return self.log.settings()
+
+        self.pipeline.rules = rules
+        self.assertIsNone(self.pipeline.take())
+        self.assertEqual([one.offer.id for one in self.pipeline.wanted], ["c", "d"])
+        self.rest()
+        self.check("cd")
 
     def test_one_is_refused_in_the_middle(self) -> None:
         self.want("abcdef")
