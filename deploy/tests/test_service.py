@@ -12,7 +12,7 @@ from ledgerlog.errors import Unreachable
 from ledgerlog.etcd import Access
 from ledgerlog.keys import LINES
 from ledgerlog.log import Log, Offer
-from ledgerlog.pipelining import Pipeline, Wanted
+from ledgerlog.pipelining import Flight, Pipeline, Wanted
 from ledgerlog.service import Port, Service
 from ledgerlog.written import INLINE_BYTES
 
@@ -60,29 +60,22 @@ class Serving(unittest.TestCase):
             thread.join()
         return [told[at] for at in range(len(calls))]
 
-    def put_once_there(self, count: int) -> None:
-        """Has the store put nothing until so many records have come to the service."""
-        there: List[Wanted] = []
-        writer = self.service.writer
-        real_want, real_done = writer.want, self.store.done
+    def let_go_where_waiting(self, count: int) -> None:
+        """Has the service put nothing until so many wait."""
+        pipeline = self.service.writer.pipeline
+        real = pipeline.take
 
-        def want(one: Wanted) -> None:
-            there.append(one)
-            real_want(one)
+        def take() -> Optional[Flight]:
+            until(lambda: len(pipeline.wanted) >= count)
+            setattr(pipeline, "take", real)
+            return real()
 
-        def once_there(body: Any) -> Any:
-            if any("request_put" in one for one in body["success"]):
-                until(lambda: len(there) >= count)
-                setattr(self.store, "done", real_done)
-            return real_done(body)
-
-        setattr(writer, "want", want)
-        setattr(self.store, "done", once_there)
+        setattr(pipeline, "take", take)
 
     def test_many_at_once_get_a_number_each_in_few_transactions(self) -> None:
         ledgers = [self.ledger(f"s{at % 20}") for at in range(40)]
         before = self.store.revision
-        self.put_once_there(40)
+        self.let_go_where_waiting(2)
         placed = self.at_once(*(lambda at=at: [ledgers[at].submit(run(10 * at + one)).number for one in range(5)]
                                 for at in range(40)))
         numbers = sorted(number for one in placed for number in one)
