@@ -1,4 +1,4 @@
-"""The keys of one ledger in the store, as docs/REPLICAS.md lists them."""
+"""The keys of one ledger in the store, as docs/FORMATS.md lists them."""
 
 import re
 from typing import Optional
