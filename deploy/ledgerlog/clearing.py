@@ -33,6 +33,8 @@ MOST_DELETED = 10_000
 LOOSE = 2
 # So long may a node take to compact or to defragment what it has.
 LONG_SECONDS = 1_800.0
+# So often at most it is looked whether an alarm is there.
+MOST_DISARMED = 8
 
 
 class Cleared(NamedTuple):
@@ -333,8 +335,26 @@ def make_room(log: Log) -> str:
     is full. What it did."""
     etcd = log.etcd
     compact(patient(etcd, list(etcd.addresses)), etcd.range(log.keys.log, log.keys.log + b"\0", 1).revision)
-    alarms = etcd.ask("/v3/maintenance/alarm", {"action": "GET"}).get("alarms", [])
-    told = [defragment(Etcd([address], etcd.patience, etcd.access), bool(alarms)) for address in sorted(etcd.addresses)]
-    for one in alarms:
-        etcd.ask("/v3/maintenance/alarm", {"action": "DEACTIVATE", "memberID": one.get("memberID", "0"), "alarm": one["alarm"]})
-    return "; ".join(told) + (f"; {len(alarms)} alarms are disarmed" if alarms else "")
+    is_full = bool(alarms_of(etcd))
+    told = [defragment(Etcd([address], etcd.patience, etcd.access), is_full) for address in sorted(etcd.addresses)]
+    disarmed = disarm(etcd)
+    return "; ".join(told) + (f"; {disarmed} alarms are disarmed" if disarmed else "")
+
+
+def alarms_of(etcd: Etcd) -> List[Body]:
+    """The alarms of all nodes: each raises its own where the log is full, a slow one later than others."""
+    found: List[Body] = etcd.ask("/v3/maintenance/alarm", {"action": "GET"}).get("alarms", [])
+    return found
+
+
+def disarm(etcd: Etcd) -> int:
+    """Disarms all alarms, with those that are raised meanwhile. How many; a log that is full yet raises them without end."""
+    count = 0
+    for _ in range(MOST_DISARMED):
+        alarms = alarms_of(etcd)
+        if not alarms:
+            break
+        for one in alarms:
+            etcd.ask("/v3/maintenance/alarm", {"action": "DEACTIVATE", "memberID": one.get("memberID", "0"), "alarm": one["alarm"]})
+        count += len(alarms)
+    return count

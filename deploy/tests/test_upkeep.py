@@ -4,7 +4,7 @@ import unittest
 from typing import Dict, List, Tuple
 
 from ledgerlog.backups import counted
-from ledgerlog.clearing import Size, defragment
+from ledgerlog.clearing import Size, defragment, disarm
 from ledgerlog.errors import LogError
 from ledgerlog.etcd import Access
 from ledgerlog.keys import Keys
@@ -33,7 +33,31 @@ class Asked(Store):
         return {}
 
 
+class Alarmed(Store):
+    """A store whose nodes raise alarms, the next ones when those before are disarmed."""
+
+    def __init__(self, *raised: List[str]) -> None:
+        super().__init__()
+        self.raised = [set(names) for names in raised]
+
+    def ask(self, path: str, body: Body) -> Body:
+        there = self.raised[0] if self.raised else set()
+        if body["action"] == "GET":
+            return {"alarms": [{"memberID": name, "alarm": "NOSPACE"} for name in sorted(there)]} if there else {}
+        there.remove(body["memberID"])
+        if not there:
+            self.raised.pop(0)
+        return {}
+
+
 class Room(unittest.TestCase):
+    def test_an_alarm_that_a_slow_node_raises_later_is_disarmed_too(self) -> None:
+        cases: List[List[List[str]]] = [[], [["1", "2"]], [["1"], ["2", "3"]]]
+        for raised in cases:
+            store = Alarmed(*raised)
+            self.assertEqual((disarm(store), store.raised), (sum(map(len, raised)), []))
+        self.assertLess(disarm(Alarmed(*[["1"]] * 100)), 100)
+
     def test_a_node_stands_still_only_for_what_is_worth_it(self) -> None:
         self.assertTrue(Size(200, 100).is_loose())
         self.assertFalse(Size(199, 100).is_loose())

@@ -2,7 +2,6 @@
 
 import re
 import threading
-import time
 from typing import List
 
 from ledgerlog.client import Ledger
@@ -105,14 +104,15 @@ def cleared(stage: Stage) -> List[str]:
         told: List[int] = []
         before = stage.log.cleared()
         node = stage.random.choice(stage.place.nodes)
+        comes_back = threading.Timer(2.0, node.start)
         for at in range(BATCHES):
             wanted = coming.count + BATCH
             until(lambda: coming.count >= wanted or coming.errors, PATIENCE, "records come")
             if at == 2:
                 node.kill()
-                threading.Timer(2.0, node.start).start()
+                comes_back.start()
             told += three_at_once(stage)
-        time.sleep(2.5)
+        comes_back.join()
         coming.end()
         if coming.errors:
             raise Failed(f"a submitter fails: {coming.errors[0]}")

@@ -135,6 +135,18 @@ def nearly_filled(stage: Stage) -> int:
     raise Failed(f"submit said {nearly} times that the log is nearly full, and never refused")
 
 
+def emptied(stage: Stage) -> Tuple[str, str]:
+    """Makes room and clears, and does both again until that is done: replicas have to save first, and a node that is late may say only behind
+    the first room that it was full. What both said."""
+    def told() -> Optional[Tuple[str, str]]:
+        made = done("log", *stage.words("keeper"), "room")
+        it = command("log", *stage.words("keeper"), "clear")
+        return (made, it.stdout.decode().strip()) if it.returncode == 0 else None
+
+    made, cleared = until(told, PATIENCE, "the log is cleared that was full")
+    return made, cleared
+
+
 def filled(stage: Stage) -> List[str]:
     """Fills a log to the last byte by hand: `submit` has to stop before that, a replica that has lines to put has to wait, and to
     go on when there is room again."""
@@ -150,8 +162,7 @@ def filled(stage: Stage) -> List[str]:
     replica.start()
     said = replica.says("the log is full", before)
     first = done("log", *stage.words("keeper"), "room")
-    stage.with_agreed_save()
-    cleared = [done("log", *stage.words("keeper"), "clear") for _ in range(2)]
+    cleared = [emptied(stage)[1] for _ in range(2)]
     second = done("log", *stage.words("keeper"), "room")
     stage.all_answered(stage.feed(20))
     stage.check_running()

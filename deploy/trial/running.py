@@ -5,7 +5,6 @@ import re
 import signal
 import stat
 import subprocess
-import time
 from pathlib import Path
 from typing import List
 
@@ -25,16 +24,23 @@ def killed_program(stage: Stage) -> str:
     kills = 0
     while kills < 3:
         before = len(replica.told())
-        os.kill(children_of(replica.process.pid if replica.process else 0)[0], 9)
-        # One that has ended by itself, since the replica saves, isn't killed any more.
-        time.sleep(1.0)
-        kills += "was killed by signal 9" in replica.told()[before:]
+        kill(children_of(replica.process.pid if replica.process else 0)[0])
+        # One that saved, or has ended by itself, isn't counted: it isn't the one that answers.
         stage.all_answered(stage.feed(10))
+        kills += "was killed by signal 9" in replica.told()[before:]
         stage.check_running()
     restarts = replica.status()["program restarts"]
     if int(restarts) < 3:
         raise Failed(f"the status has {restarts} restarts of the program")
     return f"the program below a replica killed {kills} times: started again, and all answered alike"
+
+
+def kill(process: int) -> None:
+    """kill -9 of a process that may have ended."""
+    try:
+        os.kill(process, signal.SIGKILL)
+    except ProcessLookupError:
+        pass
 
 
 def children_of(process: int) -> List[int]:

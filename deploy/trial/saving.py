@@ -3,40 +3,48 @@
 import re
 import signal
 import time
-from typing import List
+from typing import List, Optional
 
 from ledgerlog.keys import AT
+from ledgerlog.saves import Save
+from ledgerlog.saving import REST
 
 from .differing import flip
 from .processes import Failed, done, until
 from .stage import NAMES, PATIENCE, Stage
 
-# So long a program takes to save, and answers are waited for at most meanwhile.
-SAVE_SECONDS, MOST_SECONDS = 6.0, 4.0
+# So many times four records come while saves are under way.
+FEEDS = 20
+# What lets saves end, and what is there of each replica that has begun one.
+LET_GO, BEGUN = "let-go", "begun"
 
 
 def slow(stage: Stage) -> str:
-    """A program that takes long to save."""
-    path = stage.folder / "moveledger-slow"
-    path.write_text(f'#!/bin/sh\n"{stage.program}" "$@"\nstatus=$?\ncase "$*" in *--save*) sleep {SAVE_SECONDS};; esac\nexit $status\n')
+    """A program whose saves don't end until they are let go."""
+    path, let_go, begun = (stage.folder / name for name in ("moveledger-slow", LET_GO, BEGUN))
+    path.write_text(f'#!/bin/sh\n"{stage.program}" "$@"\nstatus=$?\ncase "$*" in *--save*)\n'
+                    f'  : > "{begun}.$PPID"\n  while [ ! -e "{let_go}" ]; do sleep 0.1; done;;\nesac\nexit $status\n')
     path.chmod(0o755)
     return str(path)
 
 
 def answered_while_saving(stage: Stage) -> str:
-    """Records are answered while all replicas save."""
+    """Records are answered while all replicas save: none of the saves ends before all are answered."""
     waits: List[float] = []
-    last = stage.log.last()
-    ends = time.monotonic() + 4 * SAVE_SECONDS
-    while time.monotonic() < ends or len(waits) < 40:
-        began = time.monotonic()
-        stage.feed(4)
-        waits.append(time.monotonic() - began)
-    until(lambda: agreed(stage) > last, PATIENCE, "a majority agrees on a save that was made meanwhile")
-    if max(waits) > MOST_SECONDS:
-        raise Failed(f"answers stood still for {max(waits):.1f} s while saves were made that take {SAVE_SECONDS:g} s")
+    last, first_began = stage.log.last(), time.monotonic()
+    try:
+        until(lambda: len(list(stage.folder.glob(f"{BEGUN}.*"))) == len(NAMES), PATIENCE, "all replicas save")
+        for _ in range(FEEDS):
+            began = time.monotonic()
+            stage.feed(4)
+            waits.append(time.monotonic() - began)
+    finally:
+        (stage.folder / LET_GO).touch()
+    took = time.monotonic() - first_began
+    # A replica that has saved for so long rests for a multiple of that.
+    until(lambda: agreed(stage) > last, PATIENCE + 2 * REST * took, "a majority agrees on a save that was made meanwhile")
     stage.check_running()
-    return (f"saves take {SAVE_SECONDS:g} s: {4 * len(waits)} records were answered meanwhile, each within {max(waits):.2f} s, and the replicas "
+    return (f"saves took {took:.1f} s: {4 * len(waits)} records were answered meanwhile, each within {max(waits):.2f} s, and the replicas "
             f"agree on the save behind record {agreed(stage)}")
 
 
@@ -44,6 +52,12 @@ def agreed(stage: Stage) -> int:
     """The newest save that a majority has agreed on; 0 where there is none."""
     found = re.search(r"agreed save: (\d+) ", done("log", *stage.words("reader"), "show"))
     return int(found.group(1)) if found else 0
+
+
+def newest_agreed(stage: Stage, name: str) -> Optional[Save]:
+    """A replica's save that is the newest one that a majority has put; None where it hasn't it yet."""
+    number = agreed(stage)
+    return next((save for save in stage.replicas[name].saves() if save.number == number), None)
 
 
 def cleared_behind(stage: Stage, count: int) -> int:
@@ -63,7 +77,7 @@ def fetched(stage: Stage) -> str:
         raise Failed("third isn't there")
     third.process.send_signal(signal.SIGSTOP)
     number = cleared_behind(stage, 2 * stage.every)
-    newest = next(save for save in stage.replicas["first"].saves() if save.number == agreed(stage))
+    newest = until(lambda: newest_agreed(stage, "first"), PATIENCE, "first has the newest save that a majority has put")
     flip(newest.path, stage.random.getrandbits(60))
     before = len(third.told())
     third.process.send_signal(signal.SIGCONT)

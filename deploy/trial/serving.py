@@ -109,7 +109,7 @@ def served(stage: Stage) -> List[str]:
         if clients.errors or clients.count() != len(records):
             raise Failed(f"{clients.count()} of {len(records)} records are put: {clients.errors}")
         checked(stage, clients, before + len(records) + others, sum(map(len, records)))
-        placed = Ledger(str(services.socket)).submit(stage.given.fresh_mint(), wait=True)
+        placed = Ledger(str(services.socket), seconds=LONG).submit(stage.given.fresh_mint(), wait=True)
         if placed.lines != stage.line(placed.number) or services.started.stop() != 0:
             raise Failed(f"the service tells {placed.lines!r} as the lines of record {placed.number}, or doesn't stop")
     finally:

@@ -109,7 +109,7 @@ class Stage:
 
     def submit(self, record: bytes, *options: object) -> Tuple[int, str]:
         """Puts a record by the command: its number and the lines that answer it."""
-        told = done("submit", *self.words("submitter"), "--wait", *options, "-", given=record)
+        told = done("submit", *self.words("submitter"), "--wait", "--seconds", PATIENCE, *options, "-", given=record)
         number, _, lines = told.partition("\n")
         self.put.append(record)
         return int(number), lines
