@@ -146,6 +146,7 @@ def running(stage: Stage) -> List[str]:
     """All of this on one ledger."""
     stage.make()
     stage.start()
-    stage.feed(60)
+    # By then all of them run the program that answers: one that starts asks it for its version.
+    stage.all_answered(stage.feed(60))
     return [killed_program(stage), asked(stage), upgraded(stage), badly_upgraded(stage),
             interrupted(stage)]
