@@ -15,6 +15,7 @@
 //! ```
 #![tactic(auto)]
 
+mod blocks;
 mod executing;
 mod format;
 mod laws;
@@ -79,17 +80,23 @@ pub struct Ledger {
     published: Published,
     storage: Storage,
     runs: u64,
+    // How many runs there were where each open block was begun, the oldest first.
+    run_marks: Vec<u64>,
 }
 
 impl Model for Ledger {
+    ghost use Rattle.std.specs.Prelude.{◌×◌};
     ghost use Rattle.mv_ledger_state.specs.View.{LedgerView, view_of, IsLedger};
+    ghost use Rattle.mv_ledger.specs.Marks.{AreLedgers, held_marks, marked};
     ghost use Rattle.mv_machine.specs.Tallies.{all_of};
 
     ghost Value = { LedgerView };
 
-    ghost view = { λ l. view_of l.published.modules l.storage.committed (all_of l.published.tallies) l.runs };
+    ghost view = { λ l. marked (view_of l.published.modules l.storage.committed (all_of l.published.tallies) l.runs)
+        (held_marks l.published.marks l.storage.marks l.run_marks.items) };
 
-    ghost invariant = { λ l. IsLedger l.published.modules l.storage.committed (all_of l.published.tallies) l.runs };
+    ghost invariant = { λ l. IsLedger l.published.modules l.storage.committed (all_of l.published.tallies) l.runs
+        × AreLedgers l.published.marks l.storage.marks l.run_marks.items };
 }
 
 impl Ledger {
@@ -102,6 +109,7 @@ impl Ledger {
             published: Published::new(alloc),
             storage: Storage::new(alloc),
             runs: 0,
+            run_marks: Vec::new(alloc),
         }
     }
 
