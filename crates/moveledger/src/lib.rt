@@ -15,6 +15,7 @@
 
 mod answering;
 mod authoring;
+mod blocks;
 mod checking;
 mod continuing;
 mod ending;
@@ -29,6 +30,7 @@ mod saved;
 mod streaming;
 
 pub use authoring::{check_module, prove_module};
+pub use blocks::{each_block_comes_back, each_report_keeps_marks, each_stop_keeps_marks};
 pub use checking::check_text;
 pub use continuing::answer_on;
 pub use ending::{
