@@ -1,4 +1,5 @@
 pub mod Owning
 pub mod Statuses
 pub mod Calls
+pub mod Blocks
 pub mod Giving
