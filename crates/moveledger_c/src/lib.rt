@@ -4,6 +4,7 @@
 //! memory goes to C as a pointer in a struct of C's own: a ledger in a `Holder`, bytes in a `Bytes`.
 #![tactic(auto)]
 
+mod blocks;
 mod bytes;
 mod holder;
 mod ledgers;
