@@ -113,6 +113,8 @@ fn read_stored(
     ensures loaded { (bytes : List ℕ) → BeginsWith bytes (head_of head.now) reader.old
         → IfOk result (λ s. IsLoaded bytes (state_of (view_of joined.new.modules s.committed (all_of joined.new.tallies) head.now.runs))) }
     ensures refused { (bytes : List ℕ) → BeginsWith bytes (head_of head.now) reader.old → IfErr result (IsLoadRefusal bytes) }
+    ensures closed { IfOk result (λ s. s.marks ≡ []) }
+    ensures marks { joined.new.marks ≡ joined.old.marks }
 {
     let storage = match read_body(alloc, reader, head.form, &joined.store, &mut joined.tallies) {
         Ok(storage) => storage,
@@ -139,6 +141,7 @@ fn load_after(alloc: Global, reader: &mut Reader<'_>, head: &Head<'_>) -> Result
     ensures loaded { (bytes : List ℕ) → BeginsWith bytes (head_of head.now) reader.old
         → IfOk result (λ l. IsLoaded bytes (state_of (view_of l.published.modules l.storage.committed (all_of l.published.tallies) l.runs))) }
     ensures refused { (bytes : List ℕ) → BeginsWith bytes (head_of head.now) reader.old → IfErr result (IsLoadRefusal bytes) }
+    ensures closed { IfOk result (λ l. (l.published.marks ≡ []) × (l.storage.marks ≡ [])) }
 {
     let mut published = Published::of_offers(alloc, &head.offers)?;
     let storage = read_stored(alloc, reader, head, &mut published)?;
@@ -158,6 +161,7 @@ pub fn load(alloc: Global, bytes: &[u8]) -> Result<Loaded, LoadError>
     ensures whole { IfOk result (λ l. IsLedger l.published.modules l.storage.committed (all_of l.published.tallies) l.runs) }
     ensures loaded { IfOk result (λ l. IsLoaded bytes.now (state_of (view_of l.published.modules l.storage.committed (all_of l.published.tallies) l.runs))) }
     ensures refused { IfErr result (IsLoadRefusal bytes.now) }
+    ensures closed { IfOk result (λ l. (l.published.marks ≡ []) × (l.storage.marks ≡ [])) }
 {
     let mut reader = Reader::new(bytes);
     match read_head(alloc, &mut reader) {
