@@ -1,5 +1,5 @@
 // Blocks: what is answered in one can be taken back.
-ghost use Rattle.std.specs.Prelude.{◌≡◌, ◌×◌, ◌++◌, ◌∷◌, [], true, false, OnOk, OnErr};
+ghost use Rattle.std.specs.Prelude.{◌≡◌, ◌++◌, ◌∷◌, [], true, false, OnOk, OnErr};
 ghost use Rattle.mv_ledger_state.specs.View.{HeldView, held_of};
 ghost use Rattle.mv_ledger.specs.Marks.{marked};
 

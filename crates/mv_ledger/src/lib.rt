@@ -85,7 +85,6 @@ pub struct Ledger {
 }
 
 impl Model for Ledger {
-    ghost use Rattle.std.specs.Prelude.{◌×◌};
     ghost use Rattle.mv_ledger_state.specs.View.{LedgerView, view_of, IsLedger};
     ghost use Rattle.mv_ledger.specs.Marks.{AreLedgers, held_marks, marked};
     ghost use Rattle.mv_machine.specs.Tallies.{all_of};

@@ -1,5 +1,5 @@
 // Loading a saved ledger.
-ghost use Rattle.std.specs.Prelude.{◌≡◌, ℕ, List, IfOk, IfErr};
+ghost use Rattle.std.specs.Prelude.{◌≡◌, [], ℕ, List, IfOk, IfErr};
 ghost use Rattle.mv_ledger_state.specs.Asking.{offers_of};
 ghost use Rattle.mv_ledger_state.specs.Loading.{IsLoaded, load_number, IsLoadRefusal};
 ghost use Rattle.mv_ledger_state.specs.Parts.LoadedParts.{head_of, reason_of, BeginsWith};
