@@ -88,10 +88,10 @@ module _ (m : Places) (touched : List (Key × ℕ)) (had : IsTracked m touched) 
       let now : of_layer Current (written_slot s from words) ≡ Some (laid_over from words old) = slot-current s from width words own wide fits ∙ ap (option_map (laid_over from words)) e in
       rw under (shown-with Current m n key (laid_over from words old) had.sound.ordered given-tracked.sound.ordered (w.shows Current (Some (laid_over from words old)) now))
 
-  pub given-layers : layers n ≡ record { committed = (layers m).committed; current = written (layers m).current key from words }
-  given-layers = layers-equal (layers n) (record { committed = (layers m).committed; current = written (layers m).current key from words })
+  pub given-layers : layers n ≡ record (layers m) { current = written (layers m).current key from words }
+  given-layers = layers-equal (layers n) (record (layers m) { current = written (layers m).current key from words })
       (shown-same Committed Committed m n had.sound.ordered given-tracked.sound.ordered (w.same Committed (slot-committed s from words)))
-      (by-value (of_layer Current s) refl own.1)
+      (by-value (of_layer Current s) refl own.1) refl
 
 -- ---- what opening leaves, at the place that was found or at none
 
@@ -109,7 +109,7 @@ get-within (x ∷ xs) (suc i) s e = omega (arith, get-within xs i s e)
 module _ (m₀ m : Places) (touched : List (Key × ℕ)) (had : IsTracked m touched) (ordered : IsOrdered key_cmp m₀.tree) (same : (layer : Layer) → ShowsSame layer m₀ m) (key : Key) (from width : ℕ)
     (fits : IfSome (words_under (layers m₀).current key) (λ old. from + width ≤ length old)) where
   layers-kept : layers m ≡ layers m₀
-  layers-kept = layers-equal (layers m) (layers m₀) (shown-same Committed Committed m₀ m ordered had.sound.ordered (same Committed)) (shown-same Current Current m₀ m ordered had.sound.ordered (same Current))
+  layers-kept = layers-equal (layers m) (layers m₀) (shown-same Committed Committed m₀ m ordered had.sound.ordered (same Committed)) (shown-same Current Current m₀ m ordered had.sound.ordered (same Current)) refl
 
   owned : (p : ℕ) (own : Result (Option ℕ) AllocError) → IfOk own (λ found. IfSome found (IsOwnAt m key)) → own ≡ Ok (Some p) → IsOwnAt m key p
   owned p own h e = subst (λ o. IfOk o (λ found. IfSome found (IsOwnAt m key))) e h
@@ -147,10 +147,10 @@ module _ (m₀ m : Places) (touched : List (Key × ℕ)) (had : IsTracked m touc
       let wide : nat_lt 0 width ≡ true = le-leb 1 width f.1.1 in
       rw (o.1.1, f.1.2, wide)
       (given-layers m touched had key p o.0 o.1.0 o.1.1 o.1.2 from width f.1.1 (fitting p o.1.0 o.0 o.1.1) words
-      ∙ ap (λ (l : Layers). as_layers l.committed (written l.current key from words)) layers-kept)
+      ∙ ap (λ (l : Layers). as_layers l.committed (written l.current key from words) l.marks) layers-kept)
     where
-      as_layers : List FlatEntry → List FlatEntry → Layers
-      as_layers x y = record { committed = x; current = y }
+      as_layers : List FlatEntry → List FlatEntry → List (List FlatEntry) → Layers
+      as_layers x y z = record { committed = x; current = y; marks = z }
 
   pub opened-tracked : (place : Option ℕ) (lent : Bool) (own : Result (Option ℕ) AllocError) → Found m key width place lent own → (words : List ℕ)
       → IsTracked (written_at m place from words) touched

@@ -306,8 +306,8 @@ pub settled-shows : (layer : Layer) (m n : Places) (touched : List (Key × ℕ))
 settled-shows layer m n touched s t same = shown-same layer Committed m n s.ordered t.sound.ordered (λ q. one-layer layer (slot_at n q) (t.kept q) ∙ same q)
 
 -- overlays with the same layers are one
-pub layers-equal : (a b : Layers) → a.committed ≡ b.committed → a.current ≡ b.current → a ≡ b
-layers-equal a b p q = let e : make a.committed a.current ≡ make b.committed b.current = cc in e
+pub layers-equal : (a b : Layers) → a.committed ≡ b.committed → a.current ≡ b.current → a.marks ≡ b.marks → a ≡ b
+layers-equal a b p q r = let e : make a.committed a.current a.marks ≡ make b.committed b.current b.marks = cc in e
   where
-    make : List FlatEntry → List FlatEntry → Layers
-    make x y = record { committed = x; current = y }
+    make : List FlatEntry → List FlatEntry → List (List FlatEntry) → Layers
+    make x y z = record { committed = x; current = y; marks = z }

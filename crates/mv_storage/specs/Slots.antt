@@ -105,7 +105,7 @@ shown layer slots (e ∷ es) = shown_before e.0 (layer_at layer (slice_get slots
 
 -- both layers of the slots
 abbrev pub layers : Places → Layers
-layers p = record { committed = shown Committed p.slots.items p.tree.entries; current = shown Current p.slots.items p.tree.entries }
+layers p = record { committed = shown Committed p.slots.items p.tree.entries; current = shown Current p.slots.items p.tree.entries; marks = [] }
 
 -- the slot under a key
 abbrev pub slot_at : Places → Key → Option Slot

@@ -21,8 +21,9 @@ use std::mem::replace;
 // So many words are kept for the next run at most (64 MiB), which is what a run's locals take at most.
 const MOST_KEPT: usize = 0x40_0000;
 
-/// Values, each under its key. A contract sees those that are committed, and what the run at work has made of them by now:
-/// each is the list of entries by ascending key, every value as its words.
+/// Values, each under its key. A contract sees those that are committed, what the run at work has made of them by now, and those
+/// that were committed when each open block was begun, the oldest first: each is the list of entries by ascending key, every value
+/// as its words.
 #[derive(Drop)]
 pub struct Storage {
     places: Places,
@@ -89,6 +90,7 @@ impl Storage {
     pub fn new(alloc: Global) -> Self
         ensures committed { result.committed ≡ [] }
         ensures current { result.current ≡ [] }
+        ensures marks { result.marks ≡ [] }
     {
         Storage {
             places: Places::new(alloc),
@@ -153,6 +155,7 @@ impl Storage {
         ensures loan { result.storage.ghost_name ≡ self.entry.ghost_name }
         ensures committed { result.storage.now.committed ≡ self.old.committed }
         ensures current { result.storage.now.current ≡ self.old.committed }
+        ensures marks { result.storage.now.marks ≡ self.old.marks }
     {
         self.settle(Layer::Committed);
         Overlay { storage: self }
@@ -279,6 +282,7 @@ impl Storage {
         ensures done { IfOk result (λ done. done ≡ is_some (option_and_then (spliced from new.now) (words_under self.old.current key.now))) }
         ensures current { OnOk result (self.new.current ≡ overwritten self.old.current key.now from new.now) }
         ensures committed { self.new.committed ≡ self.old.committed }
+        ensures marks { self.new.marks ≡ self.old.marks }
         ensures err { OnErr result (self.new ≡ self.old) }
     {
         edit_in(
@@ -297,6 +301,7 @@ impl Storage {
         ensures value { IfOk result (λ v. v ≡ words_under self.old.current key.now) }
         ensures current { OnOk result (self.new.current ≡ without_words self.old.current key.now) }
         ensures committed { self.new.committed ≡ self.old.committed }
+        ensures marks { self.new.marks ≡ self.old.marks }
         ensures err { OnErr result (self.new ≡ self.old) }
     {
         take_from(
@@ -314,6 +319,7 @@ impl Storage {
         ensures done { IfOk result (λ done. done ≡ not (is_some (words_under self.old.current key))) }
         ensures current { IfOk result (λ done. self.new.current ≡ cond done (with_words self.old.current key value) self.old.current) }
         ensures committed { self.new.committed ≡ self.old.committed }
+        ensures marks { self.new.marks ≡ self.old.marks }
         ensures err { OnErr result (self.new ≡ self.old) }
     {
         put_into(
@@ -330,6 +336,7 @@ impl Storage {
         requires { words_under self.old.current key ≡ None }
         ensures current { OnOk result (self.new.current ≡ with_words self.old.current key value) }
         ensures committed { self.new.committed ≡ self.old.committed }
+        ensures marks { self.new.marks ≡ self.old.marks }
         ensures err { OnErr result (self.new ≡ self.old) }
     {
         self.put_new(key, value)?;
@@ -340,6 +347,7 @@ impl Storage {
     pub(crate) fn settle(&mut self, layer: Layer)
         ensures committed { self.new.committed ≡ seen layer self.old }
         ensures current { self.new.current ≡ seen layer self.old }
+        ensures marks { self.new.marks ≡ self.old.marks }
     {
         settle(&mut self.places, &mut self.touched, layer);
         self.known.forget();

@@ -28,5 +28,5 @@ returns-clause-err c =
     let before = c.self.invariant.0.sound.ordered in
     let after = c.put_into.ensures.tracked.sound.ordered in
     on_err_weaker c.put_into.result
-    (λ same. layers-equal _ _ (shown-same Committed Committed old new before after c.put_into.ensures.committed) (shown-same Current Current old new before after same) ∙ c.self.view_is)
+    (λ same. layers-equal _ _ (shown-same Committed Committed old new before after c.put_into.ensures.committed) (shown-same Current Current old new before after same) refl ∙ c.self.view_is)
     c.put_into.ensures.err

@@ -27,5 +27,5 @@ returns-clause-err c =
     let before = c.self.invariant.0.sound.ordered in
     let after = c.take_from.ensures.tracked.sound.ordered in
     on_err_weaker c.take_from.result
-    (λ same. layers-equal _ _ (shown-same Committed Committed old new before after c.take_from.ensures.committed) (shown-same Current Current old new before after same) ∙ c.self.view_is)
+    (λ same. layers-equal _ _ (shown-same Committed Committed old new before after c.take_from.ensures.committed) (shown-same Current Current old new before after same) refl ∙ c.self.view_is)
     c.take_from.ensures.err
