@@ -3,4 +3,5 @@ pub mod WordLists
 pub mod FlatStorage
 pub mod Map
 pub mod Slots
+pub mod Blocks
 pub mod Lending

@@ -25,6 +25,7 @@
 //! ```
 #![tactic(auto)]
 
+mod blocks;
 mod entries;
 mod known;
 mod overlay;

@@ -8,7 +8,6 @@ ghost use Rattle.std.specs.Prelude.{true, false, Some, Ok, Err};
 ghost use Rattle.std.specs.Borrow.{sem};
 ghost use Rattle.mv_storage.specs.Lending.{LendsLent, LendsWords, lent_words};
 
-use crate::slot::Layer;
 use crate::{Storage, Value};
 use mv_move_types::Key;
 use std::alloc::{AllocError, Global};
@@ -26,7 +25,7 @@ impl Drop for Overlay<'_> {
         ensures marks { self.exit.0.now.marks ≡ self.entry.storage.now.marks }
     {
         let Self { storage } = self;
-        storage.settle(Layer::Committed);
+        storage.give_up();
     }
 }
 
@@ -240,8 +239,7 @@ impl Overlay<'_> {
         ensures loan { self.new.storage.ghost_name ≡ self.old.storage.ghost_name }
         ensures err { OnErr result (self.new.storage.now ≡ self.old.storage.now) }
     {
-        self.storage.settle(Layer::Current);
-        Ok(())
+        self.storage.commit()
     }
 
     /// Gives up what the run has made since the last commit. It takes no memory.

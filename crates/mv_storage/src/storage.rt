@@ -1,19 +1,20 @@
 // Storage: values under keys, and what a run at work has made of them.
-ghost use Rattle.std.specs.Prelude.{◌≡◌, ◌<◌, ◌≤◌, ◌+◌, ◌^◌, length, take, drop, [], cond, not, None, is_some, IfOk, IfSome, OnOk, OnErr, MatchOption, option_copied, option_and_then, option_map, slice_get};
+ghost use Rattle.std.specs.Prelude.{◌≡◌, ◌<◌, ◌≤◌, ◌+◌, ◌^◌, ◌++◌, ◌∷◌, length, take, drop, [], cond, not, None, is_some, IfOk, IfSome, IsOk, OnOk, OnErr, MatchOption, option_copied, option_and_then, option_map, slice_get};
 ghost use Rattle.mv_storage.specs.WordLists.{spliced};
-ghost use Rattle.mv_storage.specs.FlatStorage.{words_under, with_words, without_words};
+ghost use Rattle.mv_storage.specs.FlatStorage.{FlatStorage, words_under, with_words, without_words};
 ghost use Rattle.mv_storage.specs.Map.{overwritten, Ascends};
-ghost use Rattle.mv_storage.specs.Slots.{seen};
 ghost use Rattle.std.specs.Prelude.{ℕ, true, false, nat_lt, Some, Ok};
 ghost use Rattle.std.specs.Borrow.{sem};
 ghost use Rattle.mv_storage.specs.Lending.{LendsIn};
 
+use crate::blocks::{Undone, close, note_all, take_back};
 use crate::known::Known;
 use crate::places::Places;
 use crate::slot::Layer;
 use crate::slots::{edit_in, own_in, put_into, settle, take_from};
 use crate::{Entries, Overlay, Value};
 use mv_move_types::Key;
+use mv_undo::Marks;
 use std::alloc::{AllocError, Global};
 use std::marker::Model;
 use std::mem::replace;
@@ -32,6 +33,9 @@ pub struct Storage {
     known: Known,
     // memory for the words of the next run; what it holds means nothing
     room: Vec<u128>,
+    // what was committed since the oldest open block was begun, and how much of it when each open block was
+    undo: Vec<Undone>,
+    marks: Marks,
     alloc: Global,
 }
 
@@ -40,11 +44,14 @@ impl Model for Storage {
 
     ghost Value = { Layers };
 
-    ghost use Rattle.mv_storage.specs.Slots.{layers, IsTracked, IsRemembered};
+    ghost use Rattle.std.specs.Prelude.{◌≡◌, [], length};
+    ghost use Rattle.mv_storage.specs.Slots.{IsTracked, IsRemembered};
+    ghost use Rattle.mv_undo.specs.Undo.{AreMarks};
+    ghost use Rattle.mv_storage.specs.Blocks.{contents, IsUndoable};
 
-    ghost view = { λ s. layers s.places };
+    ghost view = { λ s. contents s.places s.undo.items s.marks };
 
-    ghost invariant = { λ s. IsTracked s.places s.touched.items × IsRemembered s.places.tree s.known.lines };
+    ghost invariant = { λ s. IsTracked s.places s.touched.items × IsRemembered s.places.tree s.known.lines × IsUndoable s.places s.undo.items × AreMarks s.marks (length s.undo.items) × (s.marks ≡ [] → s.undo.items ≡ []) };
 }
 
 // The words so far after a place, so many.
@@ -97,6 +104,8 @@ impl Storage {
             touched: Vec::new(alloc),
             known: Known::new(),
             room: Vec::new(alloc),
+            undo: Vec::new(alloc),
+            marks: Marks::new(alloc),
             alloc,
         }
     }
@@ -157,7 +166,7 @@ impl Storage {
         ensures current { result.storage.now.current ≡ self.old.committed }
         ensures marks { result.storage.now.marks ≡ self.old.marks }
     {
-        self.settle(Layer::Committed);
+        self.give_up();
         Overlay { storage: self }
     }
 
@@ -328,6 +337,7 @@ impl Storage {
             &mut self.known,
             key,
             value,
+            self.alloc,
         )
     }
 
@@ -343,13 +353,83 @@ impl Storage {
         Ok(())
     }
 
-    // Makes one layer the committed one, and goes on from there with nothing noted. It takes no memory.
-    pub(crate) fn settle(&mut self, layer: Layer)
-        ensures committed { self.new.committed ≡ seen layer self.old }
-        ensures current { self.new.current ≡ seen layer self.old }
+    // Gives up what the run has made. It takes no memory.
+    pub(crate) fn give_up(&mut self)
+        ensures committed { self.new.committed ≡ self.old.committed }
+        ensures current { self.new.current ≡ self.old.committed }
         ensures marks { self.new.marks ≡ self.old.marks }
     {
-        settle(&mut self.places, &mut self.touched, layer);
+        settle(&mut self.places, &mut self.touched, Layer::Committed);
         self.known.forget();
+    }
+
+    // Commits what the run has made; the run goes on from there. In a block it notes what that changes, and takes the room for it
+    // first. Where that fails nothing changes.
+    pub(crate) fn commit(&mut self) -> Result<(), AllocError>
+        ensures done { self.old.marks ≡ [] → IsOk result }
+        ensures committed { OnOk result (self.new.committed ≡ self.old.current) }
+        ensures current { self.new.current ≡ self.old.current }
+        ensures marks { self.new.marks ≡ self.old.marks }
+        ensures err { OnErr result (self.new ≡ self.old) }
+    {
+        self.known.forget();
+        if self.marks.is_empty() {
+            settle(&mut self.places, &mut self.touched, Layer::Current);
+            return Ok(());
+        }
+        self.undo.reserve(self.touched.len())?;
+        note_all(&mut self.places, &mut self.touched, &mut self.undo);
+        Ok(())
+    }
+
+    /// Opens a block, which can be taken back. What a run has made and not committed is given up.
+    ///
+    /// # Errors
+    ///
+    /// If an allocation failed. No block is opened then.
+    pub fn begin(&mut self) -> Result<(), AllocError>
+        ensures committed { self.new.committed ≡ self.old.committed }
+        ensures marks { OnOk result (self.new.marks ≡ self.old.marks ++ self.old.committed ∷ []) }
+        ensures err { OnErr result ((self.new.committed ≡ self.old.committed) × (self.new.marks ≡ self.old.marks)) }
+    {
+        settle(&mut self.places, &mut self.touched, Layer::Committed);
+        self.known.forget();
+        self.marks.begin(self.undo.len())
+    }
+
+    /// Takes back what was committed since the newest open block was begun, closes that block, and says whether there was one. It
+    /// takes no memory, and as long as what the block committed.
+    pub fn rollback(&mut self) -> bool
+        ensures back { result ≡ true → self.old.marks ≡ self.new.marks ++ self.new.committed ∷ [] }
+        ensures none { result ≡ false → (self.old.marks ≡ []) × (self.new.committed ≡ self.old.committed) × (self.new.marks ≡ []) }
+    {
+        settle(&mut self.places, &mut self.touched, Layer::Committed);
+        self.known.forget();
+        match self.marks.end() {
+            Some(mark) => {
+                take_back(&mut self.places, &mut self.undo, mark);
+                close(&mut self.places, &mut self.undo, &self.marks, self.alloc);
+                true
+            }
+            None => false,
+        }
+    }
+
+    /// Closes the newest open block, keeps what was committed in it, and says whether there was one. It takes no memory. What a
+    /// block that stands in another one committed can still be taken back with that one.
+    pub fn keep(&mut self) -> bool
+        ensures committed { self.new.committed ≡ self.old.committed }
+        ensures closed { result ≡ true → (h : FlatStorage) × (self.old.marks ≡ self.new.marks ++ h ∷ []) }
+        ensures none { result ≡ false → (self.old.marks ≡ []) × (self.new.marks ≡ []) }
+    {
+        settle(&mut self.places, &mut self.touched, Layer::Committed);
+        self.known.forget();
+        match self.marks.end() {
+            Some(_mark) => {
+                close(&mut self.places, &mut self.undo, &self.marks, self.alloc);
+                true
+            }
+            None => false,
+        }
     }
 }
