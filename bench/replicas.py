@@ -4,8 +4,8 @@ transaction each, through the submit service, and by submitters of their own; wh
 log is cleared, alone and while records come; and how long answers stand still while a save is made. Three nodes run on the loopback
 interface, and with a delay their links, and those to the second and the third, are that long. Each figure with a bound says whether it is
 kept. All of it is in one folder, which goes, and all processes end with it.
-usage: bench/replicas.py [--parts putting,votes,clearing,saving] [--delays 0,25] [--submitters 1,8,64,300] [--seconds S] [--records N]
-                         [--moveledger PROGRAM]"""
+usage: bench/replicas.py [--parts putting,votes,clearing,saving] [--delays 0,25] [--submitters 1,8,64,300] [--seconds S] [--times N] [--alone]
+                         [--records N] [--moveledger PROGRAM]"""
 
 import argparse
 import os
@@ -234,23 +234,40 @@ def service(one: Fleet, ledger: str) -> Iterator[Path]:
         started.wait()
 
 
+def middle(some: List[Paced]) -> Paced:
+    """The one of the middle rate."""
+    return sorted(some)[len(some) // 2]
+
+
 def putting(given: argparse.Namespace) -> None:
-    """Records a second, beside etcd's own puts."""
+    """Records a second, beside etcd's own puts: the middle of some measurements, which take turns."""
     for delay in given.delays:
         with fleet(delay / 1e3) as one:
             one.log("put")
             for submitters in given.submitters:
-                own = paced(by_etcd(one), submitters, given.seconds)
-                with service(one, "put") as socket:
-                    served = paced(by_service(socket), submitters, given.seconds)
-                alone = paced(by_itself(one, "put"), submitters, given.seconds)
-                where = f"{delay} ms one way, {submitters} submitter{'s' * (submitters > 1)}"
-                is_kept = served.rate * TIMES >= own.rate
-                bound = kept(is_kept, f"within {TIMES} times of etcd ({own.rate / max(served.rate, 1e-9):.2f})")
-                tell(Figure(f"{where}: etcd's own puts", own.text()), Figure(f"{where}: through the service", served.text(), bound),
-                     Figure(f"{where}: each by itself", alone.text()))
-                if delay == 25 and submitters == 64:
-                    tell(Figure(f"{where}: the aim", f"{served.rate:8.0f} a second", kept(served.rate >= FAR_RATE, f"{FAR_RATE:.0f}")))
+                own: List[Paced] = []
+                served: List[Paced] = []
+                for _ in range(given.times):
+                    own.append(paced(by_etcd(one), submitters, given.seconds))
+                    with service(one, "put") as socket:
+                        served.append(paced(by_service(socket), submitters, given.seconds))
+                tell(*compared(middle(own), middle(served), delay, submitters))
+                if given.alone:
+                    alone = paced(by_itself(one, "put"), submitters, given.seconds)
+                    tell(Figure(f"{place(delay, submitters)}: each by itself", alone.text()))
+
+
+def place(delay: int, submitters: int) -> str:
+    return f"{delay} ms one way, {submitters} submitter{'s' * (submitters > 1)}"
+
+
+def compared(own: Paced, served: Paced, delay: int, submitters: int) -> List[Figure]:
+    where = place(delay, submitters)
+    bound = kept(served.rate * TIMES >= own.rate, f"within {TIMES} times of etcd ({own.rate / max(served.rate, 1e-9):.2f})")
+    told = [Figure(f"{where}: etcd's own puts", own.text()), Figure(f"{where}: through the service", served.text(), bound)]
+    if delay == 25 and submitters == 64:
+        told.append(Figure(f"{where}: the aim", f"{served.rate:8.0f} a second", kept(served.rate >= FAR_RATE, f"{FAR_RATE:.0f}")))
+    return told
 
 
 def filled(log: Log, count: int, submitter: str = "bench") -> None:
@@ -433,6 +450,8 @@ def words() -> argparse.Namespace:
     parser.add_argument("--delays", type=numbers, default=[0, 25])
     parser.add_argument("--submitters", type=numbers, default=[1, 8, 64, 300])
     parser.add_argument("--seconds", type=float, default=4.0, help="for each measurement of putting")
+    parser.add_argument("--times", type=positive_number, default=3, help="how often putting is measured: the middle one counts")
+    parser.add_argument("--alone", action="store_true", help="measures submitters that put by themselves, too")
     parser.add_argument("--records", type=positive_number, default=20_000, help="for votes and clearing")
     parser.add_argument("--stored", type=positive_number, default=12, help="how many times 8 MB the ledger of `saving` has")
     parser.add_argument("--moveledger", default=os.environ.get("MOVELEDGER") or own_program())
@@ -452,12 +471,12 @@ def main() -> int:
         return LEFT_OUT
     adopt()
     signal.signal(signal.SIGTERM, lambda *_: sys.exit(1))
-    print(f"load {os.getloadavg()[0]:.1f} of {os.cpu_count()} processors", flush=True)
     calls = {"putting": putting, "votes": votes, "clearing": clearing, "saving": saving}
     for part in given.parts:
+        print(f"{part}, at a load of {os.getloadavg()[0]:.1f} of {os.cpu_count()} processors", flush=True)
         calls[part](given)
     wait_for_left()
-    print(f"load {os.getloadavg()[0]:.1f}")
+    print(f"at a load of {os.getloadavg()[0]:.1f}")
     return 0
 
 

@@ -23,6 +23,8 @@ STREAM = EXAMPLES / "first-coin.stream"
 REPORT = b"1 published 1\n2 returned 5\n"
 READ, WRITE, MEMORY = b"fault: read\n", b"fault: write\n", b"fault: memory\n"
 MEGABYTE = 1 << 20
+# More seconds than the busiest machine takes for what is awaited.
+PATIENCE = 600
 # The bytes of the example's first record.
 FIRST = 124
 # What the names of files that stay end in.
@@ -110,7 +112,7 @@ def saved(path: Given, **settings: Any) -> End:
     return ended(["apply", "--save", path, STREAM], **settings)
 
 
-def line_from(number: int, seconds: float = 60) -> bytes:
+def line_from(number: int, seconds: float = PATIENCE) -> bytes:
     """The next line, from a file that may give a part of it at a time; what came of it, where no more comes."""
     line = b""
     while not line.endswith(b"\n") and select.select([number], [], [], seconds)[0]:
@@ -176,11 +178,11 @@ class Running:
 
     def ended(self) -> Tuple[int, bytes, bytes]:
         """How it ends by itself: its status, the rest of its report, and all that standard error says."""
-        status = self.run.wait(60)
+        status = self.run.wait(PATIENCE)
         rest, errors = (file.read() if file is not None else b"" for file in (self.run.stdout, self.run.stderr))
         return status, rest, errors
 
     def closed(self) -> Tuple[int, bytes, str]:
         """How it ends once it is given no more."""
-        rest, errors = self.run.communicate(timeout=60)
+        rest, errors = self.run.communicate(timeout=PATIENCE)
         return self.run.returncode, rest, errors.decode()

@@ -9,7 +9,7 @@ from typing import Callable, Iterator, List, Optional, Sequence, Tuple
 
 from common import has
 from exits_run import (
-    COUNTED, EMPTY, FIRST, KEPT, MEMORY, NOT_KEPT, OLD, OLD_FORM, READ, REPORT, SAVED, STREAM, WRITE, Cases, End, Given, Running,
+    COUNTED, EMPTY, FIRST, KEPT, MEMORY, NOT_KEPT, OLD, OLD_FORM, PATIENCE, READ, REPORT, SAVED, STREAM, WRITE, Cases, End, Given, Running,
     Shelf, closes, ended, explained, fault_in, limits, line_from, mint_by, no_bytes, nobody, not_kept, program, saved)
 
 IN_USE = "another program has this ledger in use"
@@ -287,7 +287,7 @@ def said_before(words: Sequence[Given]) -> Tuple[bytes, bytes, Tuple[int, bytes,
     """What is said before a record is given, what is answered to one, and how it ends."""
     run = Running([program(), *words])
     assert run.run.stderr is not None
-    said = line_from(run.run.stderr.fileno(), 5)
+    said = line_from(run.run.stderr.fileno())
     return said, run.sent(b"\4\0", 1), run.closed()
 
 
@@ -316,7 +316,7 @@ def found_before(folder: str) -> Cases:
     fifo = shelf.folder / "fifo"
     os.mkfifo(fifo)
     with subprocess.Popen(["cat", fifo], stdout=subprocess.PIPE) as reading:
-        found = saved(fifo, timeout=60), reading.communicate(timeout=60)[0]
+        found = saved(fifo, timeout=PATIENCE), reading.communicate(timeout=PATIENCE)[0]
     yield "a named pipe isn't opened before", found, (KEPT, SAVED)
 
 

@@ -11,7 +11,7 @@ from typing import Any, Callable, List, Sequence, Tuple
 
 from common import TOP
 from exits_run import (
-    FIRST, NOT_KEPT, OLD, READ, REPORT, RUN, SAVED, SPIN, STREAM, WRITE, Cases, Given, Running, Shelf, fault_in, mint_by,
+    FIRST, NOT_KEPT, OLD, PATIENCE, READ, REPORT, RUN, SAVED, SPIN, STREAM, WRITE, Cases, Given, Running, Shelf, fault_in, mint_by,
     no_bytes, program)
 
 ENDS = signal.SIGTERM, signal.SIGINT, signal.SIGHUP
@@ -107,7 +107,7 @@ def told_to_end(folder: str) -> Cases:
     run, lines = begun(kept, example, 2)
     run.run.kill()
     run.run.wait()
-    for _ in range(100):
+    for _ in range(10 * PATIENCE):
         if kept.exists() and kept.read_bytes() == SAVED:
             break
         time.sleep(0.1)
@@ -128,23 +128,30 @@ def twice(folder: str) -> Cases:
     run, lines = begun(kept, SPIN + 500 * RUN, 1)
     first = heard_of(run, signal.SIGINT)
     time.sleep(1.5 * AT_ONCE)
-    began = time.monotonic()
     run.run.send_signal(signal.SIGTERM)
     status, rest, errors = signalled(run)
-    found = first, status, b"a second signal" in errors, b"saved\n" in errors, kept.read_bytes(), time.monotonic() - began < 5
+    found = first, status, b"a second signal" in errors, b"saved\n" in errors, kept.read_bytes(), len(rest.splitlines()) < 500
     yield "a second signal ends it at once", found, (ending(signal.SIGINT), 137, True, False, OLD, True)
     kept.unlink()
     run, lines = begun(kept, STREAM.read_bytes(), 2)
-    for number in signal.SIGTERM, signal.SIGTERM, signal.SIGHUP:
+    # Those that come while it is stopped come at once, however busy the machine is.
+    for number in signal.SIGSTOP, signal.SIGTERM, signal.SIGTERM, signal.SIGHUP, signal.SIGCONT:
         run.run.send_signal(number)
     status, rest, errors = signalled(run)
     found = status in (143, 129), errors == told(status - 128), shelf.state("twice")
     yield "signals that come at once are one", found, (True, True, (SAVED, []))
     kept.unlink(missing_ok=True)
-    words = ["timeout", "1", *by_wrapper("apply", "--save", kept, "-")]
-    ended = Running(words, preexec_fn=heard)
-    lines = ended.sent(STREAM.read_bytes(), 2)
-    found = lines, signalled(ended), shelf.state("twice")
+    # A busy machine may take longer to answer, and `timeout` longer between the two.
+    for seconds in "1", "4", "16", "64":
+        kept.unlink(missing_ok=True)
+        ended = Running(["timeout", seconds, *by_wrapper("apply", "--save", kept, "-")], preexec_fn=heard)
+        try:
+            lines = ended.sent(STREAM.read_bytes(), 2)
+        except BrokenPipeError:
+            lines = b""
+        found = lines, signalled(ended), shelf.state("twice")
+        if lines == REPORT and found[1][0] == 124:
+            break
     yield "timeout, which sends two", found, (REPORT, (124, b"", told(signal.SIGTERM)), (SAVED, []))
 
 

@@ -86,16 +86,15 @@ class Stream:
         if self.is_tls:
             connection.setblocking(False)
 
-    def wait(self, what: int) -> None:
-        """Waits until the connection may be read, or written. OSError where it can't be written for too long."""
+    def wait(self, what: int, limit: Optional[float]) -> None:
+        """Waits until the connection may be read, or written. TimeoutError where it can't for so many seconds."""
         place = select.poll()
         place.register(self.connection.fileno(), what)
-        limit = self.seconds if what == select.POLLOUT else None
-        if not place.poll(None if limit is None else 1000 * limit):
-            raise OSError("the other side takes nothing")
+        if not place.poll(None if limit is None else 1000 * max(0.0, limit)):
+            raise TimeoutError("the other side takes nothing" if what == select.POLLOUT else "the time is over")
 
-    def more(self) -> bytes:
-        """The bytes that come next; none at the end. OSError where the connection is lost."""
+    def more(self, ends: Optional[float] = None) -> bytes:
+        """The bytes that come next; none at the end. OSError where the connection is lost, TimeoutError where they don't come in time."""
         while self.is_tls:
             with self.busy:
                 try:
@@ -104,13 +103,15 @@ class Stream:
                     what = select.POLLIN
                 except ssl.SSLWantWriteError:
                     what = select.POLLOUT
-            self.wait(what)
+            self.wait(what, None if ends is None else ends - time.monotonic())
+        if ends is not None:
+            self.wait(select.POLLIN, ends - time.monotonic())
         return self.connection.recv(PART)
 
-    def line(self, most: int) -> bytes:
+    def line(self, most: int, ends: Optional[float] = None) -> bytes:
         """The next line, of at most so many bytes; none at the end."""
         while b"\n" not in self.buffer[:most] and len(self.buffer) < most:
-            part = self.more()
+            part = self.more(ends)
             if not part:
                 return b""
             self.buffer += part
@@ -148,48 +149,62 @@ class Stream:
                         what = select.POLLOUT
                     except ssl.SSLWantReadError:
                         what = select.POLLIN
-                self.wait(what)
+                self.wait(what, self.seconds if what == select.POLLOUT else None)
 
 
 class Line:
-    """One connection, over which any number of threads ask at once."""
+    """One connection, over which any number of threads ask at once. One of those that wait reads for all."""
 
     def __init__(self, place: str, tls: Optional[Tls] = None) -> None:
         self.socket = connected(place, tls)
         self.stream = Stream(self.socket)
         self.told: Dict[str, List[Dict[str, Any]]] = {}
         self.changed = threading.Condition()
-        self.is_lost = False
-        threading.Thread(target=self.read, daemon=True).start()
-
-    def read(self) -> None:
-        try:
-            for line in iter(lambda: self.stream.line(LINE_BYTES), b""):
-                told = json.loads(line)
-                with self.changed:
-                    self.told.setdefault(told["id"], []).append(told)
-                    self.changed.notify_all()
-        except (OSError, ValueError):
-            pass
-        with self.changed:
-            self.is_lost = True
-            self.changed.notify_all()
+        self.is_reading = self.is_lost = False
 
     def send(self, head: Dict[str, Any], record: bytes) -> None:
-        self.stream.write(json.dumps(head).encode() + b"\n" + record)
+        try:
+            self.stream.write(json.dumps(head).encode() + b"\n" + record)
+        except OSError:
+            self.is_lost = True
+            raise
 
     def answer(self, record_id: str, ends: float) -> Dict[str, Any]:
         """The next that is told of an id. Lost where that doesn't come in time."""
-        with self.changed:
-            while not self.told.get(record_id):
-                left = ends - time.monotonic()
-                if self.is_lost or left <= 0:
+        while True:
+            with self.changed:
+                while self.is_reading and not self.told.get(record_id) and time.monotonic() < ends:
+                    self.changed.wait(ends - time.monotonic())
+                if self.told.get(record_id):
+                    return self.taken(record_id)
+                if self.is_lost or time.monotonic() >= ends:
                     raise Lost("the connection ended" if self.is_lost else "the time is over")
-                self.changed.wait(left)
-            told = self.told[record_id].pop(0)
-            if not self.told[record_id]:
-                del self.told[record_id]
-            return told
+                self.is_reading = True
+            self.read(ends)
+
+    def taken(self, record_id: str) -> Dict[str, Any]:
+        told = self.told[record_id].pop(0)
+        if not self.told[record_id]:
+            del self.told[record_id]
+        return told
+
+    def read(self, ends: float) -> None:
+        """Reads the next that is told, of whichever id."""
+        told: Optional[Dict[str, Any]] = None
+        is_lost = False
+        try:
+            line = self.stream.line(LINE_BYTES, ends)
+            told, is_lost = (json.loads(line), False) if line else (None, True)
+        except TimeoutError:
+            pass
+        except (OSError, ValueError):
+            is_lost = True
+        with self.changed:
+            self.is_reading = False
+            self.is_lost |= is_lost
+            if told is not None:
+                self.told.setdefault(str(told.get("id")), []).append(told)
+            self.changed.notify_all()
 
     def close(self) -> None:
         try:

@@ -330,7 +330,7 @@ class Replica:
             if not self.is_all_told(second.wanted.number):
                 return
             self.rests_until = time.monotonic() + REST * second.seconds()
-            self.keep(second.path, second.wanted, second.began)
+            self.keep(second.path, second.wanted, second.began, second.ledger)
         else:
             self.save_failed(second.wanted.number, str(second.error))
         self.second = None
@@ -466,12 +466,13 @@ class Replica:
             self.tell(f"has answered the log up to its end, record {number}")
         self.has_caught_up = True
 
-    def keep(self, path: str, at: Point, began: float) -> None:
-        """Keeps the ledger that was saved after a record, where what is put for it may stand in this replica's name."""
+    def keep(self, path: str, at: Point, began: float, ledger: bytes = b"") -> None:
+        """Keeps the ledger that was saved after a record, where the vote for it may stand in this replica's name. `ledger` is what is voted
+        for the file, where that was read already."""
         number = at.number
         try:
             chain = at.digest if self.is_chained(number) else None
-            vote = SavedVote(vote_on(path), chain, os.path.getsize(path), self.skips_up_to(number)).value()
+            vote = SavedVote(ledger or vote_on(path), chain, os.path.getsize(path), self.skips_up_to(number)).value()
             if not self.put_votes(SAVED, [Vote(number, vote)], self.chain.end.number):
                 self.saves.forget(path)
                 self.save_failed(number, "another digest stands under this replica's name")

@@ -1,124 +1,108 @@
-"""A service that puts what many submitters give it: one writer takes whatever waits and puts it in one transaction, so that they don't
-race with each other."""
+"""What the submit service does beside listening: it puts what many submitters give it, and tells the final lines to those who wait for
+them."""
 
-import queue
 import threading
 import time
-from typing import Callable, Dict, List, NamedTuple, Optional, Set
+from typing import Callable, Dict, List, Optional
 
-from .appending import MOST_APPENDED, MOST_OPERATIONS, TOO_MANY, Appending, Offer, Outcome, Used, operations
+from .appending import Offer, Outcome
 from .errors import Full, LogError, Refused, Unreachable
 from .final import Final
 from .keys import LINES
 from .log import NO_MORE, Log
+from .nodes import FIRST_SECONDS
+from .pipelining import MOST_FLYING, Pipeline, Wanted
 from .settings import Settings
 from .votes import MOST_COMPARED, Vote, majority, votes_in
 from .written import count_of_pieces
 
-# So often the settings and the room are read again.
-LOOK_SECONDS = 1.0
+# So often the settings and the room are read again while records come, and so old they may be.
+LOOK_SECONDS, OLD_SECONDS = 1.0, 3.0
 IDLE_SECONDS = 0.2
 # The lines of so many records are looked up at once.
 MOST_FINAL = 5_000
-# So many records, of so many bytes, go in one transaction, and so many operations, unless the nodes take no more than those of a submitter.
-MOST_GATHERED, MOST_BYTES, MOST_AT_ONCE = 400, 900_000, 1_000
-# So many may wait; who comes then waits before it's heard.
-MOST_WAITING = 10_000
-
-
-class Wanted(NamedTuple):
-    """A record that waits, who puts it, and what is called with what became of it."""
-
-    offer: Offer
-    submitter: str
-    done: Callable[[Outcome], None]
 
 
 class Rules:
-    """What the log says of itself and its room, read now and then."""
+    """What the log says of itself and its room. A thread reads them while records come, so that none waits for that."""
 
     def __init__(self, log: Log) -> None:
         self.log = log
         self.settings: Optional[Settings] = None
         self.is_full = False
-        self.until = 0.0
+        self.read = 0.0
+        self.lock = threading.Lock()
+        self.is_asked, self.is_stopping = threading.Event(), threading.Event()
+        self.thread = threading.Thread(target=self.work, daemon=True)
 
     def now(self) -> Settings:
-        if self.settings is None or time.monotonic() > self.until:
-            self.settings = self.log.settings()
-            self.is_full = self.log.room(self.settings).part() >= NO_MORE
-            self.until = time.monotonic() + LOOK_SECONDS
+        """Refused where the log has no more room."""
+        self.is_asked.set()
+        if self.settings is None or time.monotonic() > self.read + OLD_SECONDS:
+            self.look()
+        assert self.settings is not None
+        if self.is_full:
+            raise Refused("the log has no more room: clear it (deploy/log clear, and room)")
         return self.settings
+
+    def look(self) -> None:
+        with self.lock:
+            began = time.monotonic()
+            settings = self.log.settings()
+            self.is_full = self.log.room(settings).part() >= NO_MORE
+            self.settings, self.read = settings, began
+
+    def work(self) -> None:
+        self.is_asked.set()
+        while not self.is_stopping.is_set():
+            if self.is_asked.is_set():
+                self.is_asked.clear()
+                try:
+                    self.look()
+                except Exception:  # noqa: BLE001
+                    self.read = 0.0
+            self.is_stopping.wait(LOOK_SECONDS)
 
 
 class Writer:
-    """The one who puts. What is unknown is told so: whoever wants it tries again with the same id."""
+    """The one who puts, by several threads that each send one transaction at a time. What is unknown is told so: whoever wants it tries again
+    with the same id."""
 
     def __init__(self, log: Log) -> None:
-        self.log = log
-        self.rules = Rules(log)
-        self.waiting: "queue.Queue[Wanted]" = queue.Queue(MOST_WAITING)
-        self.left: List[Wanted] = []
-        self.last = 0
-        self.used: Used = {}
-        self.most_gathered, self.most_operations = MOST_GATHERED, MOST_AT_ONCE
-        self.is_stopping = False
-        self.thread = threading.Thread(target=self.work, daemon=True)
+        self.rules = Rules(log.another())
+        self.pipeline = Pipeline(log, self.rules.now)
+        self.logs = [log.another() for _ in range(MOST_FLYING)]
+        # One of them at a time takes what goes next.
+        self.turn = threading.Lock()
+        self.threads = [self.rules.thread, *(threading.Thread(target=self.work, args=(one,), daemon=True) for one in self.logs)]
 
-    def work(self) -> None:
-        while not self.is_stopping:
-            batch = self.next()
-            if batch:
-                self.put(batch)
+    def start(self) -> None:
+        for thread in self.threads:
+            thread.start()
+
+    def want(self, one: Wanted) -> None:
+        self.pipeline.want(one)
+
+    def work(self, log: Log) -> None:
+        by = time.monotonic() + FIRST_SECONDS
+        log.etcd.find(by)
+        with self.turn:
+            self.pipeline.log.etcd.find(by)
+        while True:
+            with self.turn:
+                flight = self.pipeline.next()
+            if flight is None:
+                return
+            flight.send(log.etcd, self.pipeline.departed)
+            self.pipeline.end(flight)
 
     def stop(self) -> None:
-        self.is_stopping = True
-        self.thread.join()
-
-    def next(self) -> List[Wanted]:
-        """What waits, as much as one transaction puts: each id once, and the rest in its order."""
-        waiting, self.left = self.left, []
-        try:
-            if not waiting:
-                waiting.append(self.waiting.get(timeout=IDLE_SECONDS))
-            while len(waiting) < self.most_gathered:
-                waiting.append(self.waiting.get_nowait())
-        except queue.Empty:
-            pass
-        batch: List[Wanted] = []
-        ids: Set[str] = set()
-        submitters: Set[str] = set()
-        size = 0
-        for one in waiting:
-            size += len(one.offer.record)
-            is_too_much = (operations(len(batch) + 1, len(submitters | {one.submitter})) > self.most_operations
-                           or len(batch) == self.most_gathered or size > MOST_BYTES)
-            if self.left or is_too_much or one.offer.id in ids:
-                self.left.append(one)
-            else:
-                batch.append(one)
-                ids.add(one.offer.id)
-                submitters.add(one.submitter)
-        return batch
-
-    def put(self, batch: List[Wanted]) -> None:
-        try:
-            settings = self.rules.now()
-            if self.rules.is_full:
-                raise Refused("the log has no more room: clear it (deploy/log clear, and room)")
-            appending = Appending(self.log, [(one.offer, one.submitter) for one in batch], settings, self.used)
-            outcomes = appending.put_after(self.last)
-            self.last = appending.last
-        except Exception as why:  # noqa: BLE001
-            self.used.clear()
-            if TOO_MANY in str(why) and self.most_operations > MOST_OPERATIONS:
-                self.most_gathered, self.most_operations = MOST_APPENDED, MOST_OPERATIONS
-                self.left = batch + self.left
-                return
-            error = why if isinstance(why, LogError) else Unreachable(repr(why))
-            outcomes = [error] * len(batch)
-        for one, outcome in zip(batch, outcomes):
-            one.done(outcome)
+        self.rules.is_stopping.set()
+        self.pipeline.stop()
+        for thread in self.threads:
+            thread.join()
+        for log in (*self.logs, self.pipeline.log, self.rules.log):
+            log.etcd.close()
 
 
 def put_large(log: Log, offer: Offer, submitter: str) -> Outcome:

@@ -22,6 +22,8 @@ class Nodes:
         self.addresses = addresses
         self.context = context
         self.connections: Dict[str, http.client.HTTPConnection] = {}
+        # Called when a request is on its way.
+        self.on_sent: Callable[[], None] = nothing
 
     def close(self) -> None:
         for address in list(self.connections):
@@ -60,7 +62,7 @@ class Nodes:
         connection = self.connections.get(address)
         if connection is None or connection.sock is None:
             connection = self.connections[address] = self.connected(address, left_until(by))
-        return asked(connection, path, text, headers, by)
+        return asked(connection, path, text, headers, by, self.on_sent)
 
     def race(self, path: str, text: str, is_answer: Callable[[Answer], bool], by: float) -> bool:
         """Asks all nodes at once, and puts the one first that answers first; whether one did by this time."""
@@ -108,10 +110,16 @@ def left_until(by: float) -> float:
     return max(by - time.monotonic(), LEAST_SECONDS)
 
 
-def asked(connection: http.client.HTTPConnection, path: str, text: str, headers: Headers, by: float) -> Answer:
+def nothing() -> None:
+    pass
+
+
+def asked(connection: http.client.HTTPConnection, path: str, text: str, headers: Headers, by: float,
+          on_sent: Callable[[], None] = nothing) -> Answer:
     """What a node answers over a connection."""
     connection.sock.settimeout(left_until(by))
     connection.request("POST", path, text, headers)
+    on_sent()
     connection.sock.settimeout(left_until(by))
     answer = connection.getresponse()
     return answer.status, answer.read()

@@ -11,18 +11,24 @@ from .written import Taken
 
 # Words of lines behind which a record has more lines.
 MORE_WORDS = (b"at", b"count")
-VERSION_SECONDS = 10.0
+# A busy machine may take long to start a program: one that says nothing for so long hangs.
+VERSION_SECONDS = 600.0
+# A nice program leaves the processors to others.
+NICE = ("nice", "-n", "19")
 
 
 def identity(program: str) -> bytes:
-    """What a program says its version is, where it says so, and the SHA-256 of its file. OSError where it can't be read."""
+    """What a program says its version is, where it says so, and the SHA-256 of its file: the same however busy the machine is. OSError where
+    the file can't be read, or the program neither says anything nor ends by itself."""
     with open(program, "rb") as file:
         digest = hashlib.sha256(file.read()).hexdigest()
     try:
         done = subprocess.run([program, "--version"], stdin=subprocess.DEVNULL, stdout=subprocess.PIPE, stderr=subprocess.DEVNULL,
                               timeout=VERSION_SECONDS)
     except subprocess.TimeoutExpired:
-        return f"unversioned sha256:{digest}".encode()
+        raise OSError(f"{program} hasn't said within {VERSION_SECONDS:g} seconds which version it is") from None
+    if done.returncode < 0:
+        raise OSError(f"{program} was killed by signal {-done.returncode} when it was asked for its version")
     told = done.stdout.decode("ascii", "replace").split()
     version = " ".join(told) if done.returncode == 0 and told else "unversioned"
     return f"{version} sha256:{digest}".encode()
@@ -38,7 +44,7 @@ class Program:
 
     def __init__(self, program: str, number: int, load: Optional[str], save: Optional[str], is_nice: bool = False) -> None:
         """`number` is that of the last record in the ledger to load, 0 with none. A nice one leaves the processors to others."""
-        nice = ["nice", "-n", "19"] if is_nice else []
+        nice = NICE if is_nice else ()
         options = [*(["--load", load] if load else []), *(["--save", save] if save else [])]
         self.base = number
         self.number = number

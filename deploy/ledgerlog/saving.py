@@ -9,6 +9,7 @@ from .chains import OwnChain, Point
 from .errors import LogError, NeedsPerson, ProgramEnded
 from .log import Log
 from .program import Program
+from .saves import sync_file, vote_on
 
 # After saves that failed the next one is up to so many times as late.
 MOST_PATIENCE = 64
@@ -48,6 +49,8 @@ class SecondRun:
         self.began = time.monotonic()
         self.is_ending = False
         self.is_saved = False
+        # What is voted for the file that it saved: read here, and on the disk by then, since answers would wait for that.
+        self.ledger = b""
         # Why it hasn't saved; and whether its lines are others than those of the first run.
         self.error: Optional[Exception] = None
         self.is_other = False
@@ -81,6 +84,8 @@ class SecondRun:
             self.is_other = True
             return
         running.finish()
+        self.ledger = vote_on(self.path)
+        sync_file(self.path)
         self.is_saved = True
 
     def is_over(self) -> bool:

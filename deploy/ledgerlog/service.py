@@ -13,9 +13,10 @@ from .client import Stream
 from .errors import LogError, NotWhole
 from .etcd import Access
 from .fetching import server_context
-from .gathering import Finals, Wanted, Writer, is_large, is_unknown, put_large
+from .gathering import Finals, Writer, is_large, is_unknown, put_large
 from .keys import NAME_TEXT
 from .log import Log
+from .pipelining import Wanted
 from .records import MOST_BYTES, check_put
 from .saves import locked
 from .status import bound
@@ -131,7 +132,7 @@ class Service:
             self.port = socket.create_server((port.host, port.number), family=socket.AF_INET6 if ":" in port.host else socket.AF_INET)
 
     def start(self) -> None:
-        self.writer.thread.start()
+        self.writer.start()
         self.finals.thread.start()
         if self.port is not None:
             threading.Thread(target=self.serve_at, args=(self.port,), daemon=True).start()
@@ -140,7 +141,7 @@ class Service:
         if is_large(offer):
             threading.Thread(target=lambda: done(put_large(self.log(), offer, submitter)), daemon=True).start()
         else:
-            self.writer.waiting.put(Wanted(offer, submitter, done))
+            self.writer.want(Wanted(offer, submitter, done))
 
     def serve(self) -> None:
         """Takes clients at the socket until it is closed."""

@@ -3,8 +3,10 @@
 import base64
 import json
 import os
+import subprocess
 import threading
 import time
+import unittest
 from typing import Any, Callable, Dict, List, Tuple
 
 from ledgerlog.errors import Full, LogError
@@ -20,6 +22,31 @@ STAND_IN = os.path.join(HERE, "stand_in.py")
 LOG_ID = "0123456789abcdef" * 2
 SET = ("a", "b", "c")
 MOST_OPERATIONS = 128
+# More than the busiest machine takes: nothing that is awaited comes as late as that, so no test depends on how fast a machine is.
+PATIENCE = 600.0
+
+
+def for_now(test: unittest.TestCase, module: object, **values: Any) -> None:
+    """Gives a module other values until a test is over."""
+    for name, value in values.items():
+        test.addCleanup(setattr, module, name, getattr(module, name))
+        setattr(module, name, value)
+
+
+def until(condition: Callable[[], Any]) -> None:
+    """Waits until something holds."""
+    ends = time.monotonic() + PATIENCE
+    while not condition():
+        if time.monotonic() > ends:
+            raise AssertionError("it doesn't come")
+        time.sleep(0.005)
+
+
+def script(path: str, words: str) -> str:
+    """A program that the shell runs. Another process writes it: what a thread of this one starts just then would have it open for a moment
+    to be written, and nothing that is can be run."""
+    subprocess.run(["sh", "-c", 'cat > "$0" && chmod 755 "$0"', path], input=f"#!/bin/sh\n{words}\n".encode(), check=True)
+    return path
 
 
 def decoded(text: str) -> bytes:
@@ -60,9 +87,18 @@ class Store(Etcd):
 
     def wait(self, first: bytes, end: bytes, revision: int, seconds: float) -> None:
         ends = time.monotonic() + min(seconds, 0.05)
-        while time.monotonic() < ends and not any(first <= key < end and one[2] > revision for key, one in
-                                                  list(self.there.items())):
+        while time.monotonic() < ends and not self.is_changed(first, end, revision):
             time.sleep(0.005)
+
+    def is_changed(self, first: bytes, end: bytes, revision: int) -> bool:
+        with self.lock:
+            return any(first <= key < end and one[2] > revision for key, one in self.there.items())
+
+    def forget(self, *keys: bytes) -> None:
+        """Takes keys away, as no client does, or all of them."""
+        with self.lock:
+            for key in keys or list(self.there):
+                self.there.pop(key, None)
 
     def keys_of(self, body: Body) -> List[bytes]:
         first = decoded(body["key"])
@@ -156,4 +192,4 @@ def put_vote(log: Log, name: str, kind: str, number: int, value: bytes) -> None:
     votes_of(log, name).put(kind, [Vote(number, value)])
 
 
-__all__ = ["Keys", "Store", "made_log", "run", "fill", "votes_of", "put_vote", "STAND_IN", "LOG_ID", "SET"]
+__all__ = ["Keys", "Store", "made_log", "run", "fill", "votes_of", "put_vote", "for_now", "until", "script", "STAND_IN", "LOG_ID", "PATIENCE", "SET"]

@@ -13,8 +13,8 @@ from ledgerlog.ruling import upgrade
 from ledgerlog.saves import saved_vote_in
 from ledgerlog.voting import Voting
 
-from .store import SET, Store, fill, made_log
-from .test_following import Following, OverStandIn, until
+from .store import PATIENCE, SET, Store, fill, for_now, made_log, until
+from .test_following import Following, OverStandIn
 
 OTHER = b"\1" * 32
 
@@ -29,8 +29,7 @@ class FollowingChained(Following):
 
     def test_lines_are_told_once_and_votes_are_a_key_each(self) -> None:
         # On a busy machine one may be silent for a second.
-        self.addCleanup(setattr, voting, "TELL_SECONDS", voting.TELL_SECONDS)
-        setattr(voting, "TELL_SECONDS", 1000.0)
+        for_now(self, voting, TELL_SECONDS=2 * PATIENCE)
         self.three(9)
         fill(self.log, 200)
         self.answered(209, *SET)
@@ -87,7 +86,7 @@ class FollowingChained(Following):
         self.assertEqual(vote_in(self.store.get(key)).made, Point(6, OTHER))  # type: ignore[union-attr]
         self.start("c")
         self.answered(8, *SET)
-        self.assertIsNone(self.running["a"].replica.voting.held)  # type: ignore[union-attr]
+        until(lambda: self.running["a"].replica.voting.held is None)  # type: ignore[union-attr]
 
     def test_a_vote_beyond_the_log_stops_nobody(self) -> None:
         for name in SET:
@@ -106,6 +105,8 @@ class FollowingChained(Following):
         self.assertEqual(self.running["a"].saves.all(), [])
 
     def test_two_that_differ_name_both_lines_and_wait(self) -> None:
+        # On a busy machine one may tell its lines after many seconds.
+        for_now(self, voting, NAME_SECONDS=2 * PATIENCE)
         self.start("a", program=self.build("wrong", "STAND_IN_WRONG=6"))
         self.start("b")
         fill(self.log, 9)

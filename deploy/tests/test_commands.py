@@ -6,6 +6,8 @@ import tempfile
 import unittest
 from typing import List
 
+from .store import PATIENCE
+
 DEPLOY = os.path.dirname(os.path.dirname(os.path.realpath(__file__)))
 COMMANDS = ("ask", "backup", "serve", "log", "node", "replica", "snapshot", "submit")
 # Nothing listens there.
@@ -14,7 +16,7 @@ NOWHERE = ["--log", "127.0.0.1:9"]
 
 def done(words: List[str], given: bytes = b"") -> "subprocess.CompletedProcess[bytes]":
     asked = [os.path.join(DEPLOY, words[0]), *words[1:]]
-    return subprocess.run(asked, input=given, stdout=subprocess.PIPE, stderr=subprocess.PIPE, timeout=120)
+    return subprocess.run(asked, input=given, stdout=subprocess.PIPE, stderr=subprocess.PIPE, timeout=PATIENCE)
 
 
 class Commands(unittest.TestCase):
@@ -52,13 +54,14 @@ class Commands(unittest.TestCase):
             with tempfile.NamedTemporaryFile() as file, socket.create_server(("127.0.0.1", 0)) as node:
                 file.write(b"\2\0")
                 file.flush()
+                node.settimeout(PATIENCE)
                 address = f"127.0.0.1:{node.getsockname()[1]}"
                 words = [os.path.join(DEPLOY, "submit"), "--log", address, file.name]
                 with subprocess.Popen(words, stdout=subprocess.PIPE, stderr=subprocess.PIPE) as process:
                     # A node that never answers: it is interrupted when it asks.
                     connection, _ = node.accept()
                     process.send_signal(number)
-                    _, errors = process.communicate(timeout=120)
+                    _, errors = process.communicate(timeout=PATIENCE)
                 connection.close()
                 self.assertEqual(process.returncode, 1)
                 self.assertRegex(errors, rb"interrupted; it isn't known what was put: try again with --id t[0-9a-f]{8}-[0-9a-f]{32}\n")

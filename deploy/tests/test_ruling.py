@@ -13,9 +13,9 @@ from ledgerlog.settings import Limit, Settings, settings_of
 from ledgerlog.votes import Vote
 
 from .served import Served
-from .store import LOG_ID, SET, STAND_IN, Store, fill, made_log, put_vote, run, votes_of
+from .store import LOG_ID, SET, STAND_IN, Store, fill, for_now, made_log, put_vote, run, until, votes_of
 from .test_commands import done
-from .test_following import OverStandIn, until
+from .test_following import OverStandIn
 
 
 def run_with_budget(budget: bytes) -> bytes:
@@ -27,12 +27,7 @@ def run_with_budget(budget: bytes) -> bytes:
 class Skipping(OverStandIn):
     def setUp(self) -> None:
         super().setUp()
-        self.addCleanup(setattr, following, "FIRST_PAUSE", following.FIRST_PAUSE)
-        self.addCleanup(setattr, following, "MOST_RESTARTS", following.MOST_RESTARTS)
-        setattr(following, "FIRST_PAUSE", 0.01)
-        setattr(following, "MOST_PAUSE", 0.2)
-        setattr(following, "MOST_RESTARTS", 10_000)
-        self.addCleanup(setattr, following, "MOST_PAUSE", 30.0)
+        for_now(self, following, FIRST_PAUSE=0.01, MOST_PAUSE=0.2, MOST_RESTARTS=1_000_000)
 
     def skip(self, number: int, why: str = "too dear") -> None:
         skip_record(self.log, number, why)

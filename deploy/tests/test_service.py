@@ -10,13 +10,13 @@ from typing import Any, Callable, Dict, List, Optional
 from ledgerlog.client import Ledger, Placed, Refused, Tls, Unknown
 from ledgerlog.errors import Unreachable
 from ledgerlog.etcd import Access
-from ledgerlog.gathering import Wanted, Writer
 from ledgerlog.keys import LINES
 from ledgerlog.log import Log, Offer
+from ledgerlog.pipelining import Pipeline, Wanted
 from ledgerlog.service import Port, Service
 from ledgerlog.written import INLINE_BYTES
 
-from .store import Store, made_log, put_vote, run
+from .store import PATIENCE, Store, made_log, put_vote, run, until
 from .test_commands import done
 from .test_log import large
 
@@ -38,7 +38,7 @@ class Serving(unittest.TestCase):
         self.addCleanup(lambda: service.close() if service.socket.fileno() >= 0 else None)
         return service
 
-    def ledger(self, submitter: str = "anyone", seconds: float = 120.0) -> Ledger:
+    def ledger(self, submitter: str = "anyone", seconds: float = PATIENCE) -> Ledger:
         made = Ledger(self.path, submitter, seconds)
         self.addCleanup(made.close)
         return made
@@ -60,9 +60,22 @@ class Serving(unittest.TestCase):
             thread.join()
         return [told[at] for at in range(len(calls))]
 
+    def let_go_where_waiting(self, count: int) -> None:
+        """Has the service put nothing more until so many wait beside those that it puts then."""
+        writer = self.service.writer
+        real = writer.put
+
+        def put(batch: List[Wanted]) -> None:
+            until(lambda: writer.waiting.qsize() >= count)
+            setattr(writer, "put", real)
+            real(batch)
+
+        setattr(writer, "put", put)
+
     def test_many_at_once_get_a_number_each_in_few_transactions(self) -> None:
         ledgers = [self.ledger(f"s{at % 20}") for at in range(40)]
         before = self.store.revision
+        self.let_go_where_waiting(2)
         placed = self.at_once(*(lambda at=at: [ledgers[at].submit(run(10 * at + one)).number for one in range(5)]
                                 for at in range(40)))
         numbers = sorted(number for one in placed for number in one)
@@ -205,7 +218,7 @@ class OverTls(unittest.TestCase):
     def tls(self, name: str) -> Tls:
         return Tls(self.file("ca.pem"), self.file(f"{name}.pem"), self.file(f"{name}.key"))
 
-    def ledger(self, name: str, seconds: float = 120.0, submitter: str = "bob") -> Ledger:
+    def ledger(self, name: str, seconds: float = PATIENCE, submitter: str = "bob") -> Ledger:
         made = Ledger(self.place, submitter, seconds, self.tls(name))
         self.addCleanup(made.close)
         return made
@@ -256,49 +269,66 @@ class OverTls(unittest.TestCase):
         threading.Timer(0.5, vote).start()
         it = self.submitted(run(1), "--wait", place=self.socket)
         self.assertEqual((it.returncode, it.stdout), (0, b"1\n1 returned 5\n"), it.stderr)
-        it = self.submitted(run(2), "--wait", "--seconds", "1", place=self.socket)
+        for seconds in (1, 10, 100):
+            it = self.submitted(run(2), "--id", "pay-2", "--wait", "--seconds", str(seconds), place=self.socket)
+            # A busy machine may not have put it in so short a time.
+            if it.stdout:
+                break
         self.assertEqual((it.returncode, it.stdout), (1, b"2\n"))
-        self.assertIn(b"record 2 is in the log, and no majority has answered it alike within 1 seconds", it.stderr)
+        self.assertIn(b"record 2 is in the log, and no majority has answered it alike within %d seconds" % seconds, it.stderr)
         it = self.submitted(run(3), "--id", "pay-9", "--seconds", "1", place=self.socket + "-none")
         self.assertEqual(it.returncode, 1)
         self.assertIn(b"it isn't known what was put: try again with --id pay-9", it.stderr)
 
 
+def put_all(pipeline: Pipeline, store: Store) -> None:
+    """Puts all that waits, one transaction after the other."""
+    while pipeline.wanted or pipeline.failed:
+        flight = pipeline.take()
+        if flight is not None:
+            flight.send(store)
+            pipeline.end(flight)
+
+
 class Batches(unittest.TestCase):
+    def pipeline(self, store: Store, **given: Any) -> Pipeline:
+        log = made_log(store, **given)
+        return Pipeline(log, log.settings)
+
     def test_a_transaction_has_no_more_operations_than_it_takes(self) -> None:
-        writer = Writer(made_log(Store()))
+        store = Store()
+        pipeline = self.pipeline(store)
         told: List[Any] = []
         for at in range(200):
-            writer.waiting.put(Wanted(Offer(f"x{at}", run(at)), f"s{at}", told.append))
-        while len(told) < 200:
-            writer.put(writer.next())
+            pipeline.want(Wanted(Offer(f"x{at}", run(at)), f"s{at}", told.append))
+        put_all(pipeline, store)
         self.assertEqual(told, list(range(1, 201)))
 
     def test_as_many_as_the_nodes_take_and_no_more_bytes(self) -> None:
         store = Store()
         store.most_operations = 1024
-        writer = Writer(made_log(store))
+        pipeline = self.pipeline(store)
         told: List[Any] = []
         for at in range(400):
-            writer.waiting.put(Wanted(Offer(f"x{at}", run(at)), f"s{at % 20}", told.append))
+            pipeline.want(Wanted(Offer(f"x{at}", run(at)), f"s{at % 20}", told.append))
         before = store.revision
-        writer.put(writer.next())
+        put_all(pipeline, store)
         self.assertEqual((told, store.revision), (list(range(1, 401)), before + 1))
         large_ones = [b"\2" + b"\x80\x7d" + bytes(16_000)] * 100
         for at, record in enumerate(large_ones):
-            writer.waiting.put(Wanted(Offer(f"y{at}", record), "s", told.append))
-        batch = writer.next()
-        self.assertLess(sum(len(one.offer.record) for one in batch), 1_000_000)
-        self.assertEqual(len(batch) + len(writer.left), 100)
+            pipeline.want(Wanted(Offer(f"y{at}", record), "s", told.append))
+        flight = pipeline.take()
+        assert flight is not None
+        self.assertLess(sum(len(one.offer.record) for one in flight.wanted), 1_000_000)
+        self.assertEqual(len(flight.wanted) + len(pipeline.wanted), 100)
 
     def test_in_one_transaction_each_id_is_once_and_a_quota_binds_its_submitter_alone(self) -> None:
         store = Store()
-        writer = Writer(made_log(store, quotas={"poor": 4}))
+        pipeline = self.pipeline(store, quotas={"poor": 4})
         told: Dict[str, Any] = {}
         for name, who, number in (("a", "poor", 1), ("b", "rich", 2), ("c", "poor", 3), ("b", "rich", 2), ("d", "rich", 4)):
-            writer.waiting.put(Wanted(Offer(name, run(number)), who, partial(told.setdefault, name)))
-        while len(told) < 4 or writer.left:
-            writer.put(writer.next())
-        self.assertEqual([told[name] for name in "bd"], [1, 2])
-        self.assertEqual([str(told[name]) for name in "ac"], ["poor has 0 bytes in the log, and may have 4"] * 2)
+            pipeline.want(Wanted(Offer(name, run(number)), who, partial(told.setdefault, name)))
+        put_all(pipeline, store)
+        self.assertEqual([told[name] for name in "abd"], [1, 2, 3])
+        self.assertEqual(str(told["c"]), "poor has 4 bytes in the log, and may have 4")
         self.assertEqual(store.get(b"L/used/rich"), b"8")

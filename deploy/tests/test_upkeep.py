@@ -45,6 +45,7 @@ class Room(unittest.TestCase):
 
 class Passwords(OverNodes):
     def setUp(self) -> None:
+        super().setUp()
         holder = tempfile.TemporaryDirectory()
         self.addCleanup(holder.cleanup)
         self.folder = holder.name

@@ -5,6 +5,7 @@ import tempfile
 import unittest
 from typing import List, Tuple
 
+from ledgerlog import program
 from ledgerlog.errors import OtherHistory
 from ledgerlog.keys import LINES, SAVED
 from ledgerlog.program import Program, identity
@@ -12,7 +13,7 @@ from ledgerlog.saves import name_of, vote_on
 from ledgerlog.verifying import Verifying
 from ledgerlog.votes import Vote
 
-from .store import LOG_ID, SET, STAND_IN, Store, fill, made_log, votes_of
+from .store import LOG_ID, PATIENCE, SET, STAND_IN, Store, fill, for_now, made_log, script, votes_of
 
 
 class VerifyingALog(unittest.TestCase):
@@ -80,3 +81,11 @@ class Identity(unittest.TestCase):
         os.environ["STAND_IN_VERSION"] = "moveledger 1.2.3"
         self.addCleanup(os.environ.pop, "STAND_IN_VERSION")
         self.assertRegex(identity(STAND_IN), rb"^moveledger 1\.2\.3 sha256:[0-9a-f]{64}$")
+
+    def test_one_that_does_not_end_by_itself_is_none_without_a_version(self) -> None:
+        for words, why in ("exec sleep 600", "hasn't said within 0.1 seconds"), ("kill -9 $$", "was killed by signal 9"):
+            with self.subTest(words), tempfile.TemporaryDirectory() as folder:
+                path = script(os.path.join(folder, "program"), words)
+                for_now(self, program, VERSION_SECONDS=0.1 if "sleep" in words else PATIENCE)
+                with self.assertRaisesRegex(OSError, why):
+                    identity(path)

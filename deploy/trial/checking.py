@@ -8,9 +8,8 @@ from ledgerlog.final import Final
 from ledgerlog.log import Log
 from ledgerlog.written import Taken
 
-from .processes import Failed, ReplicaProcess, until
+from .processes import PATIENCE, Failed, ReplicaProcess, until
 
-SAVE_SECONDS = 180.0
 MOST_LINES = 5_000
 
 
@@ -71,6 +70,6 @@ def check_saves(replicas: List[ReplicaProcess], number: int, saved: Path) -> Non
     """Failed where a replica doesn't save the whole ledger, or another one than the program."""
     for replica in replicas:
         newest = lambda: replica.saves() and replica.saves()[0].number == number and replica.saves()[0]  # noqa: E731
-        save = until(newest, SAVE_SECONDS, f"{replica.name} has saved record {number}")
+        save = until(newest, PATIENCE, f"{replica.name} has saved record {number}")
         if Path(save.path).read_bytes() != saved.read_bytes():
             raise Failed(f"{save.path} isn't the ledger that the program saves")

@@ -8,10 +8,9 @@ from typing import Dict, Iterable, List, Tuple
 from ledgerlog.etcd import Etcd
 from ledgerlog.log import Log, Offer
 
-from .processes import Failed, command
+from .processes import PATIENCE, Failed, command
 
 THREADS = 3
-PATIENCE = 120.0
 MOST_AT_ONCE = 60
 SLOW_SECONDS = 1.0
 

@@ -17,7 +17,8 @@ from .stage import NAMES, PATIENCE, Stage
 
 # Long enough for a node to answer a write that it gave up waiting for its peers.
 PAUSE_SECONDS = 16.0
-# What a command may take where one node hangs: it needs none of it, and the machine may be busy.
+# What a command may take where one node hangs, which costs it nothing, beyond four times of what it takes where none does: the machine may
+# be busy.
 MOST_SECONDS = 8.0
 LATE_SECONDS = 5.0
 STREAM = 600
@@ -100,18 +101,23 @@ def submitted(stage: Stage, nodes: List[str], seconds: float, *options: object) 
     return took
 
 
+def most_seconds(stage: Stage) -> float:
+    return MOST_SECONDS + 4 * submitted(stage, stage.place.addresses, PATIENCE, "--wait")
+
+
 def one_hangs(stage: Stage) -> str:
     """The first node hangs in each way: no command waits for it."""
     others, told = stage.place.addresses[1:], []
+    most = most_seconds(stage)
     for how, make in ("answers nothing", silent), ("takes no connection", dropping):
         with make() as node:
             nodes = [f"127.0.0.1:{node.getsockname()[1]}", *others]
-            told.append(f"{how} {submitted(stage, nodes, MOST_SECONDS, '--wait'):.1f} s")
+            told.append(f"{how} {submitted(stage, nodes, most, '--wait'):.1f} s")
     stopped = stage.place.nodes[:1]
     signalled(stopped, signal.SIGSTOP)
     try:
         time.sleep(2.0)
-        told.append(f"is stopped {submitted(stage, stage.place.addresses, 2 * MOST_SECONDS, '--wait'):.1f} s")
+        told.append(f"is stopped {submitted(stage, stage.place.addresses, 2 * most, '--wait'):.1f} s")
     finally:
         signalled(stopped, signal.SIGCONT)
     return f"submit --wait where one node {', '.join(told)}"
@@ -129,7 +135,7 @@ def late(stage: Stage) -> str:
 
 def seconds_are_kept(stage: Stage) -> str:
     """Two nodes are stopped: submit ends in the time that it was given, with the id."""
-    stopped, record = stage.place.nodes[1:], stage.given.fresh_mint()
+    stopped, record, most = stage.place.nodes[1:], stage.given.fresh_mint(), 5 + most_seconds(stage)
     signalled(stopped, signal.SIGSTOP)
     try:
         began = time.monotonic()
@@ -137,7 +143,7 @@ def seconds_are_kept(stage: Stage) -> str:
         took = time.monotonic() - began
     finally:
         signalled(stopped, signal.SIGCONT)
-    if it.returncode != 1 or b"try again with --id waits" not in it.stderr or took > 5 + MOST_SECONDS / 2:
+    if it.returncode != 1 or b"try again with --id waits" not in it.stderr or took > most:
         raise Failed(f"submit --seconds 5 took {took:.1f} s and ended with the status {it.returncode}: {it.stderr!r}")
     again = command("submit", *stage.words("submitter"), "--id", "waits", "-", given=record)
     if again.returncode != 0:
@@ -175,8 +181,8 @@ def two_pause(stage: Stage, name: str, is_alone: bool) -> str:
     before = stage.log.last()
     stopped = stage.random.sample(stage.place.nodes, 2)
     nodes = left_of(stage, stopped) if is_alone else stage.place.addresses
-    words = [str(DEPLOY / "submit"), "--log", ",".join(nodes), "--ledger", stage.ledger, "--stream", "--id", name, "--seconds", "180",
-             "-"]
+    words = [str(DEPLOY / "submit"), "--log", ",".join(nodes), "--ledger", stage.ledger, "--stream", "--id", name, "--seconds",
+             str(PATIENCE), "-"]
     with subprocess.Popen(words, stdin=subprocess.PIPE, stdout=subprocess.PIPE, stderr=subprocess.PIPE) as process:
         assert process.stdin and process.stdout and process.stderr
         process.stdin.write(b"".join(records))

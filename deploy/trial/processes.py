@@ -15,7 +15,10 @@ from ledgerlog.saves import Save, saves_in
 DEPLOY = Path(__file__).resolve().parent.parent
 SUBREAPER = 36
 NODES = 3
-END_SECONDS = 60.0
+# The sockets that keep other trials from this one's ports, as long as it runs.
+OURS: List[socket.socket] = []
+# More than the busiest machine takes: nothing that is awaited comes as late as that.
+PATIENCE = 600.0
 
 
 class Failed(Exception):
@@ -55,17 +58,20 @@ def adopt() -> None:
 
 
 def free_ports() -> int:
-    """The first of six ports that nothing listens at; any of them, since another trial may run whose nodes are down just now."""
+    """The first of six ports that nothing listens at, and that no other trial on this machine has, whose nodes may be down just now."""
     places = list(range(24_000, 32_000, 10))
     random.SystemRandom().shuffle(places)
     for first in places:
+        ours = socket.socket(socket.AF_UNIX)
         try:
+            ours.bind(f"\0moveledger-trial-{first}")
             for port in range(first, first + 2 * NODES):
                 with socket.socket() as one:
                     one.bind(("127.0.0.1", port))
+            OURS.append(ours)
             return first
         except OSError:
-            pass
+            ours.close()
     raise Failed("there are no free ports")
 
 
@@ -91,7 +97,7 @@ class Started:
         """Asks it to end, and gives its status."""
         assert self.process is not None
         self.process.terminate()
-        return self.process.wait(END_SECONDS)
+        return self.process.wait(PATIENCE)
 
     def is_running(self) -> bool:
         return self.process is not None and self.process.poll() is None
@@ -143,7 +149,7 @@ class ReplicaProcess(Started):
         until(is_back, seconds, f"{self.name} has answered record {number}")
         return time.monotonic() - began
 
-    def ends(self, status: int, text: str, seconds: float = 180.0) -> str:
+    def ends(self, status: int, text: str, seconds: float = PATIENCE) -> str:
         """Waits until it has ended with this status and has said this text, and gives the line."""
         until(lambda: not self.is_running(), seconds, f"{self.name} ends: it has said {self.told()[-400:]}")
         assert self.process is not None
@@ -152,7 +158,7 @@ class ReplicaProcess(Started):
             raise Failed(f"{self.name} ends with the status {self.process.returncode}: {self.told()[-400:]}")
         return lines[-1]
 
-    def says(self, text: str, before: int = 0, seconds: float = 180.0) -> str:
+    def says(self, text: str, before: int = 0, seconds: float = PATIENCE) -> str:
         """Waits until it has said this, behind so much that it has said before, and gives the line."""
         found = lambda: [line for line in self.told()[before:].splitlines() if text in line]  # noqa: E731
         return str(until(found, seconds, f"{self.name} says `{text}`; it has said {self.told()[before:][-400:]}")[-1])
@@ -177,7 +183,7 @@ def end_all(started: Sequence[Started]) -> None:
 
 def wait_for_left() -> None:
     """Waits for what killed replicas left, when all that was started has ended."""
-    ends = time.monotonic() + END_SECONDS
+    ends = time.monotonic() + PATIENCE
     while time.monotonic() < ends:
         try:
             if os.waitpid(-1, os.WNOHANG)[0] == 0:

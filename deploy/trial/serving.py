@@ -15,7 +15,7 @@ from .stage import Stage
 
 SUBMITTERS, EACH = 12, 25
 KILLS = 3
-LONG = 300.0
+LONG = 1_800.0
 
 
 class Clients:

@@ -9,11 +9,8 @@ from ledgerlog.final import Final
 from ledgerlog.log import Log, Offer
 
 from .given import Given
-from .processes import NODES, Node, ReplicaProcess, command, done, end_all, free_ports, until
+from .processes import NODES, PATIENCE, Node, ReplicaProcess, command, done, end_all, free_ports, until
 
-# More than a busy machine takes.
-PATIENCE = 180.0
-ANSWER_SECONDS = 240.0
 NAMES = ("first", "second", "third")
 # Replicas save so many seconds after the first record that isn't saved.
 SECONDS = 2
@@ -125,7 +122,7 @@ class Stage:
 
     def answered(self, number: int) -> bytes:
         """Waits until the lines of a record are final."""
-        return bytes(until(lambda: self.line(number), ANSWER_SECONDS, f"record {number} of {self.ledger} is answered"))
+        return bytes(until(lambda: self.line(number), PATIENCE, f"record {number} of {self.ledger} is answered"))
 
     def all_answered(self, number: int) -> None:
         """Waits until every replica of the set has voted on a record, alike."""
@@ -136,7 +133,7 @@ class Stage:
             walked = final.walked(number, 1)
             return walked is not None and all(walked.on.get(name, 0) >= number for name in final.replicas)
 
-        until(is_answered, ANSWER_SECONDS, f"all have answered record {number} alike")
+        until(is_answered, PATIENCE, f"all have answered record {number} alike")
 
     def saved(self, name: str, number: int) -> None:
         """Waits until a replica has saved behind a record."""

@@ -10,10 +10,11 @@ import socket
 import subprocess
 import sys
 import tempfile
+import termios
 import time
 import unittest
 from pathlib import Path
-from typing import Any, Dict, List, Sequence, Tuple
+from typing import Any, Callable, Dict, List, Sequence, Tuple
 
 from . import TOP
 
@@ -23,6 +24,9 @@ ENDS = signal.SIGTERM, signal.SIGINT, signal.SIGHUP
 # What asks how many bytes wait in a pipe, at most.
 GET_PIPE_SIZE = 1032
 COPIES = "cat"
+WAITS = 'until [ -e "$0.goes-on" ]; do sleep 0.1; done; cat'
+# More seconds than the busiest machine takes for what is awaited.
+PATIENCE = 600
 # What begins as no record does.
 LOST = b"\2" + 10 * b"\x80" + bytes(200)
 
@@ -156,24 +160,32 @@ class Runs(unittest.TestCase):
 
     def ended(self, *words: str, data: bytes = b"", **settings: Any) -> Tuple[int, bytes, bytes]:
         run = self.started(*words, **settings)
-        printed, said = run.communicate(data, 30)
+        printed, said = run.communicate(data, PATIENCE)
         return run.returncode, printed, said
 
-    def send_once_begun(self, run: "subprocess.Popen[bytes]", *numbers: int, apart: float = 0.3) -> None:
-        """Sends signals a while after the program has begun, so many seconds apart."""
-        for _ in range(1_000):
-            if Path(self.folder, "program.began").exists():
-                break
-            time.sleep(0.01)
-        time.sleep(0.3)
-        for place, number in enumerate(numbers):
-            time.sleep(apart if place else 0)
-            run.send_signal(number)
+    def is_begun(self) -> bool:
+        return Path(self.folder, "program.began").exists()
 
-    def signalled(self, run: "subprocess.Popen[bytes]", *numbers: int, apart: float = 0.3) -> Tuple[int, bytes, bytes]:
-        """How it ends by signals while its input stays open."""
-        self.send_once_begun(run, *numbers, apart=apart)
+    def send_once_begun(self, run: "subprocess.Popen[bytes]", number: int) -> None:
+        """Sends a signal a while after the program has begun."""
+        until(self.is_begun)
+        time.sleep(0.3)
+        run.send_signal(number)
+
+    def signalled(self, run: "subprocess.Popen[bytes]", number: int) -> Tuple[int, bytes, bytes]:
+        """How it ends by a signal while its input stays open."""
+        self.send_once_begun(run, number)
         return ended(run)
+
+    def signalled_while_full(self, run: "subprocess.Popen[bytes]") -> Tuple[int, bytes, bytes]:
+        """How it ends by SIGTERM that comes once as much waits for the program as the pipe takes. The program goes on when that was heard of."""
+        until(lambda: waiting(run) == 4_096)
+        run.send_signal(signal.SIGTERM)
+        assert run.stderr is not None
+        heard_of = run.stderr.readline()
+        Path(self.folder, "program.goes-on").touch()
+        status, printed, said = ended(run)
+        return status, printed, heard_of + said
 
     def test_all_of_an_input_that_ends_is_handed_on(self) -> None:
         whole = b"".join(record(size) for size in (0, 5, 127, 128, 70_000, 3, 4_096, 300_000)) + 3_000 * record(40)
@@ -191,7 +203,7 @@ class Runs(unittest.TestCase):
             send(run, sent)
             self.assertEqual(run.stdout.read(len(handed_on)), handed_on)
             self.assertEqual(select.select([run.stdout], [], [], 0.05)[0], [])
-        self.assertEqual((run.communicate(timeout=30), run.returncode), ((b"", b""), 0))
+        self.assertEqual((run.communicate(timeout=PATIENCE), run.returncode), ((b"", b""), 0))
 
     def test_the_status_is_the_programs(self) -> None:
         ends = [("exit 0", 0), ("exit 1", 1), ("exit 3", 3), ("exit 255", 255), ("kill -KILL $$", 137), ("kill -USR1 $$", 138)]
@@ -216,17 +228,17 @@ class Runs(unittest.TestCase):
                 self.assertEqual(ended(run), (128 + number, b"", told(number)))
 
     def test_the_record_that_is_being_handed_on_comes_whole(self) -> None:
-        run = self.started(self.program("sleep 2; cat"), *APPLY)
+        run = self.started(self.program(WAITS), *APPLY)
         send(run, 60 * record(1_000))
-        status, printed, said = self.signalled(run, signal.SIGTERM)
+        status, printed, said = self.signalled_while_full(run)
         self.assertEqual((status, said), (143, told(signal.SIGTERM)))
         # 4,096 bytes wait in the pipe: four records, and a part of the fifth.
         self.assertEqual(printed, 5 * record(1_000))
 
     def test_what_is_no_record_isnt_completed(self) -> None:
-        run = self.started(self.program("sleep 2; cat"), *APPLY)
+        run = self.started(self.program(WAITS), *APPLY)
         send(run, b"\2" + 10 * b"\xff" + 60_000 * b"x")
-        status, printed, _ = self.signalled(run, signal.SIGTERM)
+        status, printed, _ = self.signalled_while_full(run)
         self.assertEqual((status, printed[:11]), (143, b"\2" + 10 * b"\xff"))
 
     def test_a_program_that_cannot_save_keeps_its_status(self) -> None:
@@ -237,14 +249,22 @@ class Runs(unittest.TestCase):
 
     def test_a_second_signal_ends_the_program(self) -> None:
         run = self.started(self.program("exec sleep 60"), *APPLY)
-        status, printed, said = self.signalled(run, signal.SIGTERM, signal.SIGINT)
-        first = told(signal.SIGTERM).splitlines(keepends=True)[0]
+        self.send_once_begun(run, signal.SIGTERM)
+        assert run.stderr is not None
+        first = run.stderr.readline()
+        time.sleep(0.3)
+        run.send_signal(signal.SIGINT)
+        self.assertEqual(first, told(signal.SIGTERM).splitlines(keepends=True)[0])
         second = b"moveledger: a second signal: the program was ended; whether it had saved the ledger isn't known\n"
-        self.assertEqual((status, printed, said), (137, b"", first + second))
+        self.assertEqual(ended(run), (137, b"", second))
 
     def test_a_second_signal_at_once_is_the_first(self) -> None:
         run = self.started(self.program("cat > /dev/null; sleep 0.1"), *APPLY)
-        self.assertEqual(self.signalled(run, *3 * [signal.SIGTERM], apart=0), (143, b"", told(signal.SIGTERM)))
+        until(self.is_begun)
+        # Those that come while it is stopped come at once, the smallest number first.
+        for number in signal.SIGSTOP, signal.SIGTERM, signal.SIGINT, signal.SIGTERM, signal.SIGCONT:
+            run.send_signal(number)
+        self.assertEqual(ended(run), (130, b"", told(signal.SIGINT)))
 
     def test_signals_to_the_program_alone_do_nothing(self) -> None:
         program = self.program("for it in TERM INT HUP; do kill -$it $$; done; cat; cut -d' ' -f6 /proc/$$/stat; echo $$")
@@ -259,7 +279,7 @@ class Runs(unittest.TestCase):
                 run.send_signal(number)
                 time.sleep(0.1)
                 run.send_signal(number)
-                printed, said = run.communicate(record(5), 30)
+                printed, said = run.communicate(record(5), PATIENCE)
                 self.assertEqual((run.returncode, printed, said), (0, record(5), b""))
 
     def test_a_signal_that_came_before_it_was_ready(self) -> None:
@@ -311,14 +331,38 @@ class Runs(unittest.TestCase):
         run = self.started(self.program(COPIES), *APPLY, stderr=write)
         send(run, record(5))
         self.send_once_begun(run, signal.SIGTERM)
-        self.assertEqual((run.communicate(timeout=20)[0], run.returncode), (record(5), 143))
+        self.assertEqual((run.communicate(timeout=PATIENCE)[0], run.returncode), (record(5), 143))
         os.close(read)
         os.close(write)
 
 
+def until(condition: Callable[[], bool]) -> None:
+    """Waits until something holds."""
+    ends = time.monotonic() + PATIENCE
+    while not condition():
+        if time.monotonic() > ends:
+            raise AssertionError("it doesn't come")
+        time.sleep(0.01)
+
+
+def waiting(run: "subprocess.Popen[bytes]") -> int:
+    """How many bytes wait for the program behind the wrapper; 0 where it has not begun."""
+    try:
+        program = Path(f"/proc/{run.pid}/task/{run.pid}/children").read_text().split()[0]
+        read = os.open(f"/proc/{program}/fd/0", os.O_RDONLY | os.O_NONBLOCK)
+    except (OSError, IndexError):
+        return 0
+    try:
+        return int.from_bytes(fcntl.ioctl(read, termios.FIONREAD, bytes(4)), sys.byteorder)
+    except OSError:
+        return 0
+    finally:
+        os.close(read)
+
+
 def ended(run: "subprocess.Popen[bytes]") -> Tuple[int, bytes, bytes]:
     """How it ends while its input stays open: its status, and what more is printed and said."""
-    status = run.wait(30)
+    status = run.wait(PATIENCE)
     assert run.stdout is not None and run.stderr is not None
     return status, run.stdout.read(), run.stderr.read()
 
