@@ -179,7 +179,8 @@ pub use Rattle.mv_ledger_state.specs.SavedLaws.{NoLoadFails}
 pub use Rattle.mv_ledger_state.specs.SavedText.{First, Form, HeadFits, IsSavedText, Second, addressed_text, body_text, form_byte, greatest_count, head_text, is_under, keyed_from, keyed_indices}
 pub use Rattle.mv_ledger_state.specs.SavedText.{leaves_of_fields, leaves_text, saved_text, storage_text, stored_text, struct_text, tally_fits, tally_text}
 pub use Rattle.mv_ledger_state.specs.Tallying.{AddsTallies, AreInOrder, ArePlacedFor, HasRoomFor, HasRoomLeft, IsRoomFor, fresh_tally, is_published, place_for, tallies_at, tally_after}
-pub use Rattle.mv_ledger_state.proofs.TallyWords.{AreWithin, IsNamed, with_placed}
+pub use Rattle.mv_ledger_state.proofs.TallyWords.{IsNamed}
+pub use Rattle.mv_ledger_state.specs.Parts.Joining.{AreWithin, with_placed}
 pub use Rattle.mv_ledger_state.specs.View.{ArePlaced, AreScarce, AreSized, IsLedger, IsSmall, IsTalliedStore, LedgerView, PublishedView, scarce_indices, state_of, view_of}
 pub use Rattle.mv_machine.specs.Tallies.{all_of, lists_of, tallied}
 pub use Rattle.mv_ledger_state.specs.declared.saved.loading.LoadError.TheVariants.{Body, Head, Link, Link as NoLink, Module as BadModule, Module as NoModule}

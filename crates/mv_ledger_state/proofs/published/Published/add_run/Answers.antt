@@ -7,10 +7,10 @@ pub add_run-requires-clause-room : goal.add_run-requires-clause-room
 add_run-requires-clause-room c = subst (λ (p : PublishedView). All HasRoomLeft (all_of p.tallies)) (sym c.self.view_is) c.requires.room
 
 pub add_run-requires-clause-ordered : goal.add_run-requires-clause-ordered
-add_run-requires-clause-ordered c = scarce-ordered _ _ c.self.invariant.scarce
+add_run-requires-clause-ordered c = scarce-ordered _ _ c.self.invariant.0.scarce
 
 pub invariant_of-self : goal.invariant_of-self
-invariant_of-self c = counted-held _ _ c.self.invariant c.args.run.now _ c.add_run.ensures
+invariant_of-self c = counted-held _ _ c.self.invariant.0 c.args.run.now _ c.add_run.ensures
 
 pub returns-clause-modules : goal.returns-clause-modules
 returns-clause-modules c = ap (λ (p : PublishedView). p.modules) c.self.view_is

@@ -7,19 +7,19 @@ use Rattle.mv_ledger_state.proofs.published.Published.join.Goals as goal
 use Rattle.mv_ledger_state.proofs.published.Published.join.Goals.{In_ok-linked, In-None}
 
 pub placed-requires : goal.placed-requires
-placed-requires c = record { few = omega (arith, ap length c.deref.ensures.value, c.requires.few, c.self.invariant.few); all = tallied-long _ _ c.self.invariant }
+placed-requires c = record { few = omega (arith, ap length c.deref.ensures.value, c.requires.few, c.self.invariant.0.few); all = tallied-long _ _ c.self.invariant.0 }
 
 pub is_too_much-requires : goal.is_too_much-requires
 is_too_much-requires c =
     let ps = published_of c.deref.result.now in
     let long = placed-length (tables_in c.self.inside.store) c.self.inside.tallies (length c.self.inside.store) (tables_in ps) c.in_ok-placed.placed.items c.in_ok-placed.ensures.placed in
     let many = long ∙ length-map ps (λ (p : PublishedModule). p.tables) ∙ length-map c.deref.result.now published_one ∙ ap length c.deref.ensures.value in
-    omega (arith, many, ap length c.deref-2.ensures.value, c.requires.few, c.self.invariant.few, c.len.ensures.count)
+    omega (arith, many, ap length c.deref-2.ensures.value, c.requires.few, c.self.invariant.0.few, c.len.ensures.count)
 
 -- the bundle, with where each of its modules is to stand
 bundle-of : (c : In_ok-linked) → IsPlacedBundle c.self.inside.store (published_of c.args.news.items) c.self.inside.tallies c.in_ok-placed.placed.items c.args.sender
 bundle-of c = record {
-  held = c.self.invariant;
+  held = c.self.invariant.0;
   whole = subst (λ (l : List PublishedModule). IsStore (with_modules c.self.inside.store l)) c.in_ok-linked.ensures.ok c.in_ok-linked.ensures.linked.whole;
   join = c.in_ok-linked.ensures.joins;
   at =
