@@ -191,20 +191,20 @@ counted-back (ts ∷ tss) (suc place) index new old was there e = ap (λ uss. ts
 -- ---- room
 
 pub can-one : (b : Blocks) (count : ℕ) → 0 < count → CanNote count b → CanNote 1 b
-can-one b count more can open = omega (arith, more, can open)
+can-one b count more can here = omega (arith, more, can here)
 
 pub can-rest : (old new : Blocks) (count rest : ℕ) → count ≡ suc rest → new.marks ≡ old.marks → vec_len new.noted ≤ vec_len old.noted + 1 → vec_capacity new.noted ≡ vec_capacity old.noted
     → CanNote count old → CanNote rest new
-can-rest old new count rest is same len capacity can open =
-    let was : is_open old.marks.items ≡ true = ap (λ (v : Vec Mark Global). is_open v.items) (sym same) ∙ open in
+can-rest old new count rest is same len capacity can here =
+    let was : is_open old.marks.items ≡ true = ap (λ (v : Vec Mark Global). is_open v.items) (sym same) ∙ here in
     omega (arith, is, len, capacity, can was)
 
 -- ---- the invariant
 
 -- a run can be noted
 pub can-count : (b : Blocks) (modules : List PublishedModule) (tallies : List (List Tally)) (count : ℕ) → AreHeld b modules tallies → (held_in b modules tallies ≡ []) ⊎ (count ≤ b.room) → CanNote count b
-can-count b modules tallies count h (inl none) open = absurd (true≢false (sym open ∙ ap is_open (none-held-at b.noted.items b.marks.items modules tallies none)))
-can-count b modules tallies count h (inr room) open = omega (arith, h.room, room)
+can-count b modules tallies count h (inl none) here = absurd (true≢false (sym here ∙ ap is_open (none-held-at b.noted.items b.marks.items modules tallies none)))
+can-count b modules tallies count h (inr room) here = omega (arith, h.room, room)
 
 -- what leaves what is held at each mark
 pub held-after : (old new : Blocks) (modules now : List PublishedModule) (before after : List (List Tally)) → AreHeld old modules before → Ascend new
@@ -221,7 +221,7 @@ ascend-same old new counts long a = subst (λ (ks : List ℕ). AreMarks ks (leng
 
 pub can-same : (old new : Blocks) (count : ℕ) → is_open new.marks.items ≡ is_open old.marks.items → vec_len new.noted ≡ vec_len old.noted → vec_capacity new.noted ≡ vec_capacity old.noted → CanNote count old
     → CanNote count new
-can-same old new count open len capacity can here = omega (arith, len, capacity, can (sym open ∙ here))
+can-same old new count opens len capacity can here = omega (arith, len, capacity, can (sym opens ∙ here))
 
 -- room was taken
 pub held-reserved : (old new : Blocks) (modules : List PublishedModule) (tallies : List (List Tally)) → new.noted.items ≡ old.noted.items → new.marks ≡ old.marks
@@ -230,12 +230,12 @@ held-reserved old new modules tallies noted marks =
     ap₂ (λ (us : List TallyBefore) (v : Vec Mark Global). held_at us v.items modules tallies) noted marks
 
 -- the newest block is taken back
-module _ (b : Blocks) (ms : List Mark) (m : Mark) (modules : List PublishedModule) (tallies after : List (List Tally)) (now : List TallyBefore) (h : AreHeld b modules tallies)
+module _ (b : Blocks) (ms : List Mark) (m : Mark) (modules : List PublishedModule) (tallies : List (List Tally)) (h : AreHeld b modules tallies)
     (is : b.marks.items ≡ ms ++ m ∷ []) where
-  newest-below : m.noted ≤ length b.noted.items
+  pub newest-below : m.noted ≤ length b.noted.items
   newest-below = last-below ms m (length b.noted.items) (subst (λ (ns : List Mark). AreMarks (counts_at ns) (length b.noted.items)) is h.ascend)
 
-  module _ (left : length now ≡ m.noted) (same : (k : ℕ) → k ≤ m.noted → undone tally_back (drop k now) after ≡ undone tally_back (drop k b.noted.items) tallies) where
+  module _ (after : List (List Tally)) (now : List TallyBefore) (left : length now ≡ m.noted) (same : (k : ℕ) → k ≤ m.noted → undone tally_back (drop k now) after ≡ undone tally_back (drop k b.noted.items) tallies) where
     pub back-is : held_in b modules tallies ≡ held_at now ms (unwrap_or m.store modules) after ++ record { modules = unwrap_or m.store modules; tallies = after } ∷ []
     back-is =
         ap (λ (ns : List Mark). held_at b.noted.items ns modules tallies) is
@@ -256,12 +256,14 @@ module _ (b : Blocks) (ms : List Mark) (m : Mark) (modules : List PublishedModul
         → vec_len new.noted + new.room ≤ vec_capacity new.noted → IsTalliedStore store after × AreHeld new store after
     back-held store new store_is noted marks fits =
         let each = subst (λ (ps : List PublishedModule). IsTalliedStore ps after × AllByRecursion (λ (h : HeldModules). IsTalliedStore h.modules h.tallies) (held_at now ms ps after)) (sym store_is) back-each in
-        let same_held : held_in new store after ≡ held_at now ms store after = ap₂ (λ (us : List TallyBefore) (ns : List Mark). held_at us ns store after) noted marks in
-        (each.0, record {
-          ascend = subst (λ (ns : List Mark). AreMarks (counts_at ns) (length new.noted.items)) (sym marks) (subst (λ (us : List TallyBefore). AreMarks (counts_at ms) (length us)) (sym noted) back-ascend);
-          each = subst (λ (hs : List HeldModules). AllByRecursion (λ (h : HeldModules). IsTalliedStore h.modules h.tallies) hs) (sym same_held) each.1;
-          room = fits;
-        })
+        let same_held : held_in new store after ≡ held_at now ms store after = ap₂ (λ (us : List TallyBefore) (ns : List Mark). held_at us ns store after) noted marks in (
+          each.0,
+          record {
+            ascend = subst (λ (ns : List Mark). AreMarks (counts_at ns) (length new.noted.items)) (sym marks) (subst (λ (us : List TallyBefore). AreMarks (counts_at ms) (length us)) (sym noted) back-ascend);
+            each = subst (λ (hs : List HeldModules). AllByRecursion (λ (h : HeldModules). IsTalliedStore h.modules h.tallies) hs) (sym same_held) each.1;
+            room = fits;
+          },
+        )
 
     pub back-marks : (store : List PublishedModule) (new : Blocks) → store ≡ unwrap_or m.store modules → new.noted.items ≡ now → new.marks.items ≡ ms
         → held_in b modules tallies ≡ held_in new store after ++ record { modules = store; tallies = after } ∷ []

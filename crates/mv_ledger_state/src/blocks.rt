@@ -9,6 +9,9 @@ use mv_linker::Store;
 use mv_machine::Tally;
 use std::alloc::{AllocError, Global};
 
+// For so many changes room is kept from one block to the next.
+const MOST_KEPT: usize = 4_096;
+
 /// What the tallies were before a change of them.
 #[derive(Drop)]
 pub enum TallyBefore {
@@ -49,6 +52,18 @@ fn with_copy(had: Option<Store>, store: &Store) -> (Option<Store>, Result<(), Al
             Ok(copy) => (Some(copy), Ok(())),
             Err(error) => (None, Err(error)),
         },
+    }
+}
+
+/// Forgets what was noted. A long list gives its memory back, and a short one keeps it for the next block.
+fn forget(noted: &mut Vec<TallyBefore>)
+    ensures { noted.new.items ≡ [] }
+{
+    if noted.len() > MOST_KEPT {
+        let alloc = *noted.allocator();
+        *noted = Vec::new(alloc);
+    } else {
+        noted.clear();
     }
 }
 
@@ -139,7 +154,7 @@ impl Blocks {
                 noted: mark.noted,
                 store: mark.store.or(store),
             }),
-            None => self.noted.clear(),
+            None => forget(&mut self.noted),
         }
     }
 }

@@ -80,12 +80,14 @@ fn add_entry(tallies: &mut [Tally], entry: &StructTally) -> Option<(usize, Tally
     ensures back { IfSome result (λ b. slice_set tallies.new b.0 b.1 ≡ tallies.old) }
     ensures none { IfNone result (tallies.new ≡ tallies.old) }
 {
-    if let Ok(found) = tallies.binary_search_by_key(&entry.index, |tally| tally.index) {
-        let was = tallies[found];
-        add_to(&mut tallies[found], entry);
-        return Some((found, was));
+    match tallies.binary_search_by_key(&entry.index, |tally| tally.index) {
+        Ok(found) => {
+            let was = tallies[found];
+            add_to(&mut tallies[found], entry);
+            Some((found, was))
+        }
+        Err(_) => None,
     }
-    None
 }
 
 /// Adds what a run did with values of one struct to that struct's tally among those of its module, and notes what it was.

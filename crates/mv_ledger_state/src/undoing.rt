@@ -45,7 +45,11 @@ impl Published {
     {
         match self.blocks.marks.pop() {
             Some(mark) => {
-                take_back(&mut self.tallies.modules, &mut self.blocks.noted, mark.noted);
+                take_back(
+                    &mut self.tallies.modules,
+                    &mut self.blocks.noted,
+                    mark.noted,
+                );
                 put_back(&mut self.store, mark.store);
                 self.blocks.room = 0;
                 true
