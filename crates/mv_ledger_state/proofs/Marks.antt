@@ -4,7 +4,7 @@ use Rattle.std.proofs.Common.{◌⊎◌, inl, inr}
 use Rattle.std.proofs.lemmas.Bool.{true≢false}
 use Rattle.std.proofs.lemmas.List.{map-append}
 use Rattle.std.specs.Option.{option_or}
-use Rattle.std.specs.Prelude.{◌<◌, Err, None, Ok, OnErr, OnOk, Option, Result, Some, false, get_or, slice_get, slice_set, true, unwrap_or}
+use Rattle.std.specs.Prelude.{◌<◌, Err, None, Ok, OnOk, Option, Result, Some, false, get_or, slice_get, slice_set, true, unwrap_or}
 use Rattle.std.specs.List.{AllByRecursion}
 use Rattle.std.specs.Vec.{vec_capacity, vec_len}
 use Rattle.std.specs.declared.alloc.Global.{Global}
@@ -159,10 +159,6 @@ pub on_ok-so : {T E P Q : Type 0} (r : Result T E) → (P → Q) → OnOk r P �
 on_ok-so (Ok x) f p = f p
 on_ok-so (Err e) f p = p
 
-pub on_err-so : {T E P Q : Type 0} (r : Result T E) → (P → Q) → OnErr r P → OnErr r Q
-on_err-so (Ok x) f p = p
-on_err-so (Err e) f p = f p
-
 -- ---- what is written at a place, and put back
 
 pub set-back : {X : Type 0} (xs : List X) (p : ℕ) (x d : X) → p < length xs → slice_set (slice_set xs p x) p (get_or xs p d) ≡ xs
@@ -198,6 +194,13 @@ pub can-rest : (old new : Blocks) (count rest : ℕ) → count ≡ suc rest → 
 can-rest old new count rest is same len capacity can here =
     let was : is_open old.marks.items ≡ true = ap (λ (v : Vec Mark Global). is_open v.items) (sym same) ∙ here in
     omega (arith, is, len, capacity, can was)
+
+-- one entry more of a run
+pub notes-more : (old new : Blocks) (count i : ℕ) → new.marks ≡ old.marks → vec_len new.noted ≤ vec_len old.noted + 1 → vec_capacity new.noted ≡ vec_capacity old.noted
+    → (is_open old.marks.items ≡ true → vec_len old.noted + count ≤ vec_capacity old.noted + i) → is_open new.marks.items ≡ true → vec_len new.noted + count ≤ vec_capacity new.noted + (i + 1)
+notes-more old new count i same len capacity notes here =
+    let was : is_open old.marks.items ≡ true = ap (λ (v : Vec Mark Global). is_open v.items) (sym same) ∙ here in
+    omega (arith, len, capacity, notes was)
 
 -- ---- the invariant
 

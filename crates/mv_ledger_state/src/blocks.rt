@@ -44,7 +44,7 @@ pub struct Blocks {
 /// What a mark without modules of its own has, once these may change; and whether they could be copied.
 fn with_copy(had: Option<Store>, store: &Store) -> (Option<Store>, Result<(), AllocError>)
     ensures ok { OnOk result.1 ((modules : List PublishedModule) → unwrap_or result.0 modules ≡ unwrap_or had store.now) }
-    ensures err { OnErr result.1 ((modules : List PublishedModule) → unwrap_or result.0 modules ≡ unwrap_or had modules) }
+    ensures same { unwrap_or result.0 store.now ≡ unwrap_or had store.now }
 {
     match had {
         Some(older) => (Some(older), Ok(())),
@@ -86,9 +86,9 @@ impl Blocks {
     /// # Errors
     ///
     /// If an allocation failed. Nothing changes then.
-    pub fn note_store(&mut self, store: &Store) -> Result<(), AllocError>
+    fn note_store(&mut self, store: &Store) -> Result<(), AllocError>
         ensures held { OnOk result ((modules : List PublishedModule) (tallies : List (List Counts)) → held_in self.new modules tallies ≡ held_in self.old store.now tallies) }
-        ensures err { OnErr result ((modules : List PublishedModule) (tallies : List (List Counts)) → held_in self.new modules tallies ≡ held_in self.old modules tallies) }
+        ensures same { (tallies : List (List Counts)) → held_in self.new store.now tallies ≡ held_in self.old store.now tallies }
         ensures counts { counts_at self.new.marks.items ≡ counts_at self.old.marks.items }
         ensures open { is_open self.new.marks.items ≡ is_open self.old.marks.items }
         ensures noted { self.new.noted ≡ self.old.noted }
@@ -126,7 +126,7 @@ impl Blocks {
     /// # Errors
     ///
     /// If an allocation failed. Nothing changes then.
-    pub fn reserve(&mut self, count: usize) -> Result<(), AllocError>
+    fn reserve(&mut self, count: usize) -> Result<(), AllocError>
         ensures can { OnOk result (CanNote count self.new) }
         ensures noted { self.new.noted.items ≡ self.old.noted.items }
         ensures len { vec_len self.new.noted ≡ vec_len self.old.noted }
@@ -138,6 +138,25 @@ impl Blocks {
             return Ok(());
         }
         self.noted.reserve(count)
+    }
+
+    /// Takes room for noting so many changes of tallies, and keeps these modules for the newest block, if a block is open: they may
+    /// change from now on.
+    ///
+    /// # Errors
+    ///
+    /// If an allocation failed. Nothing changes then.
+    pub fn prepare(&mut self, count: usize, store: &Store) -> Result<(), AllocError>
+        ensures can { OnOk result (CanNote count self.new) }
+        ensures held { OnOk result ((modules : List PublishedModule) (tallies : List (List Counts)) → held_in self.new modules tallies ≡ held_in self.old store.now tallies) }
+        ensures same { (tallies : List (List Counts)) → held_in self.new store.now tallies ≡ held_in self.old store.now tallies }
+        ensures ascend { Ascend self.old → Ascend self.new }
+        ensures len { vec_len self.new.noted ≡ vec_len self.old.noted }
+        ensures capacity { vec_capacity self.old.noted ≤ vec_capacity self.new.noted }
+        ensures room { self.new.room ≡ self.old.room }
+    {
+        self.reserve(count)?;
+        self.note_store(store)
     }
 
     /// Hands the modules of a block that is closed to the next older one, if that has none; without an older one nothing has to be

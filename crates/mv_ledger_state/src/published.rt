@@ -148,8 +148,7 @@ impl Published {
         let tallies = &mut self.tallies;
         let blocks = &mut self.blocks;
         tallies.modules.reserve(placed.len())?;
-        blocks.reserve(placed.len())?;
-        blocks.note_store(&self.store)?;
+        blocks.prepare(placed.len(), &self.store)?;
         add(&mut self.store, linked)?;
         put_all(&mut tallies.modules, blocks, placed);
         blocks.room = 0;

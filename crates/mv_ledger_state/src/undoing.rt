@@ -45,11 +45,8 @@ impl Published {
     {
         match self.blocks.marks.pop() {
             Some(mark) => {
-                take_back(
-                    &mut self.tallies.modules,
-                    &mut self.blocks.noted,
-                    mark.noted,
-                );
+                let tallies = &mut self.tallies;
+                take_back(&mut tallies.modules, &mut self.blocks.noted, mark.noted);
                 put_back(&mut self.store, mark.store);
                 self.blocks.room = 0;
                 true

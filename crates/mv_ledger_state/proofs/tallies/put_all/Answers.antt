@@ -19,8 +19,8 @@ loop-one-init c =
       held = λ published. refl;
     }
 
-pub put-requires : goal.put-requires
-put-requires c = joining-room _ _ _ _ _ _ _ c.loop-one.invariant.joining c.in-Some.ensures.steps.0
+pub put-before-requires : goal.put-before-requires
+put-before-requires c = joining-room _ _ _ _ _ _ _ c.loop-one.invariant.joining c.in-Some.ensures.steps.0
 
 pub note-requires : goal.note-requires
 note-requires c =
@@ -36,7 +36,7 @@ loop-one-preserved c = record {
       c.note.ensures.held c.loop-one.invariant.ascend published (lists_of c.loop-one.modules.items) (lists_of c.put-before.new.modules.items) c.put-before.ensures.back ∙ c.loop-one.invariant.held published;
 }
 
-pub returns-in-None-clause-lists : goal.returns-in-None-clause-lists
-returns-in-None-clause-lists c =
+pub returns-clause-lists : goal.returns-clause-lists
+returns-clause-lists c =
     joining-done _ _ _ _ _ c.loop-one.invariant.joining (sym c.loop-one.one-iterator.rest.ok.0 ∙ c.in-None.ensures.steps.0)
     ∙ ap (with_placed (lists_of c.args.modules.now.items)) c.into_iter-one-iterator.ensures.into_iter_gives.0
