@@ -1,7 +1,7 @@
 use Rattle.mv_ledger_state.proofs.Common.{◌∙◌, ap, subst, sym, true≢false, head_of, offers_of, AllPass, PublishedView}
 use Rattle.mv_ledger_state.proofs.Loads.BodyLaws.{each_body_is_read, each_read_is_body}
 use Rattle.mv_ledger_state.proofs.Loads.Loaded.{unread-as, fails-body, stored-fine, fails-tallied, is-loaded, is-ledger}
-use Rattle.mv_ledger_state.proofs.Marks.{none-held-still}
+use Rattle.mv_ledger_state.proofs.Marks.{none-held-still, still-none}
 use Rattle.mv_ledger_state.proofs.TalliedStores.{read-held}
 use Rattle.mv_ledger_state.proofs.saved.loading.read_stored.Goals as goal
 
@@ -57,3 +57,23 @@ pub invariant_of-joined-2 : goal.invariant_of-joined-2
 invariant_of-joined-2 c =
     let none = ap (λ (p : PublishedView). p.marks) c.joined.view_is ∙ c.requires.marks in
     (read-held _ _ c.joined.invariant.0 _ c.read_body.ensures.kept, none-held-still c.joined.inside.blocks _ _ _ c.joined.invariant.1 none)
+
+pub returns-in-Err-clause-marks : goal.returns-in-Err-clause-marks
+returns-in-Err-clause-marks c =
+    let none = ap (λ (p : PublishedView). p.marks) c.joined.view_is ∙ c.requires.marks in
+    still-none c.joined.inside.blocks _ _ _ none
+
+pub returns-in_err-are_tallied-clause-marks : goal.returns-in_err-are_tallied-clause-marks
+returns-in_err-are_tallied-clause-marks c =
+    let none = ap (λ (p : PublishedView). p.marks) c.joined.view_is ∙ c.requires.marks in
+    still-none c.joined.inside.blocks _ _ _ none
+
+pub returns-then-not-branch-clause-marks : goal.returns-then-not-branch-clause-marks
+returns-then-not-branch-clause-marks c =
+    let none = ap (λ (p : PublishedView). p.marks) c.joined.view_is ∙ c.requires.marks in
+    still-none c.joined.inside.blocks _ _ _ none
+
+pub returns-clause-marks : goal.returns-clause-marks
+returns-clause-marks c =
+    let none = ap (λ (p : PublishedView). p.marks) c.joined.view_is ∙ c.requires.marks in
+    still-none c.joined.inside.blocks _ _ _ none
