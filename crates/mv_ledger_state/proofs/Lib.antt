@@ -21,3 +21,4 @@ pub mod Runs
 pub mod Saves
 pub mod NeverRefused
 pub mod Loads
+pub mod Marks

@@ -15,11 +15,13 @@
 //! ```
 #![tactic(auto)]
 
+mod blocks;
 mod payload;
 mod published;
 mod publishing;
 mod saved;
 mod tallies;
+mod undoing;
 mod unread;
 
 pub use mv_linker::Store;
