@@ -21,12 +21,12 @@ invariant_of-self c =
     let stored = c.self.inside.storage.committed in
     let left = c.execute-reply.new.storage.committed in (
       ledger-run old.modules new.modules stored left (all_of old.tallies) (all_of new.tallies) c.self.inside.runs c.execute-reply.ensures.modules c.execute-reply.ensures.stored
-      (c.execute-reply.ensures.small c.self.inside.runs) c.in-Ok-admitted.ensures.runs
-      (had_sound old.modules c.args.payload.now stored (all_of old.tallies) c.self.inside.runs (request_of c.in-Ok.asked) c.in-Ok.ensures.ok c.self.invariant.0.sound
-      c.in-Ok-admitted.call (admitted-to (goal.at.invariant_of-self c).In-Ok-admitted) left (all_of new.tallies) (told c.execute-reply.result)
-      (sym c.is_told.ensures ∙ c.if-is_told.true) c.execute-reply.ensures.settled) c.self.invariant.0,
+          (c.execute-reply.ensures.small c.self.inside.runs) c.in-Ok-admitted.ensures.runs
+          (had_sound old.modules c.args.payload.now stored (all_of old.tallies) c.self.inside.runs (request_of c.in-Ok.asked) c.in-Ok.ensures.ok c.self.invariant.0.sound
+          c.in-Ok-admitted.call (admitted-to (goal.at.invariant_of-self c).In-Ok-admitted) left (all_of new.tallies) (told c.execute-reply.result)
+          (sym c.is_told.ensures ∙ c.if-is_told.true) c.execute-reply.ensures.settled) c.self.invariant.0,
       ledgers-kept old.marks new.marks c.self.inside.storage.marks c.execute-reply.new.storage.marks c.self.inside.run_marks.items c.execute-reply.ensures.published_marks
-      c.execute-reply.ensures.storage_marks c.self.invariant.1,
+          c.execute-reply.ensures.storage_marks c.self.invariant.1,
     )
 
 pub invariant_of-self-else-is_told : goal.invariant_of-self-else-is_told
@@ -36,9 +36,9 @@ invariant_of-self-else-is_told c =
     let kept : IsKept c.self.inside.storage.committed c.execute-reply.new.storage.committed (all_of old.tallies) (all_of new.tallies) =
     unchanged (told c.execute-reply.result) _ _ _ _ (sym c.is_told.ensures ∙ c.if-is_told.false) c.execute-reply.ensures.kept in (
       ledger-kept old.modules new.modules c.self.inside.storage.committed c.execute-reply.new.storage.committed (all_of old.tallies) (all_of new.tallies) c.self.inside.runs
-      c.execute-reply.ensures.modules kept.0 kept.1 c.self.invariant.0,
+          c.execute-reply.ensures.modules kept.0 kept.1 c.self.invariant.0,
       ledgers-kept old.marks new.marks c.self.inside.storage.marks c.execute-reply.new.storage.marks c.self.inside.run_marks.items c.execute-reply.ensures.published_marks
-      c.execute-reply.ensures.storage_marks c.self.invariant.1,
+          c.execute-reply.ensures.storage_marks c.self.invariant.1,
     )
 
 pub returns-after-is_told : goal.returns-after-is_told

@@ -9,12 +9,11 @@ use Rattle.mv_ledger.proofs.Ledger.publish.Goals as goal
 use Rattle.mv_ledger.proofs.Ledger.publish.Goals.{in-Ok, in-Err-Phase, in-Err-Memory}
 
 pub invariant_of-self : goal.invariant_of-self
-invariant_of-self c =
-    (
-      ledger-published c.publish.result c.self.inside.published c.publish.new.self c.args.payload.now c.self.inside.storage.committed c.self.inside.runs c.publish.ensures.accepted
+invariant_of-self c = (
+  ledger-published c.publish.result c.self.inside.published c.publish.new.self c.args.payload.now c.self.inside.storage.committed c.self.inside.runs c.publish.ensures.accepted
       c.publish.ensures.tallied c.publish.ensures.whole c.publish.ensures.kept c.self.invariant.0,
-      ledgers-kept c.self.inside.published.marks c.publish.new.self.marks c.self.inside.storage.marks c.self.inside.storage.marks c.self.inside.run_marks.items c.publish.ensures.marks refl c.self.invariant.1,
-    )
+  ledgers-kept c.self.inside.published.marks c.publish.new.self.marks c.self.inside.storage.marks c.self.inside.storage.marks c.self.inside.run_marks.items c.publish.ensures.marks refl c.self.invariant.1,
+)
 
 pub returns : goal.returns
 returns c =
