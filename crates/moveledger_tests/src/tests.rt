@@ -1,6 +1,7 @@
 // Inputs through the engine, and the reports that come out.
 
 mod altered;
+mod blocks;
 mod fakes;
 mod faults;
 mod rows;
