@@ -43,12 +43,13 @@ impl Published {
         ensures back { result ≡ true → self.old.marks ≡ self.new.marks ++ held_now self.new ∷ [] }
         ensures none { result ≡ false → (self.old.marks ≡ []) × (self.new ≡ self.old) }
     {
-        match self.blocks.marks.pop() {
+        let blocks = &mut self.blocks;
+        let tallies = &mut self.tallies;
+        match blocks.marks.pop() {
             Some(mark) => {
-                let tallies = &mut self.tallies;
-                take_back(&mut tallies.modules, &mut self.blocks.noted, mark.noted);
+                take_back(&mut tallies.modules, &mut blocks.noted, mark.noted);
                 put_back(&mut self.store, mark.store);
-                self.blocks.room = 0;
+                blocks.room = 0;
                 true
             }
             None => false,

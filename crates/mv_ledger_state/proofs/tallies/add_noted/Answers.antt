@@ -1,4 +1,4 @@
-use Rattle.mv_ledger_state.proofs.Common.{◌∙◌, ap, slice_set, List, Tally}
+use Rattle.mv_ledger_state.proofs.Common.{◌∙◌, ap, slice_set}
 use Rattle.mv_ledger_state.specs.Blocks.{held_in}
 use Rattle.mv_ledger_state.proofs.Marks.{counted-back, set-same}
 use Rattle.mv_ledger_state.proofs.tallies.add_noted.Goals as goal

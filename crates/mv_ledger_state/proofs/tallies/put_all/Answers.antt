@@ -1,4 +1,4 @@
-use Rattle.mv_ledger_state.proofs.Common.{◌<◌, ◌∙◌, ◌≡◌, ap, arith, length, lists_of, refl, subst, suc, sym, with_placed, AreWithin, List, Placed}
+use Rattle.mv_ledger_state.proofs.Common.{◌<◌, ◌∙◌, ap, arith, length, lists_of, refl, subst, sym, with_placed, AreWithin, List, Placed}
 use Rattle.mv_ledger_state.specs.Blocks.{CanNote}
 use Rattle.mv_ledger_state.proofs.Marks.{can-one, can-rest}
 use Rattle.mv_ledger_state.proofs.Bundles.Placing.{joining-room, joining-next, joining-done}

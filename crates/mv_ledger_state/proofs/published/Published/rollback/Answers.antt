@@ -1,4 +1,4 @@
-use Rattle.mv_ledger_state.proofs.Common.{◌∙◌, ap, arith, drop, lists_of, refl, sym, PublishedView}
+use Rattle.mv_ledger_state.proofs.Common.{◌∙◌, ap, arith, drop, lists_of, refl, sym, unwrap_or, PublishedView}
 use Rattle.mv_undo.specs.Undo.{undone}
 use Rattle.mv_ledger_state.specs.Blocks.{tally_back}
 use Rattle.mv_ledger_state.specs.declared.blocks.Blocks.{Blocks}
@@ -15,7 +15,7 @@ invariant_of-tallies c =
     let p = c.self.inside in
     let b : Blocks = record { noted = c.take_back.new.noted; marks = c.pop.new.self; room = 0 } in
     (back-held p.blocks c.pop.new.self.items c.in-Some.mark p.store p.tallies c.self.invariant.1 c.in-Some.ensures.items (lists_of c.take_back.new.modules.items) c.take_back.new.noted.items
-    c.take_back.ensures.left (λ k le. c.take_back.ensures.same k le ∙ ap (undone tally_back (drop k p.blocks.noted.items)) c.tallies.view_is) c.put_back.new.store b c.put_back.ensures refl refl
+    c.take_back.ensures.left (λ k le. c.take_back.ensures.same k le ∙ ap (undone tally_back (drop k p.blocks.noted.items)) c.tallies.view_is) (unwrap_or c.in-Some.mark.store p.store) b refl refl refl
     (omega (arith, c.take_back.new.noted.ok.1))).0.placed
 
 pub invariant_of-self : goal.invariant_of-self
