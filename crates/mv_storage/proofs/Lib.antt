@@ -12,4 +12,5 @@ pub mod Written
 pub mod Loans
 pub mod Lent
 pub mod Undoing
+pub mod Differing
 pub mod SlotKinds

@@ -1,7 +1,6 @@
 -- Keys that keep their places.
-use Rattle.mv_storage.proofs.Common.{ℕ, ⊎_elim, ◌∙◌, ◌∷◌, ◌≡◌, List, None, Option, Some, ap, cond, false, refl, slice_get, slice_index_or, sym, true, get, option_and_then, Key, same_key, key_cmp, slot_at, IsSound}
+use Rattle.mv_storage.proofs.Common.{ℕ, ⊎_elim, ◌∙◌, ◌≡◌, None, Some, ap, cond, false, refl, slice_index_or, sym, true, get, Key, same_key, key_cmp, slot_at, IsSound}
 use Rattle.mv_storage.proofs.Common.{inl, Places, Slot}
-use Rattle.std.specs.BTreeMap.{BTreeMap}
 use Rattle.std.proofs.lemmas.Bool.{cases_Bool}
 use Rattle.mv_storage.specs.Slots.{is_pinned, keeps_place, KeepsPinned}
 use Rattle.mv_storage.proofs.Keys.{same_key-to}

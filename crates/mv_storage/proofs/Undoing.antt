@@ -1,6 +1,6 @@
 -- Changes of storage that are noted and taken back.
-use Rattle.mv_storage.proofs.Common.{[], ℕ, ⊎_elim, ◌++◌, ◌∙◌, ◌∷◌, ◌≡◌, ◌≤◌, List, None, Option, Some, ap, arith, cond, false, inl, length, refl, subst, sym, true, get, IsOrdered, Bool, Key, FlatEntry}
-use Rattle.mv_storage.proofs.Common.{same_key, key_cmp, words_under, with_words, without_words, Ascends, slot_at, value_at, layer_at, is_changed, shown, ShowsSame, IsSound, IsSettling, IsTracked}
+use Rattle.mv_storage.proofs.Common.{[], ℕ, ⊎_elim, ◌++◌, ◌∙◌, ◌∷◌, ◌≡◌, ◌≤◌, ◌⊎◌, List, None, Option, Some, ap, arith, cond, false, inl, inr, length, refl, subst, sym, true, get, IsOrdered, Bool, Key, FlatEntry}
+use Rattle.mv_storage.proofs.Common.{same_key, key_cmp, words_under, Ascends, slot_at, value_at, is_changed, ShowsSame, IsSound, IsSettling, IsTracked}
 use Rattle.mv_storage.proofs.Common.{Places, Slot, Committed, Current}
 use Rattle.std.proofs.Common.{◌+◌, drop, length-append}
 use Rattle.std.specs.Prelude.{◌&&◌, nat_lt}
@@ -8,8 +8,9 @@ use Rattle.mv_storage.specs.Map.{Layers, written, written_if}
 use Rattle.std.specs.List.{AllByRecursion}
 use Rattle.std.proofs.lemmas.Bool.{cases_Bool}
 use Rattle.mv_undo.specs.Undo.{undone, marks_of, AreMarks}
+use Rattle.mv_undo.proofs.Lasts.{last-same, last-some}
 use Rattle.mv_undo.proofs.Undoing.{marks-noted, marks-append-of, marks-same, undone-none, back-same, AreMarks-back, AreMarks-more, all-append, all-before, all-behind}
-use Rattle.mv_storage.specs.Slots.{keeps_place, layers, ArePlaced, AreKept, IsPinned, KeepsPinned, IsSettled, ShowsAt}
+use Rattle.mv_storage.specs.Slots.{keeps_place, ArePlaced, AreKept, IsPinned, KeepsPinned, IsSettled, ShowsAt}
 use Rattle.mv_storage.specs.Blocks.{value_before, is_absent, with_value, back, AreFresh, AreClearing, IsUndoable, IsNoted}
 use Rattle.mv_storage.specs.declared.blocks.Undone.{Undone}
 use Rattle.mv_storage.proofs.Keys.{same_key-to}
@@ -19,11 +20,11 @@ use Rattle.mv_storage.proofs.Shown.{shown_of, words_under-shown, shown-same, sho
 
 -- ---- a value under one key, or none
 
-words_under-with_value : (h : List FlatEntry) (k : Key) (v : Option (List ℕ)) (q : Key) → Ascends h → words_under (with_value h k v) q ≡ cond (same_key k q) v (words_under h q)
+pub words_under-with_value : (h : List FlatEntry) (k : Key) (v : Option (List ℕ)) (q : Key) → Ascends h → words_under (with_value h k v) q ≡ cond (same_key k q) v (words_under h q)
 words_under-with_value h k None q s = words_under-without_words h k q s
 words_under-with_value h k (Some w) q s = words_under-with_words h k w q
 
-Ascends-with_value : (h : List FlatEntry) (k : Key) (v : Option (List ℕ)) → Ascends h → Ascends (with_value h k v)
+pub Ascends-with_value : (h : List FlatEntry) (k : Key) (v : Option (List ℕ)) → Ascends h → Ascends (with_value h k v)
 Ascends-with_value h k None s = Ascends-without_words h k s
 Ascends-with_value h k (Some w) s = Ascends-with_words h k w s
 
@@ -249,3 +250,22 @@ written-marks us ms lent width l key from words = by (lent && nat_lt 0 width)
     by : (b : Bool) → with_marks us ms (cond b (record l { current = written l.current key from words }) l) ≡ cond b (record (with_marks us ms l) { current = written l.current key from words }) (with_marks us ms l)
     by true = refl
     by false = refl
+
+last-of : (ms : List ℕ) → (ms ≡ []) ⊎ ((zs : List ℕ) × (m : ℕ) × (ms ≡ zs ++ m ∷ []))
+last-of [] = inl refl
+last-of (x ∷ xs) =
+    ⊎_elim
+    (λ (e : xs ≡ []). inr ([], x, ap (λ ys. x ∷ ys) e))
+    (λ (r : (zs : List ℕ) × (m : ℕ) × (xs ≡ zs ++ m ∷ [])). inr (x ∷ r.0, r.1, ap (λ ys. x ∷ ys) r.2))
+    (last-of xs)
+
+-- what was committed at the newest mark
+pub marks-last : (us : List Undone) (ms : List ℕ) (h : List FlatEntry) (older : List (List FlatEntry)) (old : List FlatEntry) → marks_of back us ms h ≡ older ++ old ∷ []
+    → (zs : List ℕ) × (m : ℕ) × (ms ≡ zs ++ m ∷ []) × (undone back (drop m us) h ≡ old)
+marks-last us ms h older old e =
+    ⊎_elim
+    (λ (none : ms ≡ []). absurd (last-some older old (sym e ∙ ap (λ ms. marks_of back us ms h) none)))
+    (λ (r : (zs : List ℕ) × (m : ℕ) × (ms ≡ zs ++ m ∷ [])).
+    let is : marks_of back us r.0 h ++ undone back (drop r.1 us) h ∷ [] ≡ older ++ old ∷ [] = sym (marks-append-of back us r.0 r.1 h) ∙ ap (λ ms. marks_of back us ms h) (sym r.2) ∙ e in
+    (r.0, r.1, r.2, last-same (marks_of back us r.0 h) older (undone back (drop r.1 us) h) old is))
+    (last-of ms)

@@ -4,4 +4,5 @@ pub mod FlatStorage
 pub mod Map
 pub mod Slots
 pub mod Blocks
+pub mod Difference
 pub mod Lending

@@ -26,6 +26,7 @@
 #![tactic(auto)]
 
 mod blocks;
+mod changes;
 mod entries;
 mod known;
 mod overlay;
@@ -35,6 +36,7 @@ mod slots;
 mod storage;
 mod value;
 
+pub use changes::Changes;
 pub use entries::Entries;
 pub use overlay::Overlay;
 pub use storage::Storage;

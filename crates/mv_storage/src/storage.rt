@@ -3,11 +3,13 @@ ghost use Rattle.std.specs.Prelude.{◌≡◌, ◌<◌, ◌≤◌, ◌+◌, ◌^
 ghost use Rattle.mv_storage.specs.WordLists.{spliced};
 ghost use Rattle.mv_storage.specs.FlatStorage.{FlatStorage, words_under, with_words, without_words};
 ghost use Rattle.mv_storage.specs.Map.{overwritten, Ascends};
-ghost use Rattle.std.specs.Prelude.{ℕ, true, false, nat_lt, Some, Ok};
+ghost use Rattle.std.specs.Prelude.{ℕ, List, true, false, nat_lt, Some, Ok};
 ghost use Rattle.std.specs.Borrow.{sem};
 ghost use Rattle.mv_storage.specs.Lending.{LendsIn};
+ghost use Rattle.mv_storage.specs.Difference.{IsDifference};
 
 use crate::blocks::{Undone, close, note_all, take_back};
+use crate::changes::{Changes, firsts, newest};
 use crate::known::Known;
 use crate::places::Places;
 use crate::slot::Layer;
@@ -431,5 +433,24 @@ impl Storage {
             }
             None => false,
         }
+    }
+
+    /// What was committed since the newest open block was begun, by ascending key: each key with the value that it had and the one
+    /// that it has, where these differ; nothing where no block is open. It takes as long, and memory, as what was committed.
+    ///
+    /// # Errors
+    ///
+    /// If an allocation failed.
+    pub fn changes(&self) -> Result<Changes<'_>, AllocError>
+        ensures { IfOk result (λ told. (older : List FlatStorage) (old : FlatStorage) → self.entry.now.marks ≡ older ++ old ∷ [] → IsDifference old self.entry.now.committed told) }
+    {
+        let mark = newest(&self.marks, self.undo.len());
+        let undo = self.undo.as_slice();
+        let firsts = firsts(self.alloc, undo, mark)?;
+        Ok(Changes {
+            firsts: firsts.into_iter(),
+            undo,
+            places: &self.places,
+        })
     }
 }

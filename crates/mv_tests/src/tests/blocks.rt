@@ -1,6 +1,6 @@
 // Blocks of storage that are taken back or kept.
 use mv_move_types::Key;
-use mv_storage::{Storage, Value};
+use mv_storage::{Changes, Storage, Value};
 use std::alloc::{AllocError, Global};
 use std::test::Fail;
 
@@ -152,5 +152,53 @@ fn values_of_many_leaves_come_back(rt: HostRuntime) -> Result<(), Fail> {
     assert_eq!(rt; storage.get(&key(7)), Some([5, 8, 9].as_slice()));
     assert!(rt; storage.rollback());
     assert_eq!(rt; storage.get(&key(7)), Some([1, 2, 3].as_slice()));
+    Ok(())
+}
+
+// Whether the next change is of this address, and has these leaves before and after.
+fn is_next(
+    changes: &mut Changes<'_>,
+    address: u128,
+    before: Option<u128>,
+    now: Option<u128>,
+) -> bool {
+    match changes.next() {
+        Some((key, had, has)) => {
+            key.address == address && leaf(had) == before && leaf(has) == now
+        }
+        None => false,
+    }
+}
+
+// The first leaf of a value, if there is one.
+fn leaf(words: Option<&[u128]>) -> Option<u128> {
+    words?.first().copied()
+}
+
+#[test]
+fn changes_are_told_by_key(rt: HostRuntime) -> Result<(), Fail> {
+    let mut storage = Storage::new(rt.alloc());
+    assert!(rt; storage.changes()?.next().is_none());
+    set(&mut storage, 7, Some(1))?;
+    set(&mut storage, 8, Some(2))?;
+    storage.begin()?;
+    set(&mut storage, 9, Some(3))?;
+    set(&mut storage, 7, None)?;
+    set(&mut storage, 8, Some(4))?;
+    set(&mut storage, 6, Some(5))?;
+    set(&mut storage, 9, None)?;
+    let mut changes = storage.changes()?;
+    assert!(rt; is_next(&mut changes, 6, None, Some(5)));
+    assert!(rt; is_next(&mut changes, 7, Some(1), None));
+    assert!(rt; is_next(&mut changes, 8, Some(2), Some(4)));
+    assert!(rt; changes.next().is_none());
+    // Of the newest block alone.
+    storage.begin()?;
+    set(&mut storage, 8, Some(6))?;
+    let mut changes = storage.changes()?;
+    assert!(rt; is_next(&mut changes, 8, Some(4), Some(6)) && changes.next().is_none());
+    assert!(rt; storage.keep());
+    let mut changes = storage.changes()?;
+    assert!(rt; is_next(&mut changes, 6, None, Some(5)));
     Ok(())
 }

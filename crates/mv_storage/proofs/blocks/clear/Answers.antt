@@ -1,5 +1,5 @@
 use Rattle.mv_storage.proofs.Common.{◌∙◌, refl, sym, slice_get_within, Current, Vacant}
-use Rattle.mv_storage.proofs.PlaceLemmas.{place-read, settling-within, slice_set-again}
+use Rattle.mv_storage.proofs.PlaceLemmas.{settling-within, slice_set-again}
 use Rattle.mv_storage.proofs.SlotKinds.{gone-none, gone-used}
 use Rattle.mv_storage.proofs.Steps.{settles-removed}
 use Rattle.mv_storage.proofs.blocks.clear.Goals as goal
