@@ -3,3 +3,4 @@ pub mod Answering
 pub mod Changes
 pub mod Formats
 pub mod ParameterTypes
+pub mod Questions
