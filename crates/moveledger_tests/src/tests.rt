@@ -3,6 +3,7 @@
 mod altered;
 mod fakes;
 mod faults;
+mod questions;
 mod rows;
 
 use fakes::{Pieces, Room};

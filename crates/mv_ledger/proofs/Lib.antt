@@ -7,3 +7,4 @@ pub mod Ledgers
 pub mod Replying
 pub mod Runs
 pub mod Shows
+pub mod Asked

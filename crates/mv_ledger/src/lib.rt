@@ -20,7 +20,6 @@ mod format;
 mod laws;
 mod loading;
 mod modules;
-mod page;
 mod questions;
 
 ghost use Rattle.std.specs.Prelude.{◌≡◌, is_some, IfOk};
@@ -41,6 +40,8 @@ pub use laws::{
     no_load_fails, no_save_is_refused, no_text_is_escaped,
 };
 pub use loading::migrate;
+pub use modules::Modules;
+pub use mv_interface::StructName;
 pub use mv_ledger_state::LoadError;
 use mv_ledger_state::{Published, read_run, text_of};
 pub use mv_lines::{Lines, Piece};
@@ -48,10 +49,7 @@ use mv_machine::Outcome;
 pub use mv_machine::Tally;
 use mv_move_types::Refusal;
 use mv_storage::Storage;
-pub use mv_storage::Entries;
-pub use modules::Modules;
-pub use page::Page;
-pub use mv_interface::StructName;
+pub use mv_storage::{Entries, Page};
 use std::alloc::{AllocError, Global};
 use std::marker::Model;
 

@@ -9,3 +9,5 @@ pub mod Steps
 pub mod Written
 pub mod Loans
 pub mod Lent
+pub mod Ranges
+pub mod Pages

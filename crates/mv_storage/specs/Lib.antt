@@ -4,3 +4,4 @@ pub mod FlatStorage
 pub mod Map
 pub mod Slots
 pub mod Lending
+pub mod Pages

@@ -28,6 +28,7 @@
 mod entries;
 mod known;
 mod overlay;
+mod page;
 mod places;
 mod slot;
 mod slots;
@@ -36,5 +37,6 @@ mod value;
 
 pub use entries::Entries;
 pub use overlay::Overlay;
+pub use page::Page;
 pub use storage::Storage;
 pub use value::Value;
