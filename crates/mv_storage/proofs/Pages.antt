@@ -1,16 +1,15 @@
 -- A page of the values of a struct, and where the next one goes on.
 use Rattle.mv_storage.proofs.Common.{[], ℕ, ⊎_elim, ◌++◌, ◌<◌, ◌≤◌, ◌∙◌, ◌∷◌, ◌≡◌, ◌==◌, ◌||◌, Bool, List, None, Option, Some, ap, arith, cond, false, length, refl, slice_get, subst, sym, take, true, nat_tests, suc}
 use Rattle.mv_storage.proofs.Common.{Key, FlatEntry, key_before, same_key, option_and_then, Ascends, IsBelow}
-use Rattle.std.proofs.Common.{append-nil, ◌+◌, ◌^◌, ◌&&◌, drop, nat_le, nat_lt, not, zero}
+use Rattle.std.proofs.Common.{append-nil, ap₂, ◌+◌, ◌^◌, ◌&&◌, nat_le, nat_lt, not, zero}
 use Rattle.std.specs.List.{AllByRecursion, filter}
 use Rattle.std.specs.Option.{option_map_or}
 use Rattle.std.specs.Prelude.{IfSome, ⊤}
 use Rattle.std.proofs.lemmas.List.Elements.{filter-append}
-use Rattle.std.proofs.lemmas.List.Sums.{length-filter}
-use Rattle.std.proofs.lemmas.Bool.{cases_Bool}
+use Rattle.std.proofs.lemmas.Bool.{and_parts, cases_Bool}
 use Rattle.mv_move_types.specs.declared.tables.Definition.{Definition}
 use Rattle.mv_storage.specs.Pages.{address_after, is_own, is_up_to, page_of, values_from, IsPage}
-use Rattle.mv_storage.proofs.Keys.{before-apart, before-trans, same_key-refl}
+use Rattle.mv_storage.proofs.Keys.{before-apart, before-trans, keys_compare, same_key-refl, same_key-to}
 
 -- ---- lists
 
@@ -62,6 +61,19 @@ length-part : {X : Type 0} (xs : List X) (n : ℕ) → length (take n xs) ≤ n
 length-part [] n = omega arith
 length-part (y ∷ ys) zero = omega arith
 length-part (y ∷ ys) (suc n) = omega (arith, length-part ys n)
+
+length-kept : {X : Type 0} (p : X → Bool) (xs : List X) → length (filter p xs) ≤ length xs
+length-kept p [] = omega arith
+length-kept p (x ∷ xs) =
+    ⊎_elim (λ (t : p x ≡ true). rw t (omega (arith, length-kept p xs))) (λ (f : p x ≡ false). rw f (omega (arith, length-kept p xs))) (cases_Bool (p x))
+
+and-false : (b : Bool) → (b && false) ≡ false
+and-false true = refl
+and-false false = refl
+
+and-true : (b : Bool) → (b && true) ≡ b
+and-true true = refl
+and-true false = refl
 
 -- ---- keys in order
 
@@ -118,23 +130,97 @@ Ascends-filter p (e ∷ es) s =
 abbrev pub own_key : Definition → ℕ → Key
 own_key d from = record { address = from; place = d.place; index = d.index }
 
--- among the keys of a struct those at addresses from one on are behind the first one there
+-- of two structs at one address the one comes behind the other, or comes before it or is it
+inner-is : (p i q j : ℕ) → (nat_lt p q || (p == q) && nat_lt i j) ≡ not (nat_lt q p || (q == p) && nat_le j i)
+inner-is p i q j = grind (arith, nat_tests)
+
+outer-is : (x y : ℕ) (b : Bool) → not (nat_lt x y || (x == y) && not b) ≡ cond b (nat_le y x) (nat_le (y + 1) x)
+outer-is x y true = grind (arith, nat_tests)
+outer-is x y false = grind (arith, nat_tests)
+
+place-is : (x y : ℕ) → (x == y) ≡ true → x ≡ y
+place-is x y e = grind (arith, nat_tests)
+
+-- when a key of the struct is not before another
+behind-own : (d : Definition) (k e : Key) → is_own d k ≡ true → not (key_before k e) ≡ cond (is_up_to e d) (nat_le e.address k.address) (nat_le (e.address + 1) k.address)
+behind-own d k e own =
+    let parts = and_parts (k.place == d.place) (k.index == d.index) own in
+    let p : k.place ≡ d.place = place-is k.place d.place parts.0 in
+    let i : k.index ≡ d.index = place-is k.index d.index parts.1 in
+    ap (λ (b : Bool). not (nat_lt k.address e.address || (k.address == e.address) && b))
+    (ap₂ (λ (x y : ℕ). nat_lt x e.place || (x == e.place) && nat_lt y e.index) p i ∙ inner-is d.place d.index e.place e.index)
+    ∙ outer-is k.address e.address (is_up_to e d)
+
+-- among the keys of a struct
+own-only : (d : Definition) (k : Key) (b c : Bool) → (is_own d k ≡ true → b ≡ c) → (is_own d k && b) ≡ (c && is_own d k)
+own-only d k b c same =
+    ⊎_elim
+    (λ (own : is_own d k ≡ true). rw own (same own ∙ sym (and-true c)))
+    (λ (off : is_own d k ≡ false). rw off (sym (and-false c)))
+    (cases_Bool (is_own d k))
+
+-- those at addresses from one on are behind the first one there
 own-from : (d : Definition) (from : ℕ) (k : Key) → (is_own d k && nat_le from k.address) ≡ (not (key_before k (own_key d from)) && is_own d k)
-own-from d from k = by (k.place == d.place) (k.index == d.index) refl refl
+own-from d from k =
+    own-only d k (nat_le from k.address) (not (key_before k (own_key d from))) (λ own.
+    sym (behind-own d k (own_key d from) own ∙ ap (λ (b : Bool). cond b (nat_le from k.address) (nat_le (from + 1) k.address)) here))
   where
-    by : (b c : Bool) → (k.place == d.place) ≡ b → (k.index == d.index) ≡ c → (is_own d k && nat_le from k.address) ≡ (not (key_before k (own_key d from)) && is_own d k)
-    by b c p q = grind (arith, nat_tests)
+    here : is_up_to (own_key d from) d ≡ true
+    here = itself d.place d.index
+      where
+        itself : (p i : ℕ) → (nat_lt p p || (p == p) && nat_le i i) ≡ true
+        itself p i = grind (arith, nat_tests)
 
 -- and so they are behind another key, where the address is that which values stand from there
 own-after : (d : Definition) (k e : Key) (from : ℕ) → address_after d e ≡ Some from → (is_own d k && nat_le from k.address) ≡ (not (key_before k e) && is_own d k)
-own-after d k e from at = grind (arith, nat_tests)
+own-after d k e from at = own-only d k (nat_le from k.address) (not (key_before k e)) (λ own. sym (behind-own d k e own ∙ by (is_up_to e d) at))
+  where
+    by : (b : Bool) → cond b (Some e.address) (cond (nat_lt (e.address + 1) (2 ^ 128)) (Some (e.address + 1)) None) ≡ Some from
+        → cond b (nat_le e.address k.address) (nat_le (e.address + 1) k.address) ≡ nat_le from k.address
+    by true h = let same : e.address ≡ from = cc in ap (λ (n : ℕ). nat_le n k.address) same
+    by false h = inside (nat_lt (e.address + 1) (2 ^ 128)) h
+      where
+        inside : (c : Bool) → cond c (Some (e.address + 1)) None ≡ Some from → nat_le (e.address + 1) k.address ≡ nat_le from k.address
+        inside true g = let same : e.address + 1 ≡ from = cc in ap (λ (n : ℕ). nat_le n k.address) same
+        inside false g = cc
 
 own-none : (d : Definition) (k e : Key) → k.address < 2 ^ 128 → address_after d e ≡ None → (not (key_before k e) && is_own d k) ≡ false
-own-none d k e small at = grind (arith, nat_tests)
+own-none d k e small at =
+    ⊎_elim
+    (λ (own : is_own d k ≡ true). rw own (and-true _ ∙ behind-own d k e own ∙ by (is_up_to e d) at))
+    (λ (off : is_own d k ≡ false). rw off (and-false _))
+    (cases_Bool (is_own d k))
+  where
+    by : (b : Bool) → cond b (Some e.address) (cond (nat_lt (e.address + 1) (2 ^ 128)) (Some (e.address + 1)) None) ≡ None
+        → cond b (nat_le e.address k.address) (nat_le (e.address + 1) k.address) ≡ false
+    by true h = cc
+    by false h = inside (nat_lt (e.address + 1) (2 ^ 128)) refl h
+      where
+        inside : (c : Bool) → nat_lt (e.address + 1) (2 ^ 128) ≡ c → cond c (Some (e.address + 1)) None ≡ None → nat_le (e.address + 1) k.address ≡ false
+        inside true f g = cc
+        inside false f g = past (e.address + 1) k.address small f
+          where
+            past : (x y : ℕ) → y < 2 ^ 128 → nat_lt x (2 ^ 128) ≡ false → nat_le x y ≡ false
+            past x y s l = grind (arith, nat_tests)
 
 -- a key behind the first one of a struct, and not that, has a later address to go on from
 later : (d : Definition) (e : Key) (from next : ℕ) → key_before (own_key d from) e ≡ true → address_after d e ≡ Some next → from < next
-later d e from next h at = grind (arith, nat_tests)
+later d e from next h at = by (is_up_to e d) (sym (ap (λ (b : Bool). nat_lt from e.address || (from == e.address) && b) (inner-is d.place d.index e.place e.index)) ∙ h) at
+  where
+    by : (b : Bool) → (nat_lt from e.address || (from == e.address) && not b) ≡ true
+        → cond b (Some e.address) (cond (nat_lt (e.address + 1) (2 ^ 128)) (Some (e.address + 1)) None) ≡ Some next → from < next
+    by true before g = let same : e.address ≡ next = cc in subst (λ (n : ℕ). from < n) same (first from e.address before)
+      where
+        first : (x y : ℕ) → (nat_lt x y || (x == y) && false) ≡ true → x < y
+        first x y l = grind (arith, nat_tests)
+    by false before g = inside (nat_lt (e.address + 1) (2 ^ 128)) g
+      where
+        first : (x y : ℕ) → (nat_lt x y || (x == y) && true) ≡ true → x < y + 1
+        first x y l = grind (arith, nat_tests)
+
+        inside : (c : Bool) → cond c (Some (e.address + 1)) None ≡ Some next → from < next
+        inside true f = let same : e.address + 1 ≡ next = cc in subst (λ (n : ℕ). from < n) same (first from e.address before)
+        inside false f = cc
 
 module _ (d : Definition) (storage : List FlatEntry) (ascends : Ascends storage) (small : AllByRecursion (λ (e : FlatEntry). e.key.address < 2 ^ 128) storage) (from most : ℕ) where
   abbrev own : FlatEntry → Bool
@@ -170,7 +256,13 @@ module _ (d : Definition) (storage : List FlatEntry) (ascends : Ascends storage)
         (cases_Bool (key_before x.key (own_key d from)))
       where
         before-both : (x : FlatEntry) → key_before x.key (own_key d from) ≡ true → key_before x.key e.key ≡ true
-        before-both x h = grind (arith, nat_tests, is-ahead)
+        before-both x h =
+            ⊎_elim
+            (λ (same : same_key (own_key d from) e.key ≡ true). subst (λ (k : Key). key_before x.key k ≡ true) (same_key-to (own_key d from) e.key same) h)
+            (⊎_elim
+            (λ (t : key_before (own_key d from) e.key ≡ true). before-trans x.key (own_key d from) e.key h t)
+            (λ (t : key_before e.key (own_key d from) ≡ true). let bad : false ≡ true = sym (ap not t) ∙ is-ahead in cc))
+            (keys_compare (own_key d from) e.key)
 
     rest-is : filter own (e ∷ rest) ≡ filter (λ (x : FlatEntry). is_behind e.key x && own x) storage
     rest-is =
@@ -186,7 +278,7 @@ module _ (d : Definition) (storage : List FlatEntry) (ascends : Ascends storage)
         ∙ sym (filter-agree (λ x. ⊤) (λ (x : FlatEntry). is_own d x.key && nat_le next x.key.address) (λ (x : FlatEntry). is_behind e.key x && own x) (λ x h. own-after d x.key e.key next at) storage (all-always (λ x. ⊤) (λ x. tt) storage))
 
   pub page-is : IsPage storage d from most (page_of d most ahead)
-  page-is = record { all = all (slice_get ahead most) refl; few = omega (arith, length-filter own (take most ahead), length-part ahead most); on = λ some. on some (slice_get ahead most) refl }
+  page-is = record { all = all (slice_get ahead most) refl; few = omega (arith, length-kept own (take most ahead), length-part ahead most); on = λ some. on some (slice_get ahead most) refl }
     where
       all : (o : Option FlatEntry) → slice_get ahead most ≡ o
           → filter own (take most ahead) ++ option_map_or (values_from storage d) (option_and_then (λ e. address_after d e.key) o) [] ≡ values_from storage d from
@@ -214,5 +306,9 @@ module _ (d : Definition) (storage : List FlatEntry) (ascends : Ascends storage)
           after (suc n) [] x rest h p s b = cc
           after (suc n) (e ∷ es) x rest h p s b =
               let before : key_before e.key x.key ≡ true = below-one e.key (take n es) x rest s.0 s.1 in
-              let first : is_behind (own_key d from) e ≡ true = b.0 in
-              grind (arith, nat_tests)
+              ⊎_elim
+              (λ (same : same_key (own_key d from) e.key ≡ true). subst (λ (k : Key). key_before k x.key ≡ true) (sym (same_key-to (own_key d from) e.key same)) before)
+              (⊎_elim
+              (λ (t : key_before (own_key d from) e.key ≡ true). before-trans (own_key d from) e.key x.key t before)
+              (λ (t : key_before e.key (own_key d from) ≡ true). let bad : false ≡ true = sym (ap not t) ∙ b.0 in cc))
+              (keys_compare (own_key d from) e.key)
