@@ -14,7 +14,7 @@ use Rattle.std.specs.Option.{option_and_then}
 use Rattle.std.proofs.lemmas.Cmp.{ranked}
 use Rattle.std.specs.Prelude.{◌==◌, find, IsSome}
 use Rattle.std.specs.Ordering.{nat_cmp}
-use Rattle.mv_ledger_state.proofs.Common.{AreInOrder, ArePlaced, IsBinarySearchResult, IsNonDecreasingBy, IsNonDecreasingBy-from_default, ordering_index, get_or-map, ltb-true, ltb-false, eq-eqb, eqb-true}
+use Rattle.mv_ledger_state.proofs.Common.{AreInOrder, ArePlaced, IsBinarySearchResult, IsNonDecreasingBy, IsNonDecreasingBy-from_default, ordering_index, get_or-map, ltb-true, ltb-false, and_from, eq-eqb, eqb-true}
 use Rattle.mv_ledger_state.proofs.TalliedStores.{tallied-named}
 use Rattle.mv_bound_rules.proofs.NameLemmas.{same_struct-is, same_struct-same}
 use Rattle.mv_move_types.specs.Names.{same_struct}
@@ -79,7 +79,11 @@ abbrev pub is_at : ℕ → ℕ → Tally → Bool
 is_at place index t = (t.place == place) && (t.index == index)
 
 elsewhere : (place index : ℕ) (t : Tally) → (t.place ≡ place → ⊥) → is_at place index t ≡ false
-elsewhere place index t off = grind (arith, nat_tests, off)
+elsewhere place index t off =
+    ⊎_elim
+    (λ (here : (t.place == place) ≡ true). absurd (off (eqb-true t.place place here)))
+    (λ (gone : (t.place == place) ≡ false). ap (λ (b : Bool). b && (t.index == index)) gone)
+    (cases_Bool (t.place == place))
 
 -- none of an earlier place
 later-none : (place index low : ℕ) (tss : List (List Tally)) → place < low → ArePlaced low tss → AllByRecursion (λ t. is_at place index t ≡ false) (all_of tss)
@@ -97,7 +101,7 @@ placed-find low zero index (ts ∷ tss) placed =
     ∙ find-agree (is_at (low + 0) index) (λ t. t.place ≡ low) (λ t. t.index == index) (λ t at. own t at) ts (recursion_from_All (λ (t : Tally). t.place ≡ low) ts placed.0)
   where
     own : (t : Tally) → t.place ≡ low → is_at (low + 0) index t ≡ (t.index == index)
-    own t at = let here : (t.place == low + 0) ≡ true = grind (arith, nat_tests, at) in rw here refl
+    own t at = ap (λ (b : Bool). b && (t.index == index)) (eq-eqb t.place (low + 0) (omega (arith, at)))
 placed-find low (suc k) index (ts ∷ tss) placed =
     find-past (is_at (low + suc k) index) ts (all_of tss)
     (weaker (λ t. t.place ≡ low) (λ t. is_at (low + suc k) index t ≡ false) (λ t at. elsewhere (low + suc k) index t (λ e. omega (arith, at, e))) ts (recursion_from_All (λ (t : Tally). t.place ≡ low) ts placed.0))
@@ -151,15 +155,13 @@ module _ (published : List PublishedModule) (tss : List (List Tally)) (held : Is
         let same : record { place = t.place; index = t.index } ≡ d = same_Some (record { place = t.place; index = t.index }) d (sym (stands t is own) ∙ at) in
         let place : t.place ≡ d.place = ap (λ (x : Definition). x.place) same in
         let index : t.index ≡ d.index = ap (λ (x : Definition). x.index) same in
-        let here : (t.place == d.place) ≡ true = grind (arith, nat_tests, place) in
-        let there : (t.index == d.index) ≡ true = grind (arith, nat_tests, index) in
-        rw (own, here, there) refl)
+        own ∙ sym (and_from (t.place == d.place) (t.index == d.index) (eq-eqb t.place d.place place) (eq-eqb t.index d.index index)))
         (λ (off : is_own t ≡ false).
         ⊎_elim
         (λ (here : is_at d.place d.index t ≡ true).
         let parts = and_parts (t.place == d.place) (t.index == d.index) here in
-        let place : t.place ≡ d.place = grind (arith, nat_tests, parts.0) in
-        let index : t.index ≡ d.index = grind (arith, nat_tests, parts.1) in
+        let place : t.place ≡ d.place = eqb-true t.place d.place parts.0 in
+        let index : t.index ≡ d.index = eqb-true t.index d.index parts.1 in
         let there : name_at modules t.place t.index ≡ Some name = ap₂ (name_at modules) place index ∙ struct-of-place published held.store name d at in
         let same : (tallied modules t).struct ≡ name = same_Some (tallied modules t).struct name (sym (named t is) ∙ there) in
         let own : is_own t ≡ true = ap (λ (n : StructName). same_struct n name) same ∙ same_struct-same name in

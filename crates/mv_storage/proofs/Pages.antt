@@ -53,12 +53,14 @@ split (y ∷ ys) zero x e = let same : y ≡ x = cc in (ys, ap (λ z. z ∷ ys) 
 split (y ∷ ys) (suc n) x e = let s = split ys n x e in (s.0, ap (λ zs. y ∷ zs) s.1)
 
 take-past : {X : Type 0} (xs : List X) (n : ℕ) → slice_get xs n ≡ None → take n xs ≡ xs
-take-past [] n e = refl
+take-past [] zero e = refl
+take-past [] (suc n) e = refl
 take-past (y ∷ ys) zero e = cc
 take-past (y ∷ ys) (suc n) e = ap (λ zs. y ∷ zs) (take-past ys n e)
 
 length-part : {X : Type 0} (xs : List X) (n : ℕ) → length (take n xs) ≤ n
-length-part [] n = omega arith
+length-part [] zero = omega arith
+length-part [] (suc n) = omega arith
 length-part (y ∷ ys) zero = omega arith
 length-part (y ∷ ys) (suc n) = omega (arith, length-part ys n)
 
@@ -292,14 +294,7 @@ module _ (d : Definition) (storage : List FlatEntry) (ascends : Ascends storage)
       on some None e = tt
       on some (Some x) e = let s = split ahead most x e in goes x (first-before x s.0 s.1 some) (address_after d x.key) refl
         where
-          goes : (x : FlatEntry) → key_before (own_key d from) x.key ≡ true → (o : Option ℕ) → address_after d x.key ≡ o → IfSome o (λ next. from < next)
-          goes x h None at = tt
-          goes x h (Some next) at = later d x.key from next h at
-
           -- a first one stands before it
-          first-before : (x : FlatEntry) (rest : List FlatEntry) → ahead ≡ take most ahead ++ x ∷ rest → 1 ≤ most → key_before (own_key d from) x.key ≡ true
-          first-before x rest parted some = after most ahead x rest some parted (ascends-ahead x rest parted) (all-pass (is_behind (own_key d from)) storage)
-
           after : (n : ℕ) (es : List FlatEntry) (x : FlatEntry) (rest : List FlatEntry) → 1 ≤ n → es ≡ take n es ++ x ∷ rest → Ascends (take n es ++ x ∷ rest)
               → AllByRecursion (λ f. is_behind (own_key d from) f ≡ true) es → key_before (own_key d from) x.key ≡ true
           after zero es x rest h p s b = absurd (omega (arith, h))
@@ -312,3 +307,10 @@ module _ (d : Definition) (storage : List FlatEntry) (ascends : Ascends storage)
               (λ (t : key_before (own_key d from) e.key ≡ true). before-trans (own_key d from) e.key x.key t before)
               (λ (t : key_before e.key (own_key d from) ≡ true). let bad : false ≡ true = sym (ap not t) ∙ b.0 in cc))
               (keys_compare (own_key d from) e.key)
+
+          first-before : (x : FlatEntry) (rest : List FlatEntry) → ahead ≡ take most ahead ++ x ∷ rest → 1 ≤ most → key_before (own_key d from) x.key ≡ true
+          first-before x rest parted some = after most ahead x rest some parted (ascends-ahead x rest parted) (all-pass (is_behind (own_key d from)) storage)
+
+          goes : (x : FlatEntry) → key_before (own_key d from) x.key ≡ true → (o : Option ℕ) → address_after d x.key ≡ o → IfSome o (λ next. from < next)
+          goes x h None at = tt
+          goes x h (Some next) at = later d x.key from next h at

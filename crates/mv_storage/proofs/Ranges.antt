@@ -1,19 +1,20 @@
 -- Ranges of keys, and the entries that they show.
-use Rattle.mv_storage.proofs.Common.{[], ℕ, ⊎_elim, ◌∙◌, ◌∷◌, ◌≡◌, ◌≤◌, ◌==◌, Bool, List, None, Option, Some, ap, arith, cond, false, length, refl, slice_get, sym, true, nat_tests}
-use Rattle.mv_storage.proofs.Common.{is_eq, is_lt, Less, Key, FlatEntry, key_before, same_key, words_under, Ascends, layer_at, shown, key_cmp, Layer, Slot}
-use Rattle.std.proofs.Common.{◌+◌, ◌<◌, ◌^◌, ◌&&◌, nat_le, nat_lt, not}
+use Rattle.mv_storage.proofs.Common.{[], ℕ, ⊎_elim, ◌∙◌, ◌∷◌, ◌≡◌, ◌≤◌, ◌==◌, Bool, List, None, Option, Some, ap, arith, false, length, refl, slice_get, sym, true, nat_tests}
+use Rattle.mv_storage.proofs.Common.{is_eq, is_lt, Less, Key, FlatEntry, key_before, layer_at, shown, key_cmp, Committed, Layer, Places, Slot}
+use Rattle.std.proofs.Common.{ap₂, ◌+◌, ◌<◌, ◌^◌, ◌&&◌, nat_le, nat_lt, not}
 use Rattle.std.specs.declared.cmp.Ordering.{Ordering}
 use Rattle.std.specs.declared.cmp.Ordering.TheVariants.{Equal, Greater}
-use Rattle.std.specs.declared.ops.bounds.Bound.{Bound}
-use Rattle.std.specs.declared.ops.bounds.Bound.TheVariants.{Included, Excluded, Unbounded}
+use Rattle.std.specs.declared.ops.Bound.{Bound}
+use Rattle.std.specs.declared.ops.Bound.TheVariants.{Included, Excluded, Unbounded}
 use Rattle.std.specs.BTreeMap.Range.{entries_between, range_contains}
 use Rattle.std.specs.List.{AllByRecursion, filter}
 use Rattle.std.specs.Map.{keys_of}
 use Rattle.std.specs.Ordering.{is_le, nat_cmp, ordering_then, ordering_reverse}
-use Rattle.std.proofs.lemmas.List.Elements.{filter_agree}
 use Rattle.std.proofs.lemmas.Bool.{cases_Bool}
-use Rattle.mv_storage.specs.Slots.{shown_before}
-use Rattle.mv_storage.proofs.Keys.{key_cmp_total, key_before-is, same_key-is}
+use Rattle.mv_storage.specs.Slots.{layers, shown_before}
+use Rattle.mv_storage.specs.Map.{Layers}
+use Rattle.mv_storage.proofs.Shown.{shown-length}
+use Rattle.mv_storage.proofs.Keys.{key_cmp_total, key_before-is}
 
 -- ---- what the slots of some keys show
 
@@ -59,7 +60,7 @@ and-true false = refl
 pub from-key : (key q : Key) → range_contains key_cmp (Included key) Unbounded q ≡ not (key_before q key)
 from-key key q =
     and-true (is_le (key_cmp key q)) ∙ not-before (key_cmp key q)
-    ∙ ap (λ o. not (is_lt o)) (sym (key_cmp_total.antisymm key q)) ∙ ap not (sym (key_before-is q key))
+    ∙ ap (λ o. not (is_lt o)) (sym (key_cmp_total.antisymm q key)) ∙ ap not (sym (key_before-is q key))
 
 -- one key
 both-le : (o : Ordering) → (is_le o && not (is_lt o)) ≡ is_eq o
@@ -82,7 +83,7 @@ le-then Less p q a b = refl
 le-then Greater p q a b = refl
 le-then Equal Less q a b = refl
 le-then Equal Equal q a b = b
-le-then Equal Greater q a b = sym a ∙ refl
+le-then Equal Greater q a b = a
 
 pub from-first : (address : ℕ) (q : Key) → is_le (key_cmp (first_key address) q) ≡ nat_le address q.address
 from-first address q = le-then (nat_cmp address q.address) (nat_cmp 0 q.place) (nat_cmp 0 q.index) (zero-le q.place) (zero-le q.index) ∙ le-is address q.address
@@ -96,11 +97,11 @@ at-address address q = rw (from-first address q, from-first (address + 1) q) (gr
 -- all keys that slots show
 pub all-shown : (P : Key → Type 0) (layer : Layer) (slots : List Slot) (es : List (Key × ℕ)) → AllByRecursion P (keys_of es) → AllByRecursion (λ (e : FlatEntry). P e.key) (shown layer slots es)
 all-shown P layer slots [] h = tt
-all-shown P layer slots (e ∷ es) h = by (layer_at layer (slice_get slots e.1))
+all-shown P layer slots (e ∷ es) h = by (layer_at layer (slice_get slots e.1)) (all-shown P layer slots es h.1)
   where
-    by : (o : Option (List ℕ)) → AllByRecursion (λ (e : FlatEntry). P e.key) (shown_before e.0 o (shown layer slots es))
-    by None = all-shown P layer slots es h.1
-    by (Some w) = (h.0, all-shown P layer slots es h.1)
+    by : (o : Option (List ℕ)) → AllByRecursion (λ (e : FlatEntry). P e.key) (shown layer slots es) → AllByRecursion (λ (e : FlatEntry). P e.key) (shown_before e.0 o (shown layer slots es))
+    by None rest = rest
+    by (Some w) rest = (h.0, rest)
 
 -- a key that is not above another has no higher address
 not-above : (last q : Key) → is_lt (key_cmp last q) ≡ false → nat_lt last.address q.address ≡ false
@@ -130,3 +131,14 @@ at-last address (e ∷ es) last h =
   where
     same : (x : ℕ) → x < 2 ^ 128 → nat_le address x ≡ (x == address)
     same x small = grind (arith, nat_tests)
+
+-- ---- the entries of a range
+
+pub entries-are : (low high : Bound Key) (p : Places) (slots : List Slot) (range : List (Key × ℕ)) (l : Layers) → slots ≡ p.slots.items → range ≡ entries_between key_cmp low high p.tree.entries → layers p ≡ l
+    → shown Committed slots range ≡ filter (λ (e : FlatEntry). range_contains key_cmp low high e.key) l.committed
+entries-are low high p slots range l at are is =
+    ap₂ (shown Committed) at are ∙ shown-filter (λ q. range_contains key_cmp low high q) Committed p.slots.items p.tree.entries
+    ∙ ap (λ (l : Layers). filter (λ (e : FlatEntry). range_contains key_cmp low high e.key) l.committed) is
+
+pub entries-few : (slots : List Slot) (range : List (Key × ℕ)) → length range < 2 ^ 63 → length (shown Committed slots range) < 2 ^ 63
+entries-few slots range few = omega (arith, few, shown-length Committed slots range)

@@ -3,7 +3,7 @@
 --   PageView, page_of d most es      what a page of a struct has yet to tell, where so many of these values are looked at
 --   IsPage storage d from most page  a page of those values, for which no more than so many keys are looked at
 -- The others are parts of these.
-use Rattle.std.specs.Prelude.{◌≡◌, ℕ, ◌+◌, ◌^◌, ◌==◌, ◌&&◌, ◌||◌, ◌<◌, ◌≤◌, nat_le, nat_lt, Bool, cond, List, [], ◌++◌, length, take, slice_get, Option, Some, None, IfSome}
+use Rattle.std.specs.Prelude.{◌≡◌, ℕ, ◌+◌, ◌^◌, ◌==◌, ◌&&◌, ◌||◌, ◌<◌, ◌≤◌, nat_le, nat_lt, Bool, cond, [], ◌++◌, length, take, slice_get, Option, Some, None, IfSome}
 use Rattle.std.specs.List.{filter}
 use Rattle.std.specs.Option.{option_and_then, option_map_or}
 use Rattle.mv_move_types.specs.declared.tables.Definition.{Definition}

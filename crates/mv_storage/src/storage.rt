@@ -61,6 +61,13 @@ fn first_at(address: Address) -> Key
     }
 }
 
+// For the prover: an address has 128 bits.
+fn has_128_bits(address: Address)
+    ensures { address < 2 ^ 128 }
+{
+    let _address = address;
+}
+
 // The words so far after a place, so many.
 #[inline]
 fn part(words: &[u128], from: usize, width: usize) -> &[u128]
@@ -196,7 +203,7 @@ impl Storage {
         ensures { AllByRecursion (λ e. e.key.address < 2 ^ 128) self.now.committed }
     {
         if let Some((last, _)) = self.places.tree.last_key_value() {
-            let _address = last.address;
+            has_128_bits(last.address);
         }
     }
 

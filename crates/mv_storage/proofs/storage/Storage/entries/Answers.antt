@@ -1,15 +1,8 @@
-use Rattle.mv_storage.proofs.Common.{◌<◌, ◌∙◌, List, ap, arith, length, shown, FlatEntry, Committed}
-use Rattle.std.proofs.Common.{◌^◌, ap₂}
-use Rattle.std.specs.List.{filter}
-use Rattle.mv_storage.specs.Map.{Layers}
-use Rattle.mv_storage.proofs.Shown.{shown-length}
-use Rattle.mv_storage.proofs.Ranges.{shown-filter}
+use Rattle.mv_storage.proofs.Ranges.{entries-are, entries-few}
 use Rattle.mv_storage.proofs.storage.Storage.entries.Goals as goal
 
 pub returns-clause-value : goal.returns-clause-value
-returns-clause-value c =
-    ap₂ (shown Committed) c.as_slice.ensures.value (c.range.ensures.between c.requires.known)
-    ∙ shown-filter _ Committed c.self.inside.places.slots.items c.self.inside.places.tree.entries ∙ ap (λ (l : Layers). filter _ l.committed) c.self.view_is
+returns-clause-value g c = entries-are _ _ c.self.inside.places _ _ _ c.as_slice.ensures.value (c.range.ensures.between c.requires.known) c.self.view_is
 
 pub returns-clause-few : goal.returns-clause-few
-returns-clause-few c = omega (arith, c.range.ensures.fits, shown-length Committed _ c.range.result)
+returns-clause-few g c = entries-few _ _ c.range.ensures.fits

@@ -1,4 +1,4 @@
-use Rattle.mv_storage.proofs.Common.{◌≡◌, arith, false, is_lt, key_cmp, subst, FlatEntry, Key, Committed}
+use Rattle.mv_storage.proofs.Common.{◌≡◌, false, is_lt, key_cmp, subst, FlatEntry, Key, Committed}
 use Rattle.std.proofs.Common.{◌<◌, ◌^◌}
 use Rattle.std.specs.List.{AllByRecursion}
 use Rattle.std.specs.Map.{keys_of}
@@ -12,4 +12,4 @@ returns-in-Some c =
     let entries = c.self.inside.places.tree.entries in
     subst (λ (l : Layers). AllByRecursion (λ (e : FlatEntry). e.key.address < 2 ^ 128) l.committed) c.self.view_is
     (all-shown (λ (k : Key). k.address < 2 ^ 128) Committed c.self.inside.places.slots.items entries
-    (below-last c.in-Some.last.now (keys_of entries) (omega arith) (recursion_from_All (λ (q : Key). is_lt (key_cmp c.in-Some.last.now q) ≡ false) (keys_of entries) c.in-Some.ensures.all_up_to)))
+    (below-last c.in-Some.last.now (keys_of entries) c.has_128_bits.ensures (recursion_from_All (λ (q : Key). is_lt (key_cmp c.in-Some.last.now q) ≡ false) (keys_of entries) c.in-Some.ensures.all_up_to)))
