@@ -4,6 +4,7 @@ mod altered;
 mod blocks;
 mod fakes;
 mod faults;
+mod questions;
 mod rows;
 
 use fakes::{Pieces, Room};

@@ -9,3 +9,4 @@ pub mod Replying
 pub mod Marks
 pub mod Runs
 pub mod Shows
+pub mod Asked

@@ -4,3 +4,4 @@ pub mod Changes
 pub mod Formats
 pub mod ParameterTypes
 pub mod Marks
+pub mod Questions

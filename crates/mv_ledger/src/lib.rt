@@ -20,6 +20,8 @@ mod executing;
 mod format;
 mod laws;
 mod loading;
+mod modules;
+mod questions;
 
 ghost use Rattle.std.specs.Prelude.{◌≡◌, is_some, IfOk};
 ghost use Rattle.mv_ledger_state.specs.View.{empty_view, state_of};
@@ -30,7 +32,8 @@ ghost use Rattle.mv_ledger_state.specs.SavedLaws.{IsSavable};
 ghost use Rattle.mv_ledger_state.specs.SavedText.{IsSavedText, Second};
 
 use executing::{Barred, admitted};
-use format::{Format, read_format};
+pub use format::Format;
+use format::read_format;
 pub use laws::{
     each_ledger_has_one_text, each_load_is_one, each_load_is_saved, each_load_is_sound,
     each_record_is_well, each_save_is_loaded, each_second_form_comes_back, each_tally_is_scarce,
@@ -38,12 +41,16 @@ pub use laws::{
     no_load_fails, no_save_is_refused, no_text_is_escaped,
 };
 pub use loading::migrate;
+pub use modules::Modules;
+pub use mv_interface::StructName;
 pub use mv_ledger_state::LoadError;
 use mv_ledger_state::{Published, read_run, text_of};
 pub use mv_lines::{Lines, Piece};
 use mv_machine::Outcome;
+pub use mv_machine::Tally;
 use mv_move_types::Refusal;
 use mv_storage::Storage;
+pub use mv_storage::{Entries, Page};
 use std::alloc::{AllocError, Global};
 use std::marker::Model;
 

@@ -14,3 +14,5 @@ pub mod Lent
 pub mod Undoing
 pub mod Differing
 pub mod SlotKinds
+pub mod Ranges
+pub mod Pages

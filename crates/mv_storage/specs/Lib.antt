@@ -6,3 +6,4 @@ pub mod Slots
 pub mod Blocks
 pub mod Difference
 pub mod Lending
+pub mod Pages

@@ -1,8 +1,12 @@
 // Storage: values under keys, and what a run at work has made of them.
-ghost use Rattle.std.specs.Prelude.{◌≡◌, ◌<◌, ◌≤◌, ◌+◌, ◌^◌, ◌++◌, ◌∷◌, length, take, drop, [], cond, not, None, is_some, IfOk, IfSome, IsOk, OnOk, OnErr, MatchOption, option_copied, option_and_then, option_map, slice_get};
+ghost use Rattle.std.specs.BTreeMap.Range.{IsLeBy, IsLtBy, range_contains};
+ghost use Rattle.std.specs.List.{filter, AllByRecursion};
+ghost use Rattle.mv_machine.specs.State.{key_before, same_key};
+ghost use Rattle.std.specs.Prelude.{◌≡◌, ◌==◌, ◌<◌, ◌≤◌, ◌+◌, ◌^◌, ◌++◌, ◌∷◌, length, take, drop, [], cond, not, None, is_some, IfOk, IfSome, IsOk, OnOk, OnErr, MatchOption, option_copied, option_and_then, option_map, slice_get};
 ghost use Rattle.mv_storage.specs.WordLists.{spliced};
 ghost use Rattle.mv_storage.specs.FlatStorage.{FlatStorage, words_under, with_words, without_words};
 ghost use Rattle.mv_storage.specs.Map.{overwritten, Ascends};
+ghost use Rattle.mv_storage.specs.Slots.{key_cmp, seen};
 ghost use Rattle.std.specs.Prelude.{ℕ, List, true, false, nat_lt, Some, Ok};
 ghost use Rattle.std.specs.Borrow.{sem};
 ghost use Rattle.mv_storage.specs.Lending.{LendsIn};
@@ -15,11 +19,12 @@ use crate::places::Places;
 use crate::slot::Layer;
 use crate::slots::{edit_in, own_in, put_into, settle, take_from};
 use crate::{Entries, Overlay, Value};
-use mv_move_types::Key;
+use mv_move_types::{Address, Key};
 use mv_undo::Marks;
 use std::alloc::{AllocError, Global};
 use std::marker::Model;
 use std::mem::replace;
+use std::ops::RangeBounds;
 
 // So many words are kept for the next run at most (64 MiB), which is what a run's locals take at most.
 const MOST_KEPT: usize = 0x40_0000;
@@ -54,6 +59,24 @@ impl Model for Storage {
     ghost view = { λ s. contents s.places s.undo.items s.marks };
 
     ghost invariant = { λ s. IsTracked s.places s.touched.items × IsRemembered s.places.tree s.known.lines × IsUndoable s.places s.undo.items × AreMarks s.marks (length s.undo.items) × (s.marks ≡ [] → s.undo.items ≡ []) };
+}
+
+// The first of all keys at an address.
+fn first_at(address: Address) -> Key
+    ensures { result ≡ record { address = address; place = 0; index = 0 } }
+{
+    Key {
+        address,
+        place: 0,
+        index: 0,
+    }
+}
+
+// For the prover: an address has 128 bits.
+fn has_128_bits(address: Address)
+    ensures { address < 2 ^ 128 }
+{
+    let _address = address;
 }
 
 // The words so far after a place, so many.
@@ -143,15 +166,67 @@ impl Storage {
         }
     }
 
+    // The committed values under keys of a range.
+    #[inline]
+    fn entries<R: RangeBounds<Key> + Drop>(&self, keys: R) -> Entries<'_>
+        requires known { R.has_bounds keys }
+        requires forward { R.is_forward keys (IsLeBy key_cmp) (IsLtBy key_cmp) }
+        ensures value { result ≡ filter (λ e. range_contains key_cmp (R.start_bound keys) (R.end_bound keys) e.key) self.entry.now.committed }
+        ensures few { length result < 2 ^ 63 }
+    {
+        Entries {
+            places: self.places.tree.range(keys),
+            slots: self.places.slots.as_slice(),
+        }
+    }
+
     /// The committed values by ascending key.
     pub fn iter(&self) -> Entries<'_>
         ensures value { result ≡ self.entry.now.committed }
         ensures few { length self.entry.now.committed < 2 ^ 63 }
     {
-        Entries {
-            places: self.places.tree.iter(),
-            slots: self.places.slots.as_slice(),
+        self.entries(..)
+    }
+
+    /// The committed values under this key and later ones, by ascending key.
+    pub fn iter_from(&self, key: Key) -> Entries<'_>
+        ensures value { result ≡ filter (λ e. not (key_before e.key key)) self.entry.now.committed }
+        ensures few { length result < 2 ^ 63 }
+    {
+        self.entries(key..)
+    }
+
+    /// The committed values at an address, by ascending key.
+    pub fn values_at(&self, address: Address) -> Entries<'_>
+        ensures value { result ≡ filter (λ e. e.key.address == address) self.entry.now.committed }
+        ensures few { length result < 2 ^ 63 }
+    {
+        let first = first_at(address);
+        match address.checked_add(1) {
+            Some(next) => self.entries(first..first_at(next)),
+            None => {
+                // For the prover: no address is above this one.
+                self.has_addresses();
+                self.entries(first..)
+            }
         }
+    }
+
+    // For the prover: each key has an address.
+    pub(crate) fn has_addresses(&self)
+        ensures { AllByRecursion (λ e. e.key.address < 2 ^ 128) self.now.committed }
+    {
+        if let Some((last, _)) = self.places.tree.last_key_value() {
+            has_128_bits(last.address);
+        }
+    }
+
+    /// The committed value under a key, if there is one.
+    pub fn value_at(&self, key: Key) -> Entries<'_>
+        ensures value { result ≡ filter (λ e. same_key e.key key) self.entry.now.committed }
+        ensures few { length result < 2 ^ 63 }
+    {
+        self.entries(key..=key)
     }
 
     /// For the prover: the keys of the committed values ascend.
