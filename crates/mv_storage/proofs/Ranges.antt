@@ -11,9 +11,8 @@ use Rattle.std.specs.List.{AllByRecursion, filter}
 use Rattle.std.specs.Map.{keys_of}
 use Rattle.std.specs.Ordering.{is_le, nat_cmp, ordering_then, ordering_reverse}
 use Rattle.std.proofs.lemmas.Bool.{cases_Bool}
-use Rattle.mv_storage.specs.Slots.{layers, shown_before}
-use Rattle.mv_storage.specs.Map.{Layers}
-use Rattle.mv_storage.proofs.Shown.{shown-length}
+use Rattle.mv_storage.specs.Slots.{shown_before}
+use Rattle.mv_storage.proofs.Shown.{shown_of, shown-length}
 use Rattle.mv_storage.proofs.Keys.{key_cmp_total, key_before-is}
 
 -- ---- what the slots of some keys show
@@ -134,11 +133,11 @@ at-last address (e ∷ es) last h =
 
 -- ---- the entries of a range
 
-pub entries-are : (low high : Bound Key) (p : Places) (slots : List Slot) (range : List (Key × ℕ)) (l : Layers) → slots ≡ p.slots.items → range ≡ entries_between key_cmp low high p.tree.entries → layers p ≡ l
-    → shown Committed slots range ≡ filter (λ (e : FlatEntry). range_contains key_cmp low high e.key) l.committed
-entries-are low high p slots range l at are is =
+pub entries-are : (low high : Bound Key) (p : Places) (slots : List Slot) (range : List (Key × ℕ)) (es : List FlatEntry) → slots ≡ p.slots.items → range ≡ entries_between key_cmp low high p.tree.entries
+    → shown_of Committed p ≡ es → shown Committed slots range ≡ filter (λ (e : FlatEntry). range_contains key_cmp low high e.key) es
+entries-are low high p slots range es at are is =
     ap₂ (shown Committed) at are ∙ shown-filter (λ q. range_contains key_cmp low high q) Committed p.slots.items p.tree.entries
-    ∙ ap (λ (l : Layers). filter (λ (e : FlatEntry). range_contains key_cmp low high e.key) l.committed) is
+    ∙ ap (filter (λ (e : FlatEntry). range_contains key_cmp low high e.key)) is
 
 pub entries-few : (slots : List Slot) (range : List (Key × ℕ)) → length range < 2 ^ 63 → length (shown Committed slots range) < 2 ^ 63
 entries-few slots range few = omega (arith, few, shown-length Committed slots range)
