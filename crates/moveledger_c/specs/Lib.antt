@@ -2,3 +2,4 @@ pub mod Owning
 pub mod Statuses
 pub mod Calls
 pub mod Giving
+pub mod Questions

@@ -17,3 +17,6 @@ pub const MEMORY: i32 = 4;
 
 /// An argument is invalid, and no ledger, count or report changed.
 pub const ARGUMENTS: i32 = 5;
+
+/// No value, module or tally is there by this name.
+pub const ABSENT: i32 = 8;
