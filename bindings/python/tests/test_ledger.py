@@ -7,7 +7,7 @@ import pickle
 import threading
 import unittest
 from pathlib import Path
-from typing import Callable, Dict, List, Optional
+from typing import Callable, Dict, List, Optional, Union
 
 import moveledger
 from moveledger.report import read_line
@@ -53,14 +53,16 @@ class Answers(unittest.TestCase):
 
 
 COIN, COIN_LINE = "0x1::M::Coin", "00000000000000000000000000000001::M::Coin"
+# One address, as it may be told.
+ADDRESSES: List[Union[int, str]] = [1, "1", "0x1", f"{1:032x}"]
 
 
 class Questions(unittest.TestCase):
     def test_a_value_is_asked_for(self) -> None:
         with moveledger.Ledger() as ledger:
             ledger.apply(FIRST)
-            for address, struct in (1, COIN), ("0x1", COIN), (f"{1:032x}", COIN_LINE):
-                self.assertEqual(ledger.value(address, struct), "{7}")
+            for struct in COIN, COIN_LINE:
+                self.assertEqual([ledger.value(address, struct) for address in ADDRESSES], ["{7}"] * len(ADDRESSES))
             self.assertEqual(ledger.value_json(1, COIN), {"address": f"{1:032x}", "struct": COIN_LINE, "value": "{7}"})
             self.assertEqual(ledger.show_value(1, COIN), f"at {1:032x} {COIN_LINE} {{7}}\nend 1\n")
             self.assertEqual(ledger.values_at(1), ledger.show())
