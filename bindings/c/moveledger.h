@@ -102,7 +102,7 @@ int32_t moveledger_audit(moveledger_own *ledger, uint32_t form, moveledger_bytes
  * show_page: the values of a struct at addresses from *from on, by ascending address, likewise. The struct's values have no index of
  * their own, so the call looks at `most` keys at most, of whichever structs they are. Then *is_more is 1 and the next page begins at
  * *from; or *is_more is 0, no value is left, and *from is as it was, also after anything but DONE. The first page is that from address 0,
- * and with `most` 0 the pages never end. A struct that isn't published has no values. */
+ * and with `most` 0 the pages never end. ABSENT where no such struct is published. */
 int32_t moveledger_show_value(moveledger_own *ledger, const uint8_t *address, const uint8_t *home, const uint8_t *module,
                               size_t module_length, const uint8_t *name, size_t name_length, uint32_t form, moveledger_bytes *lines);
 int32_t moveledger_show_at(moveledger_own *ledger, const uint8_t *address, uint32_t form, moveledger_bytes *lines);

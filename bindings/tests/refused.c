@@ -219,13 +219,13 @@ static int32_t ask_at_json(moveledger *ledger, moveledger_bytes *lines)
     return moveledger_show_at(ledger, ONE, MOVELEDGER_JSON, lines);
 }
 
-/* A page, of which nothing is told either where memory runs out. */
+/* A page, or nothing; where memory runs out nothing else is told. */
 static int32_t ask_page(moveledger *ledger, moveledger_bytes *lines)
 {
     uint8_t start[16] = {0}, is_more = 1;
     const int32_t status = moveledger_show_page(ledger, &COIN, start, 100, MOVELEDGER_JSON, lines, &is_more);
     want(status == MOVELEDGER_DONE || (is_more == 0 && memcmp(start, (uint8_t[16]){0}, 16) == 0), "a page without memory");
-    return status;
+    return status == MOVELEDGER_ABSENT ? (int32_t)MOVELEDGER_DONE : status;
 }
 
 /* A value, or nothing. */

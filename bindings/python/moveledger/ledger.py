@@ -114,15 +114,16 @@ class Ledger:
     def values(self, struct: str, start: Address = 0) -> Iterator[Stored]:
         """The values of a struct at addresses from `start` on, by ascending address. They are asked for page by page, so that few of them
         stand in memory; what is applied meanwhile is told from where the walk stands. A struct's values have no index of their own: all
-        that is stored is passed."""
-        begin: Optional[Address] = start
-        while begin is not None:
-            text, begin = self.show_page(struct, begin, KEYS)
+        that is stored is passed. A struct that isn't published has none."""
+        page = self.show_page(struct, start, KEYS)
+        while page is not None:
+            text, after = page
             yield from stored_in(text)
+            page = None if after is None else self.show_page(struct, after, KEYS)
 
-    def show_page(self, struct: str, start: Address, most: int, json: bool = False) -> Tuple[str, Optional[int]]:
+    def show_page(self, struct: str, start: Address, most: int, json: bool = False) -> Optional[Tuple[str, Optional[int]]]:
         """A page of them: the lines of a show of its values alone, and the address from which the next page goes on, or None where no
-        value is left. At most `most` keys are looked at, of whichever structs they are."""
+        value is left. At most `most` keys are looked at, of whichever structs they are. None where no such struct is published."""
         if not 1 <= most < 1 << 64:
             raise ValueError(f"a page looks at 1 key at least, and not at {most}")
         place, words = Place.from_buffer_copy(address_bytes(start)), struct_words(struct)
@@ -130,8 +131,8 @@ class Ledger:
         with self._lock:
             status = library().show_page(byref(self._open()), *words, byref(place), most, int(json), byref(given), byref(is_more))
         text = library().taken(given).decode("ascii")
-        if status != lib.DONE:
-            lib.fail(status, 0)
+        if not lib.is_found(status):
+            return None
         return text, int.from_bytes(bytes(place), "big") if is_more.value else None
 
     def modules(self) -> List[str]:

@@ -77,7 +77,7 @@ class Questions(unittest.TestCase):
                 self.assertIsNone(ledger.value(1, struct))
                 self.assertIsNone(ledger.value_json(1, struct))
                 self.assertIsNone(ledger.tally(struct))
-                self.assertEqual(list(ledger.values(struct)), [])
+                self.assertEqual((ledger.show_page(struct, 0, 1), list(ledger.values(struct))), (None, []))
             for module in "0x2::M", "0x1::N", "0x1::":
                 self.assertIsNone(ledger.module(module))
 
@@ -101,7 +101,9 @@ class Questions(unittest.TestCase):
                 found, pages = "", 0
                 start: Optional[int] = 0
                 while start is not None:
-                    text, after = ledger.show_page(COIN, start, most)
+                    page = ledger.show_page(COIN, start, most)
+                    assert page is not None
+                    text, after = page
                     found += "".join(text.splitlines(True)[:-1])
                     self.assertTrue(after is None or after > start)
                     start, pages = after, pages + 1

@@ -68,7 +68,8 @@ impl Iterator for Values<'_> {
             }
             let from = self.from.take()?;
             match self.ledger.page(&self.name, from, KEYS, Form::Text) {
-                Ok(page) => {
+                Ok(None) => return None,
+                Ok(Some(page)) => {
                     self.from = page.next;
                     self.page = page.values().collect::<Vec<_>>().into_iter();
                 }

@@ -64,7 +64,8 @@ impl Ledger {
         Ok(Entries(lines))
     }
 
-    /// The values of a struct by ascending address. They have no index of their own: all that is stored is passed.
+    /// The values of a struct by ascending address. They have no index of their own: all that is stored is passed. A struct that isn't
+    /// published has none.
     pub fn values<'a>(&'a self, name: Struct<'a>) -> Values<'a> {
         self.values_from(name, Address::default())
     }
@@ -75,11 +76,17 @@ impl Ledger {
     }
 
     /// The values of a struct from an address on, for which at most so many keys are looked at, of whichever structs they are. With
-    /// `most` 0 none is told, and the next page is the same one.
+    /// `most` 0 none is told, and the next page is the same one. None where no such struct is published.
     ///
     /// # Errors
     /// [`Error::Memory`].
-    pub fn page(&self, name: &Struct<'_>, from: Address, most: usize, form: Form) -> Result<Page, Error> {
+    pub fn page(
+        &self,
+        name: &Struct<'_>,
+        from: Address,
+        most: usize,
+        form: Form,
+    ) -> Result<Option<Page>, Error> {
         let (mut lines, mut from, mut is_more) = (Owned::new(), from, 0);
         let (module, own) = (name.module, name.name);
         // SAFETY: the ledger is there, and no call changes it meanwhile. Addresses are 16 bytes, and the names so long.
@@ -98,8 +105,7 @@ impl Ledger {
                 &mut is_more,
             )
         };
-        done(status)?;
-        Ok(Page { entries: Entries(lines), next: (is_more != 0).then_some(from) })
+        found(status, || Page { entries: Entries(lines), next: (is_more != 0).then_some(from) })
     }
 
     /// The names of the published modules.

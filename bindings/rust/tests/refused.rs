@@ -252,5 +252,6 @@ fn shown_at(ledger: &Ledger, form: Form) -> Result<Entries, Error> {
 }
 
 fn shown_page(ledger: &Ledger, form: Form) -> Result<Entries, Error> {
-    ledger.page(&COIN, Address::default(), 100, form).map(|page| page.entries)
+    let page = ledger.page(&COIN, Address::default(), 100, form)?;
+    Ok(page.expect("it is published").entries)
 }

@@ -73,6 +73,9 @@ fn is_asked_by_names(ledger: &Ledger) {
         }
     }
     assert_eq!(ledger.show_at(nobody, Form::Text).expect("there is memory").as_str(), "end 0\n");
+    let nothing = Struct { address: nobody, module: "M", name: "Coin" };
+    assert!(ledger.page(&nothing, nobody, 1, Form::Text).expect("there is memory").is_none());
+    assert_eq!(ledger.values(nothing).count(), 0);
     has_modules(ledger);
 }
 
@@ -108,6 +111,7 @@ fn has_pages(ledger: &Ledger, structure: Struct<'_>, show: &moveledger::Entries)
         let (mut from, mut found) = (Some(Address::default()), Vec::new());
         while let Some(begin) = from {
             let page = ledger.page(&structure, begin, most, Form::Text).expect("there is memory");
+            let page = page.expect("it is published");
             let told: Vec<_> = page.values().map(|value| (value.address, value.text)).collect();
             assert!(told.len() <= most);
             assert!(page.next.iter().all(|next| *next > begin), "a page goes on behind where it began");

@@ -5,7 +5,7 @@
 --   names_text modules                          the names of modules as lines
 --   IsTold, IsToldOf, IsToldIn                  a text that is asked for by a name is given, or there is none by this name
 --   AreTexts, AreTextsOf                        the bytes of a module and of its certificate
---   IsPageOf, IsPageIn                          a page of the values of a struct, and where the next page goes on
+--   IsGivenPage, IsPageIn                       a page of the values of a struct, and where the next page goes on
 --   IsCounted                                   the number of runs
 --   IsTallyOf                                   the tally of a struct
 -- Each says what a call gives, for each status that it may answer. The others are parts of these.
@@ -19,8 +19,8 @@ use Rattle.mv_linker.specs.Questions.{texts_of}
 use Rattle.mv_machine.specs.Flat.{FlatEntry}
 use Rattle.mv_machine.specs.Ledger.{AsJson, AsText, Format}
 use Rattle.mv_machine.specs.Lines.{address_text, Tallied}
-use Rattle.mv_lines.specs.LinesView.{ended}
-use Rattle.mv_ledger.specs.Questions.{shows, tally_named, IsPage, PageView}
+use Rattle.mv_lines.specs.LinesView.{ended, LinesView}
+use Rattle.mv_ledger.specs.Questions.{shows, tally_named, IsShownPage}
 use Rattle.mv_ledger_state.specs.View.{LedgerView}
 use Rattle.moveledger_c.specs.Statuses.{done, memory, arguments, absent}
 
@@ -77,18 +77,23 @@ abbrev pub GoesOnAt : Option ℕ → (from next is_more : ℕ) → Type 0
 GoesOnAt None from next is_more = (next ≡ from) × (is_more ≡ 0)
 GoesOnAt (Some address) from next is_more = (next ≡ address) × (is_more ≡ 1)
 
--- A page of the values of a struct from an address on, for which so many keys are looked at, is given, and where the next page goes
--- on; or memory ran out. With no ledger nothing is done.
-abbrev pub IsPageOf : Format → StructName → (from most : ℕ) → Option LedgerView → ℤ → (next is_more : ℕ) → List ℕ → Type 0
-IsPageOf format name from most None status next is_more text = (status ≡ arguments) × (next ≡ from) × (is_more ≡ 0) × (text ≡ [])
-IsPageOf format name from most (Some l) status next is_more text =
-    ((status ≡ done) × (page : PageView) × IsPage l name from most page × GoesOnAt page.next from next is_more × (text ≡ shown_text l page.values format))
-    ⊎ ((status ≡ memory) × (next ≡ from) × (is_more ≡ 0) × (text ≡ []))
+-- nothing of a page is given
+abbrev pub IsNoPage : (from next is_more : ℕ) → List ℕ → Type 0
+IsNoPage from next is_more text = (next ≡ from) × (is_more ≡ 0) × (text ≡ [])
 
--- it is given in a format; with a form that there is not nothing is done
+-- A page of the values of a struct from an address on, for which so many keys are looked at, is given, and where the next page goes
+-- on; or there is no such struct; or memory ran out.
+abbrev pub IsGivenPage : Format → StructName → (from most : ℕ) → LedgerView → ℤ → (next is_more : ℕ) → List ℕ → Type 0
+IsGivenPage format name from most l status next is_more text =
+    ((status ≡ done) × (r : LinesView × Option ℕ) × IsShownPage l name from most format (Some r) × GoesOnAt r.1 from next is_more × (text ≡ ended r.0.left))
+    ⊎ (((status ≡ absent) × IsShownPage l name from most format None × IsNoPage from next is_more text)
+    ⊎ ((status ≡ memory) × IsNoPage from next is_more text))
+
+-- one of the ledger that is held is given in a format; with no ledger, or with a form that there is not, none is
 abbrev pub IsPageIn : Option Format → StructName → (from most : ℕ) → Option LedgerView → ℤ → (next is_more : ℕ) → List ℕ → Type 0
-IsPageIn None name from most held status next is_more text = (status ≡ arguments) × (next ≡ from) × (is_more ≡ 0) × (text ≡ [])
-IsPageIn (Some format) name from most held status next is_more text = IsPageOf format name from most held status next is_more text
+IsPageIn None name from most held status next is_more text = (status ≡ arguments) × IsNoPage from next is_more text
+IsPageIn (Some format) name from most None status next is_more text = (status ≡ arguments) × IsNoPage from next is_more text
+IsPageIn (Some format) name from most (Some l) status next is_more text = IsGivenPage format name from most l status next is_more text
 
 -- the number of runs of the ledger that is held; with no ledger none is told
 abbrev pub IsCounted : Option LedgerView → ℤ → ℕ → Type 0

@@ -1,10 +1,11 @@
 // The calls that show what is stored under an address, or of a struct. None changes the ledger.
-ghost use Rattle.std.specs.Prelude.{◌≡◌, ◌∷◌, [], Some, IfOk, option_map};
+ghost use Rattle.std.specs.Prelude.{◌≡◌, ◌⊎◌, ◌∷◌, [], Some, IfOk, option_map};
 ghost use Rattle.mv_move_types.specs.Numbers.{big_endian};
 ghost use Rattle.mv_lines.specs.LinesView.{ended};
 ghost use Rattle.mv_ledger.specs.Formats.{format_of as format_that};
 ghost use Rattle.mv_ledger.specs.Questions.{entry_of, stored_at};
-ghost use Rattle.moveledger_c.specs.Questions.{format_in, shown_text, struct_in, GoesOnAt, IsPageIn, IsTold, IsToldIn};
+ghost use Rattle.moveledger_c.specs.Questions.{format_in, shown_text, struct_in, GoesOnAt, IsNoPage, IsPageIn, IsTold, IsToldIn};
+ghost use Rattle.moveledger_c.specs.Statuses.{done, memory};
 
 use crate::bytes::Bytes;
 use crate::holder::Holder;
@@ -116,6 +117,26 @@ fn go_on(next: Option<Address>, from: &mut [u8; 16], is_more: &mut u8)
     }
 }
 
+/// Gives the lines of a page, and says where the next one goes on.
+fn give_page(
+    alloc: Global,
+    out: &mut Bytes,
+    lines: Lines<'_>,
+    next: Option<Address>,
+    from: &mut [u8; 16],
+    is_more: &mut u8,
+) -> i32
+    requires { is_more.old ≡ 0 }
+    ensures { ((result ≡ done) × GoesOnAt next (big_endian from.old) (big_endian from.new) is_more.new × (out.new.items ≡ ended lines.entry.left))
+        ⊎ ((result ≡ memory) × IsNoPage (big_endian from.old) (big_endian from.new) is_more.new out.new.items) }
+{
+    let status = give(alloc, out, bytes_of(alloc, lines));
+    if status == DONE {
+        go_on(next, from, is_more);
+    }
+    status
+}
+
 /// A page of the values of a struct, by ascending address from `*from` on: the lines of a show of these values alone. At most so many
 /// keys are looked at. Where there may be more, the next page goes on at `*from`.
 #[unsafe(no_mangle)]
@@ -144,11 +165,11 @@ pub extern "C" fn moveledger_show_page(
         return ARGUMENTS;
     };
     let name = StructName::new(u128::from_be_bytes(*home), module, name);
-    let mut page = held.values_of(&name, u128::from_be_bytes(*from), most);
-    let status = give(alloc, lines, held.show_page(&mut page, format));
-    if status == DONE {
-        go_on(page.next_address(), from, is_more);
-    }
+    let begin = u128::from_be_bytes(*from);
+    let status = match held.show_page(&name, begin, most, format) {
+        Some((shown, next)) => give_page(alloc, lines, shown, next, from, is_more),
+        None => ABSENT,
+    };
     *ledger = Holder::of(held);
     status
 }

@@ -6,7 +6,7 @@ ghost use Rattle.mv_link_rules.specs.Link.{tables_in};
 ghost use Rattle.mv_ledger_state.specs.Tallying.{AreInOrder};
 ghost use Rattle.mv_machine.specs.Tallies.{tallied};
 ghost use Rattle.mv_ledger.specs.Formats.{format_of};
-ghost use Rattle.mv_ledger.specs.Questions.{entry_of, shows, stored_at, tally_named, words_of, IsPageOf};
+ghost use Rattle.mv_ledger.specs.Questions.{entry_of, shows, stored_at, tally_named, words_of, IsPageOf, IsShownPage};
 
 use crate::format::Format;
 use crate::{Ledger, Lines, Modules};
@@ -100,6 +100,28 @@ impl Ledger {
         let published = &self.published;
         let d = published.store.definition(name)?;
         Some(self.storage.page(d, from, most))
+    }
+
+    /// What a show would tell of such a page, if nothing else were stored, and the address from which the next page goes on.
+    pub fn show_page(
+        &self,
+        name: &StructName<'_>,
+        from: Address,
+        most: usize,
+        format: Format,
+    ) -> Option<(Lines<'_>, Option<Address>)>
+        ensures { IsShownPage self.entry.now name.now from most (format_of format) result }
+    {
+        let page = self.values_of(name, from, most)?;
+        let next = page.next_address();
+        let alloc = self.alloc;
+        let published = &self.published;
+        // For the prover: fewer than 2^63 values are stored.
+        let _entries = self.storage.iter();
+        match format {
+            Format::Text => Some((Lines::of_page(alloc, &published.store, page), next)),
+            Format::Json => Some((Lines::json_of_page(alloc, &published.store, page), next)),
+        }
     }
 
     /// The names of the published modules in order of publication.

@@ -21,6 +21,7 @@ mod json_entries;
 mod json_pieces;
 mod lines;
 mod pieces;
+mod source;
 mod texts;
 mod values;
 
