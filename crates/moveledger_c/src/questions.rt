@@ -8,6 +8,7 @@ use crate::holder::Holder;
 use crate::status::{ABSENT, ARGUMENTS, DONE, MEMORY};
 use crate::texts::give;
 use mv_ledger::{Ledger, StructName};
+use mv_lines::put_address;
 use std::alloc::{AllocError, Global};
 
 /// How many runs the ledger had.
@@ -56,14 +57,11 @@ fn names_of(alloc: Global, ledger: &Ledger) -> Result<Vec<u8>, AllocError>
 fn put_name(text: &mut Vec<u8>, address: u128, name: &[u8]) -> Result<(), AllocError>
     ensures { OnOk result (text.new.items ≡ text.old.items ++ (name_line (record { address = address; name = name.now }) ++ 10 ∷ [])) }
 {
-    let mut digits = [0; 32];
-    match hex::encode_to_slice(address.to_be_bytes(), &mut digits) {
-        Ok(()) => text.extend_from_slice(&digits)?,
-        Err(_) => unreachable!(),
-    }
+    put_address(text, address)?;
     text.extend_from_slice(b"::")?;
     text.extend_from_slice(name)?;
-    text.push(b'\n')
+    text.push(b'\n')?;
+    Ok(())
 }
 
 /// The bytes of the module of a name, and those of its certificate.

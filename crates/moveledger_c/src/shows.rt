@@ -1,5 +1,5 @@
 // The calls that show what is stored under an address, or of a struct. None changes the ledger.
-ghost use Rattle.std.specs.Prelude.{◌≡◌, ◌⊎◌, ◌∷◌, [], Some, IfOk, option_map};
+ghost use Rattle.std.specs.Prelude.{◌≡◌, ◌⊎◌, ◌∷◌, [], None, Some, IfOk, MatchOption, option_map};
 ghost use Rattle.mv_move_types.specs.Numbers.{big_endian};
 ghost use Rattle.mv_lines.specs.LinesView.{ended};
 ghost use Rattle.mv_ledger.specs.Formats.{format_of as format_that};
@@ -9,6 +9,7 @@ ghost use Rattle.moveledger_c.specs.Statuses.{done, memory};
 
 use crate::bytes::Bytes;
 use crate::holder::Holder;
+use crate::ledgers::{JSON, TEXT};
 use crate::status::{ABSENT, ARGUMENTS, DONE};
 use crate::texts::give;
 use mv_ledger::{Format, Lines, StructName};
@@ -17,13 +18,15 @@ use std::alloc::{AllocError, Global};
 
 /// The format of a form.
 fn format_of(form: u32) -> Option<Format>
-    ensures { option_map format_that result ≡ format_in form }
+    ensures { MatchOption result (format_in form ≡ None) (λ f. format_in form ≡ Some (format_that f)) }
 {
-    match form {
-        0 => Some(Format::Text),
-        1 => Some(Format::Json),
-        _ => None,
+    if form == TEXT {
+        return Some(Format::Text);
     }
+    if form == JSON {
+        return Some(Format::Json);
+    }
+    None
 }
 
 /// The bytes of lines, each with its line end.

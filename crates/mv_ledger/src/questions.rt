@@ -15,6 +15,9 @@ use mv_machine::Tally;
 use mv_move_types::{Address, Definition, Key};
 use mv_storage::{Entries, Page};
 
+// At how many keys a page that is shown looks at most.
+const MOST_KEYS: usize = 1 << 62;
+
 /// The key of a struct's value at an address.
 fn key_in(address: Address, d: Definition) -> Key
     ensures { result ≡ record { address = address; place = d.place; index = d.index } }
@@ -112,16 +115,9 @@ impl Ledger {
     ) -> Option<(Lines<'_>, Option<Address>)>
         ensures { IsShownPage self.entry.now name.now from most (format_of format) result }
     {
-        let page = self.values_of(name, from, most)?;
+        let page = self.values_of(name, from, most.min(MOST_KEYS))?;
         let next = page.next_address();
-        let alloc = self.alloc;
-        let published = &self.published;
-        // For the prover: fewer than 2^63 values are stored.
-        let _entries = self.storage.iter();
-        match format {
-            Format::Text => Some((Lines::of_page(alloc, &published.store, page), next)),
-            Format::Json => Some((Lines::json_of_page(alloc, &published.store, page), next)),
-        }
+        Some((self.lines_of_page(page, format), next))
     }
 
     /// The names of the published modules in order of publication.
@@ -153,6 +149,18 @@ impl Ledger {
         let d = published.store.definition(name)?;
         let tallies = published.tallies.lists().get(d.place as usize)?;
         tally_at(tallies, d.index)
+    }
+
+    /// What a show would tell of the values of a page alone.
+    fn lines_of_page<'a>(&'a self, page: Page<'a>, format: Format) -> Lines<'a>
+        requires { length page.values < 2 ^ 63 }
+        ensures { result ≡ shows self.entry.now page.entry.values (format_of format) }
+    {
+        let published = &self.published;
+        match format {
+            Format::Text => Lines::of_page(self.alloc, &published.store, page),
+            Format::Json => Lines::json_of_page(self.alloc, &published.store, page),
+        }
     }
 
     /// What a show would tell of these values alone.

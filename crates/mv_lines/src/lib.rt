@@ -27,3 +27,4 @@ mod values;
 
 pub use lines::Lines;
 pub use pieces::Piece;
+pub use texts::put_address;

@@ -1,0 +1,16 @@
+-- What questions are answered with.
+use Rattle.std.proofs.Common.{◌≡◌, ◌≢◌, ℕ, zero, suc, List, [], ◌∷◌, ◌++◌, None, refl, codes, append_assoc}
+use Rattle.moveledger_c.specs.Questions.{format_in}
+
+-- a form that is neither of the two
+
+pub format_in-none : (form : ℕ) → (form ≢ 0) → (form ≢ 1) → format_in form ≡ None
+format_in-none zero a b = absurd (a refl)
+format_in-none (suc zero) a b = absurd (b refl)
+format_in-none (suc (suc n)) a b = refl
+
+-- a module's name, as it is put after a text, piece by piece
+
+pub name-put : (t0 t1 t2 t3 t4 address name : List ℕ) → t1 ≡ t0 ++ address → t2 ≡ t1 ++ codes "::" → t3 ≡ t2 ++ name → t4 ≡ t3 ++ 10 ∷ []
+    → t4 ≡ t0 ++ ((address ++ codes "::" ++ name) ++ 10 ∷ [])
+name-put t0 t1 t2 t3 t4 address name p1 p2 p3 p4 = rw (p4, p3, p2, p1) (simp append_assoc)
