@@ -57,7 +57,7 @@ abbrev pub IsShownPage : LedgerView → StructName → ℕ → ℕ → Format �
 IsShownPage held name from most format result =
     MatchOption result (struct_place (tables_in held.published) name ≡ None)
     (λ r. (d : Definition) × (page : PageView) × (struct_place (tables_in held.published) name ≡ Some d) × IsPage held.stored d from most page
-        × (r.0 ≡ shows held page.values format) × (r.1 ≡ page.next))
+    × (r.0 ≡ shows held page.values format) × (r.1 ≡ page.next))
 
 -- the tally of a struct
 abbrev pub tally_named : List Tallied → StructName → Option Tallied
