@@ -1,8 +1,8 @@
 /* moveledger.h: the ledger as a library.
  *
- * A ledger is held by a `moveledger` of yours, which holds none where `own` is NULL. Calls that only read (save, show, audit) may use one
- * ledger at once; a call that changes it (apply, free) is alone with it. A call that finds the ledger in use answers BUSY, and nothing
- * changes. Different ledgers may be used by different threads at the same time. Every call returns, and answers a status. No call aborts
+ * A ledger is held by a `moveledger` of yours, which holds none where `own` is NULL. Calls that only read (save, show, audit, and the
+ * questions by names and addresses) may use one ledger at once; a call that changes it (apply, free) is alone with it. A call that finds
+ * the ledger in use answers BUSY, and nothing changes. Different ledgers may be used by different threads at the same time. Every call returns, and answers a status. No call aborts
  * the process, if its thread has moveledger_stack_bytes of stack. What a call changes, and what stays as it was, stands beside it.
  *
  * Compilers: what has the __atomic builtins (GCC, Clang), otherwise C11 with <stdatomic.h>. */
@@ -11,6 +11,7 @@
 
 #include <stddef.h>
 #include <stdint.h>
+#include <string.h>
 
 #if !defined(__GNUC__) && !defined(__cplusplus)
 #include <stdatomic.h>
@@ -35,7 +36,8 @@ enum moveledger_status {
     MOVELEDGER_MEMORY = 4,         /* an allocation failed */
     MOVELEDGER_ARGUMENTS = 5,      /* a null pointer where none is allowed, a `moveledger` that holds no ledger, an unknown form,
                                       or a length above PTRDIFF_MAX; no ledger, count or report changed */
-    MOVELEDGER_BUSY = 6            /* another call uses the ledger; nothing changed, and it may be asked again */
+    MOVELEDGER_BUSY = 6,           /* another call uses the ledger; nothing changed, and it may be asked again */
+    MOVELEDGER_ABSENT = 8          /* what was asked for by its name isn't there */
 };
 
 /* What holds a ledger, or none: begin with {NULL, 0}. Both parts are the library's own; never copy it to a second one that is used. */
@@ -57,8 +59,16 @@ typedef struct moveledger_bytes {
     void *own;                          /* the library's own */
 } moveledger_bytes;
 
-/* Which lines moveledger_show and moveledger_audit make. */
+/* Which lines a show or an audit makes. */
 enum moveledger_form { MOVELEDGER_TEXT = 0, MOVELEDGER_JSON = 1 };
+
+/* The name of a struct: the address of the module that defines it, in 16 bytes, the most significant first, the module's identifier, and
+ * the struct's. Each identifier ends with a zero byte. */
+typedef struct moveledger_struct {
+    uint8_t address[16];
+    const char *module;
+    const char *name;
+} moveledger_struct;
 
 /* An empty ledger in *ledger. After anything but DONE *ledger holds none. What it held before is overwritten, and not freed. */
 int32_t moveledger_new(moveledger_own *ledger);
@@ -81,6 +91,36 @@ int32_t moveledger_save(moveledger_own *ledger, moveledger_bytes *saved);
 /* The lines of a show or an audit, without numbers, each ended by a line feed. The ledger stays as it was. */
 int32_t moveledger_show(moveledger_own *ledger, uint32_t form, moveledger_bytes *lines);
 int32_t moveledger_audit(moveledger_own *ledger, uint32_t form, moveledger_bytes *lines);
+
+/* Questions. Each takes a search or two and what it tells, whatever else the ledger has; the ledger stays as it was. An address is 16
+ * bytes, the most significant first. Through this header a struct is named by a `const moveledger_struct *`, and a module by its address
+ * and a text that ends with a zero byte; the library itself takes the parts in turn, each text with its length. After anything but DONE
+ * bytes are {NULL, 0, NULL}, and numbers are 0.
+ *
+ * show_value: the value of a struct that is stored at an address, as the lines of a show that has no other; ABSENT where there is none.
+ * show_at: all values that are stored at an address, as the lines of a show that has no others.
+ * show_page: the values of a struct at addresses from *from on, by ascending address, likewise. The struct's values have no index of
+ * their own, so the call looks at `most` keys at most, of whichever structs they are. Then *is_more is 1 and the next page begins at
+ * *from; or *is_more is 0, no value is left, and *from is as it was, also after anything but DONE. The first page is that from address 0,
+ * and with `most` 0 the pages never end. ABSENT where no such struct is published. */
+int32_t moveledger_show_value(moveledger_own *ledger, const uint8_t *address, const uint8_t *home, const uint8_t *module,
+                              size_t module_length, const uint8_t *name, size_t name_length, uint32_t form, moveledger_bytes *lines);
+int32_t moveledger_show_at(moveledger_own *ledger, const uint8_t *address, uint32_t form, moveledger_bytes *lines);
+int32_t moveledger_show_page(moveledger_own *ledger, const uint8_t *home, const uint8_t *module, size_t module_length,
+                             const uint8_t *name, size_t name_length, uint8_t *from, size_t most, uint32_t form,
+                             moveledger_bytes *lines, uint8_t *is_more);
+/* modules: the names of the published modules in order of publication, each as ADDRESS::MODULE and a line feed, the address in 32
+ * hexadecimal digits.
+ * module: the bytes of the module of a name, and those of the certificate that it was checked with; ABSENT where there is no such module. */
+int32_t moveledger_modules(moveledger_own *ledger, moveledger_bytes *names);
+int32_t moveledger_module(moveledger_own *ledger, const uint8_t *address, const uint8_t *name, size_t name_length,
+                          moveledger_bytes *module, moveledger_bytes *certificate);
+/* runs: how many runs were begun, whatever became of them.
+ * tally: how many values of a struct were packed, and how many unpacked, in runs that returned; the difference is how many are stored.
+ * ABSENT where no such struct is published, or where it has copy or drop. */
+int32_t moveledger_runs(moveledger_own *ledger, uint64_t *runs);
+int32_t moveledger_tally(moveledger_own *ledger, const uint8_t *home, const uint8_t *module, size_t module_length,
+                         const uint8_t *name, size_t name_length, uint64_t *packed, uint64_t *unpacked);
 
 /* Without a ledger. prove: the certificate's hexadecimal, as the command prints it, without a line end. It has no limit of time: a module of
  * 7 KB is known that takes 72 seconds.
@@ -133,6 +173,9 @@ static inline void moveledger_clear_ledger(moveledger *ledger) {
 }
 static inline void moveledger_clear_reason(uint8_t *why) {
     if (why) *why = 0;
+}
+static inline void moveledger_clear_count(uint64_t *count) {
+    if (count) *count = 0;
 }
 static inline int32_t moveledger_new_tested(moveledger *ledger) {
     moveledger_own own = {NULL};
@@ -197,6 +240,86 @@ static inline int32_t moveledger_audit_tested(const moveledger *ledger, uint32_t
     moveledger_ends_use(ledger);
     return status;
 }
+static inline int moveledger_is_named(const moveledger_struct *name) {
+    return name && name->module && name->name;
+}
+static inline const uint8_t *moveledger_text(const char *text) {
+    return (const uint8_t *)text;
+}
+static inline int32_t moveledger_show_value_tested(const moveledger *ledger, const uint8_t *address, const moveledger_struct *name,
+                                                   uint32_t form, moveledger_bytes *lines) {
+    moveledger_clear_bytes(lines);
+    if (!ledger || !address || !moveledger_is_named(name) || !lines) return MOVELEDGER_ARGUMENTS;
+    if (!moveledger_begins_reading(ledger)) return MOVELEDGER_BUSY;
+    moveledger_own own = {ledger->own};
+    const int32_t status = moveledger_show_value(&own, address, name->address, moveledger_text(name->module), strlen(name->module),
+                                                 moveledger_text(name->name), strlen(name->name), form, lines);
+    moveledger_ends_use(ledger);
+    return status;
+}
+static inline int32_t moveledger_show_at_tested(const moveledger *ledger, const uint8_t *address, uint32_t form,
+                                                moveledger_bytes *lines) {
+    moveledger_clear_bytes(lines);
+    if (!ledger || !address || !lines) return MOVELEDGER_ARGUMENTS;
+    if (!moveledger_begins_reading(ledger)) return MOVELEDGER_BUSY;
+    moveledger_own own = {ledger->own};
+    const int32_t status = moveledger_show_at(&own, address, form, lines);
+    moveledger_ends_use(ledger);
+    return status;
+}
+static inline int32_t moveledger_show_page_tested(const moveledger *ledger, const moveledger_struct *name, uint8_t *from, size_t most,
+                                                  uint32_t form, moveledger_bytes *lines, uint8_t *is_more) {
+    moveledger_clear_bytes(lines);
+    moveledger_clear_reason(is_more);
+    if (!ledger || !moveledger_is_named(name) || !from || !lines || !is_more) return MOVELEDGER_ARGUMENTS;
+    if (!moveledger_begins_reading(ledger)) return MOVELEDGER_BUSY;
+    moveledger_own own = {ledger->own};
+    const int32_t status = moveledger_show_page(&own, name->address, moveledger_text(name->module), strlen(name->module),
+                                                moveledger_text(name->name), strlen(name->name), from, most, form, lines, is_more);
+    moveledger_ends_use(ledger);
+    return status;
+}
+static inline int32_t moveledger_modules_tested(const moveledger *ledger, moveledger_bytes *names) {
+    moveledger_clear_bytes(names);
+    if (!ledger || !names) return MOVELEDGER_ARGUMENTS;
+    if (!moveledger_begins_reading(ledger)) return MOVELEDGER_BUSY;
+    moveledger_own own = {ledger->own};
+    const int32_t status = moveledger_modules(&own, names);
+    moveledger_ends_use(ledger);
+    return status;
+}
+static inline int32_t moveledger_module_tested(const moveledger *ledger, const uint8_t *address, const char *name,
+                                               moveledger_bytes *module, moveledger_bytes *certificate) {
+    moveledger_clear_bytes(module);
+    moveledger_clear_bytes(certificate);
+    if (!ledger || !address || !name || !module || !certificate) return MOVELEDGER_ARGUMENTS;
+    if (!moveledger_begins_reading(ledger)) return MOVELEDGER_BUSY;
+    moveledger_own own = {ledger->own};
+    const int32_t status = moveledger_module(&own, address, moveledger_text(name), strlen(name), module, certificate);
+    moveledger_ends_use(ledger);
+    return status;
+}
+static inline int32_t moveledger_runs_tested(const moveledger *ledger, uint64_t *runs) {
+    moveledger_clear_count(runs);
+    if (!ledger || !runs) return MOVELEDGER_ARGUMENTS;
+    if (!moveledger_begins_reading(ledger)) return MOVELEDGER_BUSY;
+    moveledger_own own = {ledger->own};
+    const int32_t status = moveledger_runs(&own, runs);
+    moveledger_ends_use(ledger);
+    return status;
+}
+static inline int32_t moveledger_tally_tested(const moveledger *ledger, const moveledger_struct *name, uint64_t *packed,
+                                              uint64_t *unpacked) {
+    moveledger_clear_count(packed);
+    moveledger_clear_count(unpacked);
+    if (!ledger || !moveledger_is_named(name) || !packed || !unpacked) return MOVELEDGER_ARGUMENTS;
+    if (!moveledger_begins_reading(ledger)) return MOVELEDGER_BUSY;
+    moveledger_own own = {ledger->own};
+    const int32_t status = moveledger_tally(&own, name->address, moveledger_text(name->module), strlen(name->module),
+                                            moveledger_text(name->name), strlen(name->name), packed, unpacked);
+    moveledger_ends_use(ledger);
+    return status;
+}
 static inline int32_t moveledger_prove_tested(const uint8_t *module, size_t length, moveledger_bytes *certificate, uint8_t *why) {
     moveledger_clear_bytes(certificate);
     moveledger_clear_reason(why);
@@ -227,6 +350,15 @@ static inline void moveledger_bytes_free_tested(moveledger_bytes *bytes) {
 #define moveledger_save(ledger, saved) moveledger_save_tested(ledger, saved)
 #define moveledger_show(ledger, form, lines) moveledger_show_tested(ledger, form, lines)
 #define moveledger_audit(ledger, form, lines) moveledger_audit_tested(ledger, form, lines)
+#define moveledger_show_value(ledger, address, name, form, lines) moveledger_show_value_tested(ledger, address, name, form, lines)
+#define moveledger_show_at(ledger, address, form, lines) moveledger_show_at_tested(ledger, address, form, lines)
+#define moveledger_show_page(ledger, name, from, most, form, lines, is_more) \
+    moveledger_show_page_tested(ledger, name, from, most, form, lines, is_more)
+#define moveledger_modules(ledger, names) moveledger_modules_tested(ledger, names)
+#define moveledger_module(ledger, address, name, module, certificate) \
+    moveledger_module_tested(ledger, address, name, module, certificate)
+#define moveledger_runs(ledger, runs) moveledger_runs_tested(ledger, runs)
+#define moveledger_tally(ledger, name, packed, unpacked) moveledger_tally_tested(ledger, name, packed, unpacked)
 #define moveledger_prove(module, length, certificate, why) moveledger_prove_tested(module, length, certificate, why)
 #define moveledger_check(module, length, certificate, certificate_length, why) \
     moveledger_check_tested(module, length, certificate, certificate_length, why)

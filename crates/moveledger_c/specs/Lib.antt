@@ -3,3 +3,4 @@ pub mod Statuses
 pub mod Calls
 pub mod Blocks
 pub mod Giving
+pub mod Questions

@@ -10,6 +10,8 @@ mod holder;
 mod ledgers;
 mod modules;
 mod parts;
+mod questions;
+mod shows;
 mod status;
 mod texts;
 

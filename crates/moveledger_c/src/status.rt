@@ -20,3 +20,6 @@ pub const ARGUMENTS: i32 = 5;
 
 /// No block is open, and nothing changed.
 pub const NO_BLOCK: i32 = 7;
+
+/// No value, module or tally is there by this name.
+pub const ABSENT: i32 = 8;

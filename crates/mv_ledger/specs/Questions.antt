@@ -3,6 +3,7 @@
 --   stored_at address entries                      the values at an address
 --   shows held entries format                      what a show would tell of these values alone
 --   IsPageOf held name from most result            a page of the values of a struct
+--   IsShownPage held name from most format result  what a show would tell of such a page alone, and where the next one goes on
 --   tally_named tallies name                       the tally of a struct
 use Rattle.std.specs.Prelude.{◌≡◌, ℕ, ◌==◌, List, Option, Some, None, option_map, find, MatchOption}
 use Rattle.std.specs.List.{filter}
@@ -50,6 +51,13 @@ abbrev pub IsPageOf : LedgerView → StructName → ℕ → ℕ → Option PageV
 IsPageOf held name from most result =
     MatchOption result (struct_place (tables_in held.published) name ≡ None)
     (λ page. (d : Definition) × (struct_place (tables_in held.published) name ≡ Some d) × IsPage held.stored d from most page)
+
+-- what a show would tell of a page, and the address from which the next one goes on; or none where no such struct is published
+abbrev pub IsShownPage : LedgerView → StructName → ℕ → ℕ → Format → Option (LinesView × Option ℕ) → Type 0
+IsShownPage held name from most format result =
+    MatchOption result (struct_place (tables_in held.published) name ≡ None)
+    (λ r. (d : Definition) × (page : PageView) × (struct_place (tables_in held.published) name ≡ Some d) × IsPage held.stored d from most page
+    × (r.0 ≡ shows held page.values format) × (r.1 ≡ page.next))
 
 -- the tally of a struct
 abbrev pub tally_named : List Tallied → StructName → Option Tallied

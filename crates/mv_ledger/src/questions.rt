@@ -6,7 +6,7 @@ ghost use Rattle.mv_link_rules.specs.Link.{tables_in};
 ghost use Rattle.mv_ledger_state.specs.Tallying.{AreInOrder};
 ghost use Rattle.mv_machine.specs.Tallies.{tallied};
 ghost use Rattle.mv_ledger.specs.Formats.{format_of};
-ghost use Rattle.mv_ledger.specs.Questions.{entry_of, shows, stored_at, tally_named, words_of, IsPageOf};
+ghost use Rattle.mv_ledger.specs.Questions.{entry_of, shows, stored_at, tally_named, words_of, IsPageOf, IsShownPage};
 
 use crate::format::Format;
 use crate::{Ledger, Lines, Modules};
@@ -14,6 +14,9 @@ use mv_interface::StructName;
 use mv_machine::Tally;
 use mv_move_types::{Address, Definition, Key};
 use mv_storage::{Entries, Page};
+
+// At how many keys a page that is shown looks at most.
+const MOST_KEYS: usize = 1 << 62;
 
 /// The key of a struct's value at an address.
 fn key_in(address: Address, d: Definition) -> Key
@@ -89,17 +92,27 @@ impl Ledger {
     /// The values of a struct, by ascending address from one on; None where no such struct is published. At most so many keys are looked
     /// at, of whichever structs they are, and `Page::next_address` tells where the next page goes on. The first page is that from
     /// address 0.
-    pub fn values_of(
-        &self,
-        name: &StructName<'_>,
-        from: Address,
-        most: usize,
-    ) -> Option<Page<'_>>
+    pub fn values_of(&self, name: &StructName<'_>, from: Address, most: usize) -> Option<Page<'_>>
         ensures { IsPageOf self.entry.now name.now from most result }
     {
         let published = &self.published;
         let d = published.store.definition(name)?;
         Some(self.storage.page(d, from, most))
+    }
+
+    /// What a show would tell of such a page, if nothing else were stored, and the address from which the next page goes on.
+    pub fn show_page(
+        &self,
+        name: &StructName<'_>,
+        from: Address,
+        most: usize,
+        format: Format,
+    ) -> Option<(Lines<'_>, Option<Address>)>
+        ensures { IsShownPage self.entry.now name.now from most (format_of format) result }
+    {
+        let page = self.values_of(name, from, most.min(MOST_KEYS))?;
+        let next = page.next_address();
+        Some((self.lines_of_page(page, format), next))
     }
 
     /// The names of the published modules in order of publication.
@@ -131,6 +144,18 @@ impl Ledger {
         let d = published.store.definition(name)?;
         let tallies = published.tallies.lists().get(d.place as usize)?;
         tally_at(tallies, d.index)
+    }
+
+    /// What a show would tell of the values of a page alone.
+    fn lines_of_page<'a>(&'a self, page: Page<'a>, format: Format) -> Lines<'a>
+        requires { length page.values < 2 ^ 63 }
+        ensures { result ≡ shows self.entry.now page.entry.values (format_of format) }
+    {
+        let published = &self.published;
+        match format {
+            Format::Text => Lines::of_page(self.alloc, &published.store, page),
+            Format::Json => Lines::json_of_page(self.alloc, &published.store, page),
+        }
     }
 
     /// What a show would tell of these values alone.
