@@ -1,9 +1,10 @@
 /* moveledger.h: the ledger as a library.
  *
  * A ledger is held by a `moveledger` of yours, which holds none where `own` is NULL. Calls that only read (save, show, audit, and the
- * questions by names and addresses) may use one ledger at once; a call that changes it (apply, free) is alone with it. A call that finds
- * the ledger in use answers BUSY, and nothing changes. Different ledgers may be used by different threads at the same time. Every call returns, and answers a status. No call aborts
- * the process, if its thread has moveledger_stack_bytes of stack. What a call changes, and what stays as it was, stands beside it.
+ * questions by names and addresses) may use one ledger at once; a call that changes it (apply, begin, rollback, commit, free) is alone
+ * with it. A call that finds the ledger in use answers BUSY, and nothing changes. Different ledgers may be used by different threads at
+ * the same time. Every call returns, and answers a status. No call aborts the process, if its thread has moveledger_stack_bytes of stack.
+ * What a call changes, and what stays as it was, stands beside it.
  *
  * Compilers: what has the __atomic builtins (GCC, Clang), otherwise C11 with <stdatomic.h>. */
 #ifndef MOVELEDGER_H
@@ -37,6 +38,7 @@ enum moveledger_status {
     MOVELEDGER_ARGUMENTS = 5,      /* a null pointer where none is allowed, a `moveledger` that holds no ledger, an unknown form,
                                       or a length above PTRDIFF_MAX; no ledger, count or report changed */
     MOVELEDGER_BUSY = 6,           /* another call uses the ledger; nothing changed, and it may be asked again */
+    MOVELEDGER_NO_BLOCK = 7,       /* no block is open; nothing changed */
     MOVELEDGER_ABSENT = 8          /* what was asked for by its name isn't there */
 };
 
@@ -84,6 +86,15 @@ void moveledger_free(moveledger_own *ledger);
  * MEMORY: the report is a beginning of the whole one, and the ledger is as some records left it: the records up to *answered,
  * and perhaps the one after them (whose lines may be written in part). */
 int32_t moveledger_apply(moveledger_own *ledger, const uint8_t *records, size_t length, uint64_t *answered, moveledger_bytes *report);
+/* Blocks. begin opens a block: records are answered in it as ever. rollback closes the newest block and gives back the ledger as it was
+ * when that block was opened; commit closes it and keeps what was changed, as a part of the block around it, if there is one. Blocks nest.
+ * rollback and commit take no memory and can't fail; NO_BLOCK where no block is open. begin answers MEMORY where memory runs out, and
+ * no block is opened then. A block notes what each change replaced, 80 bytes for a value and 48 for a count; the first bundle that is
+ * published in a block also copies the published modules. A save, a show and the questions tell what is held now; a ledger that is loaded
+ * has no open block. */
+int32_t moveledger_begin(moveledger_own *ledger);
+int32_t moveledger_rollback(moveledger_own *ledger);
+int32_t moveledger_commit(moveledger_own *ledger);
 /* The ledger's text, as `apply --save` writes it, in *saved. The ledger stays as it was. Here and below, what `*saved`, `*lines`,
  * `*certificate` or `*migrated` held before is overwritten, and not freed; after anything but DONE it is {NULL, 0, NULL}, and where there
  * is a `*why`, it is 0 unless the status has a reason. */
@@ -209,6 +220,33 @@ static inline int32_t moveledger_apply_tested(moveledger *ledger, const uint8_t 
     if (!moveledger_begins_change(ledger)) return MOVELEDGER_BUSY;
     moveledger_own own = {ledger->own};
     const int32_t status = moveledger_apply(&own, records, length, answered, report);
+    ledger->own = own.own;
+    moveledger_ends_use(ledger);
+    return status;
+}
+static inline int32_t moveledger_begin_tested(moveledger *ledger) {
+    if (!ledger) return MOVELEDGER_ARGUMENTS;
+    if (!moveledger_begins_change(ledger)) return MOVELEDGER_BUSY;
+    moveledger_own own = {ledger->own};
+    const int32_t status = moveledger_begin(&own);
+    ledger->own = own.own;
+    moveledger_ends_use(ledger);
+    return status;
+}
+static inline int32_t moveledger_rollback_tested(moveledger *ledger) {
+    if (!ledger) return MOVELEDGER_ARGUMENTS;
+    if (!moveledger_begins_change(ledger)) return MOVELEDGER_BUSY;
+    moveledger_own own = {ledger->own};
+    const int32_t status = moveledger_rollback(&own);
+    ledger->own = own.own;
+    moveledger_ends_use(ledger);
+    return status;
+}
+static inline int32_t moveledger_commit_tested(moveledger *ledger) {
+    if (!ledger) return MOVELEDGER_ARGUMENTS;
+    if (!moveledger_begins_change(ledger)) return MOVELEDGER_BUSY;
+    moveledger_own own = {ledger->own};
+    const int32_t status = moveledger_commit(&own);
     ledger->own = own.own;
     moveledger_ends_use(ledger);
     return status;
@@ -347,6 +385,9 @@ static inline void moveledger_bytes_free_tested(moveledger_bytes *bytes) {
 #define moveledger_free(ledger) moveledger_free_tested(ledger)
 #define moveledger_apply(ledger, records, length, answered, report) \
     moveledger_apply_tested(ledger, records, length, answered, report)
+#define moveledger_begin(ledger) moveledger_begin_tested(ledger)
+#define moveledger_rollback(ledger) moveledger_rollback_tested(ledger)
+#define moveledger_commit(ledger) moveledger_commit_tested(ledger)
 #define moveledger_save(ledger, saved) moveledger_save_tested(ledger, saved)
 #define moveledger_show(ledger, form, lines) moveledger_show_tested(ledger, form, lines)
 #define moveledger_audit(ledger, form, lines) moveledger_audit_tested(ledger, form, lines)

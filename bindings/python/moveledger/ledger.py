@@ -7,7 +7,7 @@ from types import TracebackType
 from typing import Dict, Iterator, List, NamedTuple, NoReturn, Optional, Tuple, Type
 
 from . import library as lib
-from .errors import Unfinished
+from .errors import NoBlock, Unfinished
 from .library import Bytes, Holder, Place, library
 from .names import Address, address_bytes, module_words, struct_words
 from .report import Count, Report, Stored, read_words
@@ -34,6 +34,8 @@ class Ledger:
         self.answered = counted(answered)
         self._lock = Lock()
         self._holder = Holder()
+        # How many records had been answered where each open block was begun, the oldest first.
+        self._begun: List[int] = []
         why = c_uint8()
         if saved is None:
             status = library().new(byref(self._holder))
@@ -55,6 +57,35 @@ class Ledger:
         if status != lib.DONE:
             lib.fail(status, 0)
         return report
+
+    def block(self) -> "Block":
+        """A block as a scope: `with ledger.block():` keeps what is answered in it at its end, and takes it back where an exception leaves
+        it. Blocks nest."""
+        return Block(self)
+
+    def begin(self) -> None:
+        """Opens a block: records are answered as ever, and `rollback` takes back what they changed. `OutOfMemory` where memory runs out: no
+        block is opened then."""
+        with self._lock:
+            self._do("begin")
+            self._begun.append(self.answered)
+
+    def rollback(self) -> None:
+        """Closes the newest block, and takes back what was changed in it: the ledger, and `answered`, are as they were then. `NoBlock`."""
+        with self._lock:
+            self._do("rollback")
+            self.answered = self._begun.pop()
+
+    def commit(self) -> None:
+        """Closes the newest block, and keeps what was changed in it, as a part of the block around it, if there is one. `NoBlock`."""
+        with self._lock:
+            self._do("commit")
+            self._begun.pop()
+
+    def _do(self, name: str) -> None:
+        status = getattr(library(), name)(byref(self._open()))
+        if status != lib.DONE:
+            lib.fail(status, 0)
 
     def save(self) -> bytes:
         """The ledger's text, as `moveledger apply --save` writes it. Equal ledgers have equal texts."""
@@ -169,6 +200,7 @@ class Ledger:
         """Frees the ledger. It answers nothing any more."""
         with self._lock:
             library().free(byref(self._holder))
+            self._begun.clear()
 
     def _open(self) -> Holder:
         if not self._holder.own:
@@ -188,6 +220,40 @@ class Ledger:
     def __del__(self) -> None:
         if hasattr(self, "_holder") and self._holder.own:
             self.close()
+
+
+class Block:
+    """A block of a ledger as a scope. It is opened where the scope begins, and closed where that ends."""
+
+    def __init__(self, ledger: Ledger) -> None:
+        self.ledger = ledger
+        self._is_open = False
+
+    def __enter__(self) -> "Block":
+        self.ledger.begin()
+        self._is_open = True
+        return self
+
+    def apply(self, records: bytes) -> Report:
+        """Answers records, as the ledger does."""
+        return self.ledger.apply(records)
+
+    def rollback(self) -> None:
+        """Takes back what was answered in the block, and closes it before its scope ends. `NoBlock` where it is closed already."""
+        if not self._is_open:
+            raise NoBlock("the block is closed")
+        self._is_open = False
+        self.ledger.rollback()
+
+    def __exit__(self, kind: Optional[Type[BaseException]], error: Optional[BaseException],
+                 trace: Optional[TracebackType]) -> None:
+        if not self._is_open:
+            return
+        self._is_open = False
+        if kind is None:
+            self.ledger.commit()
+        else:
+            self.ledger.rollback()
 
 
 def stored_in(text: str) -> List[Stored]:

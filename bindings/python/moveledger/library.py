@@ -6,13 +6,13 @@ from ctypes import POINTER, byref, c_char_p, c_int32, c_size_t, c_uint8, c_uint3
 from pathlib import Path
 from typing import Any, Callable, List, NoReturn, Optional, Tuple
 
-from .errors import LedgerError, LoadRefused, NoLibrary, OutOfMemory, Refused, TooComplex
+from .errors import LedgerError, LoadRefused, NoBlock, NoLibrary, OutOfMemory, Refused, TooComplex
 
 FILE = "libmoveledger.so"
 HERE = Path(__file__).resolve().parent
 # What a call answers.
 DONE, REFUSED, LOAD_REFUSED, TOO_COMPLEX, MEMORY, ARGUMENTS = range(6)
-ABSENT = 8
+NO_BLOCK, ABSENT = 7, 8
 
 
 class Holder(ctypes.Structure):
@@ -37,6 +37,9 @@ CALLS = {
     "load": [*TEXT, POINTER(Holder), POINTER(c_uint8)],
     "free": [POINTER(Holder)],
     "apply": [POINTER(Holder), *TEXT, POINTER(c_uint64), POINTER(Bytes)],
+    "begin": [POINTER(Holder)],
+    "rollback": [POINTER(Holder)],
+    "commit": [POINTER(Holder)],
     "save": [POINTER(Holder), POINTER(Bytes)],
     "show": [POINTER(Holder), c_uint32, POINTER(Bytes)],
     "audit": [POINTER(Holder), c_uint32, POINTER(Bytes)],
@@ -120,6 +123,8 @@ def fail(status: int, why: int) -> NoReturn:
         raise TooComplex()
     if status == MEMORY:
         raise OutOfMemory("there is no memory left")
+    if status == NO_BLOCK:
+        raise NoBlock("no block is open")
     if status == ARGUMENTS:
         raise ValueError("the library was given wrong arguments")
     raise LedgerError(f"the library answered the status {status}")

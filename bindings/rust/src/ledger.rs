@@ -135,6 +135,11 @@ impl Ledger {
         Ok(Entries(lines))
     }
 
+    /// The ledger for a call that changes it.
+    pub(crate) fn raw(&mut self) -> &mut sys::RawLedger {
+        &mut self.raw
+    }
+
     /// A holder for a call that reads the ledger, and gives it back as it was.
     pub(crate) fn holder(&self) -> sys::RawLedger {
         sys::RawLedger { own: self.raw.own }

@@ -41,6 +41,7 @@
 mod address;
 mod asked;
 mod author;
+mod block;
 mod error;
 mod ledger;
 mod line;
@@ -53,6 +54,7 @@ mod text;
 pub use address::{Address, NoAddress};
 pub use asked::{Module, ModuleName, Modules, Page, Tally, Value, Values};
 pub use author::{check, migrate, prove};
+pub use block::Block;
 pub use error::Error;
 pub use ledger::{Form, Ledger};
 pub use line::{Abort, Entry, Exhausted, Line, Struct, UnknownLine};

@@ -35,6 +35,9 @@ extern "C" {
         answered: *mut u64,
         report: *mut RawBytes,
     ) -> i32;
+    pub fn moveledger_begin(ledger: *mut RawLedger) -> i32;
+    pub fn moveledger_rollback(ledger: *mut RawLedger) -> i32;
+    pub fn moveledger_commit(ledger: *mut RawLedger) -> i32;
     pub fn moveledger_save(ledger: *mut RawLedger, saved: *mut RawBytes) -> i32;
     pub fn moveledger_show(ledger: *mut RawLedger, form: u32, lines: *mut RawBytes) -> i32;
     pub fn moveledger_audit(ledger: *mut RawLedger, form: u32, lines: *mut RawBytes) -> i32;
