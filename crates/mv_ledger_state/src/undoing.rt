@@ -47,7 +47,8 @@ impl Published {
         let tallies = &mut self.tallies;
         match blocks.marks.pop() {
             Some(mark) => {
-                take_back(&mut tallies.modules, &mut blocks.noted, mark.noted);
+                let count = mark.noted;
+                take_back(&mut tallies.modules, &mut blocks.noted, count);
                 put_back(&mut self.store, mark.store);
                 blocks.room = 0;
                 true
