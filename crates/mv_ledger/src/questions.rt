@@ -89,12 +89,7 @@ impl Ledger {
     /// The values of a struct, by ascending address from one on; None where no such struct is published. At most so many keys are looked
     /// at, of whichever structs they are, and `Page::next_address` tells where the next page goes on. The first page is that from
     /// address 0.
-    pub fn values_of(
-        &self,
-        name: &StructName<'_>,
-        from: Address,
-        most: usize,
-    ) -> Option<Page<'_>>
+    pub fn values_of(&self, name: &StructName<'_>, from: Address, most: usize) -> Option<Page<'_>>
         ensures { IsPageOf self.entry.now name.now from most result }
     {
         let published = &self.published;

@@ -332,11 +332,17 @@ fn values_of_a_struct_come_in_pages(rt: HostRuntime) -> Result<(), Fail> {
     let first = Definition { place: 0, index: 0 };
     let mut page = storage.page(first, 0, 1);
     assert_eq!(rt; page.next_address(), Some(8));
-    assert!(rt; page.next().is_some_and(|(key, words)| key == FIRST && words == [0].as_slice()));
+    assert!(rt;
+        page.next()
+            .is_some_and(|(key, words)| key == FIRST && words == [0].as_slice())
+    );
     assert!(rt; page.next().is_none());
     assert_eq!(rt; page.next_address(), Some(8));
     let mut page = storage.page(first, 8, 1);
-    assert!(rt; page.next().is_some_and(|(key, words)| key == FOURTH && words == [3].as_slice()));
+    assert!(rt;
+        page.next()
+            .is_some_and(|(key, words)| key == FOURTH && words == [3].as_slice())
+    );
     assert!(rt; page.next().is_none() && page.next_address().is_none());
     // A page of no key stays where it is, and a long one tells all.
     let mut page = storage.page(first, 8, 0);
@@ -345,7 +351,10 @@ fn values_of_a_struct_come_in_pages(rt: HostRuntime) -> Result<(), Fail> {
     let mut page = storage.page(first, 0, 100);
     assert!(rt; page.next_address().is_none());
     assert!(rt; page.next().is_some() && page.next().is_some() && page.next().is_none());
-    let last = Definition { place: u16::MAX, index: u16::MAX };
+    let last = Definition {
+        place: u16::MAX,
+        index: u16::MAX,
+    };
     let mut page = storage.page(last, 9, 1);
     assert!(rt; page.next().is_some_and(|(key, _)| key == LAST));
     assert!(rt; page.next_address().is_none());
