@@ -87,8 +87,16 @@ fn values_are_found_by_names(rt: HostRuntime) -> Result<(), Fail> {
         assert!(rt; ledger.get(1, &StructName::new(2, b"M", b"Coin")).is_none());
         assert!(rt; ledger.get(1, &StructName::new(1, b"N", b"Coin")).is_none());
         let mut values = ledger.values_at(1);
-        assert!(rt; values.next().is_some_and(|(_, words)| words == [7].as_slice()));
-        assert!(rt; values.next().is_some_and(|(_, words)| words == [8].as_slice()));
+        assert!(rt;
+            values
+                .next()
+                .is_some_and(|(_, words)| words == [7].as_slice())
+        );
+        assert!(rt;
+            values
+                .next()
+                .is_some_and(|(_, words)| words == [8].as_slice())
+        );
         assert!(rt; values.next().is_none());
         assert!(rt; ledger.values_at(3).next().is_none());
     }
@@ -101,7 +109,10 @@ fn values_of_a_struct_come_in_pages(rt: HostRuntime) -> Result<(), Fail> {
         let Some(mut page) = ledger.values_of(&named(b"Coin"), 0, 2) else {
             return Err(Fail::from("no struct is found"));
         };
-        assert!(rt; page.next().is_some_and(|(key, words)| key.address == 1 && words == [7].as_slice()));
+        assert!(rt;
+            page.next()
+                .is_some_and(|(key, words)| key.address == 1 && words == [7].as_slice())
+        );
         assert!(rt; page.next().is_none());
         assert_eq!(rt; page.next_address(), Some(2));
         assert!(rt; ledger.values_of(&named(b"Coins"), 0, 2).is_none());
@@ -114,12 +125,28 @@ fn modules_and_counts_are_told(rt: HostRuntime) -> Result<(), Fail> {
     for ledger in &ledgers(rt.alloc(), SEVERAL)? {
         assert_eq!(rt; ledger.runs(), 3);
         let mut modules = ledger.modules();
-        assert!(rt; modules.next().is_some_and(|(address, name)| address == 1 && name == b"M"));
+        assert!(rt;
+            modules
+                .next()
+                .is_some_and(|(address, name)| address == 1 && name == b"M".as_slice())
+        );
         assert!(rt; modules.next().is_none());
-        assert!(rt; ledger.module(1, b"M").is_some_and(|(text, _)| text.starts_with(&[0xa1, 0x1c, 0xeb, 0x0b])));
+        assert!(rt;
+            ledger
+                .module(1, b"M")
+                .is_some_and(|(text, _)| text.starts_with(&[0xa1, 0x1c, 0xeb, 0x0b]))
+        );
         assert!(rt; ledger.module(1, b"N").is_none() && ledger.module(2, b"M").is_none());
-        assert!(rt; ledger.tally(&named(b"Coin")).is_some_and(|tally| (tally.packs, tally.unpacks) == (2, 0)));
-        assert!(rt; ledger.tally(&named(b"Gem")).is_some_and(|tally| (tally.packs, tally.unpacks) == (1, 0)));
+        assert!(rt;
+            ledger
+                .tally(&named(b"Coin"))
+                .is_some_and(|tally| (tally.packs, tally.unpacks) == (2, 0))
+        );
+        assert!(rt;
+            ledger
+                .tally(&named(b"Gem"))
+                .is_some_and(|tally| (tally.packs, tally.unpacks) == (1, 0))
+        );
         assert!(rt; ledger.tally(&named(b"Coins")).is_none());
     }
     Ok(())
