@@ -5,7 +5,7 @@ log is cleared, alone and while records come; and how long answers stand still w
 interface, and with a delay their links, and those to the second and the third, are that long. Each figure with a bound says whether it is
 kept. All of it is in one folder, which goes, and all processes end with it.
 usage: bench/replicas.py [--parts putting,votes,clearing,saving] [--delays 0,25] [--submitters 1,8,64,300] [--seconds S] [--times N] [--alone]
-                         [--records N] [--moveledger PROGRAM]"""
+                         [--old] [--records N] [--moveledger PROGRAM]"""
 
 import argparse
 import os
@@ -18,7 +18,7 @@ import threading
 import time
 from contextlib import contextmanager
 from pathlib import Path
-from typing import Callable, Iterator, List, NamedTuple, Optional, Sequence
+from typing import Callable, Iterator, List, NamedTuple, Optional, Sequence, Tuple
 
 HERE = Path(__file__).resolve().parent
 DEPLOY = HERE.parent / "deploy"
@@ -287,10 +287,15 @@ def all_final(log: Log, last: int) -> bool:
     return bool(final.lines(last, 1)) and len(final.answered_by(last)) == len(NAMES)
 
 
+def protocols(given: argparse.Namespace, old: str) -> List[Tuple[int, str]]:
+    """The protocols that are measured, and how they are called."""
+    return [*([(3, old)] if given.old else []), (4, "by chain")]
+
+
 def votes(given: argparse.Namespace) -> None:
     """What votes take: three replicas answer a log that is there already, by votes on single records, and by chain."""
     sizes: List[float] = []
-    for protocol, how in ((3, "on single records"), (4, "by chain")):
+    for protocol, how in protocols(given, "on single records"):
         with fleet() as one:
             log = one.log("votes", protocol)
             empty = one.bytes_used()
@@ -302,7 +307,7 @@ def votes(given: argparse.Namespace) -> None:
                 time.sleep(0.2)
             took, used = time.monotonic() - began, one.processor() - used
             sizes.append((one.bytes_used() - before) / given.records)
-            bound = kept(sizes[1] * 5 <= sizes[0], "a fifth of the bytes on single records") if protocol == 4 else ""
+            bound = kept(sizes[1] * 5 <= sizes[0], "a fifth of the bytes on single records") if len(sizes) > 1 else ""
             tell(Figure(f"votes {how}: bytes a record, of three replicas", f"{sizes[-1]:8.0f}", bound),
                  Figure(f"votes {how}: processor time of the nodes for 100,000", f"{used * 1e5 / given.records:8.1f} s"),
                  Figure(f"votes {how}: records a second until all three have answered", f"{given.records / took:8.0f}"))
@@ -339,7 +344,7 @@ def agreed(log: Log, number: int) -> None:
 
 def clearing(given: argparse.Namespace) -> None:
     """Records cleared a second, alone and while records come."""
-    for protocol, how in ((3, "as before"), (4, "by chain")):
+    for protocol, how in protocols(given, "as before"):
         with fleet() as one:
             count = given.records if protocol == 4 else min(given.records, 5_000)
             log = one.log("clear", protocol)
@@ -452,6 +457,7 @@ def words() -> argparse.Namespace:
     parser.add_argument("--seconds", type=float, default=4.0, help="for each measurement of putting")
     parser.add_argument("--times", type=positive_number, default=3, help="how often putting is measured: the middle one counts")
     parser.add_argument("--alone", action="store_true", help="measures submitters that put by themselves, too")
+    parser.add_argument("--old", action="store_true", help="measures votes and clears by the protocol before, too")
     parser.add_argument("--records", type=positive_number, default=20_000, help="for votes and clearing")
     parser.add_argument("--stored", type=positive_number, default=12, help="how many times 8 MB the ledger of `saving` has")
     parser.add_argument("--moveledger", default=os.environ.get("MOVELEDGER") or own_program())

@@ -1,5 +1,5 @@
-"""Which lines are final, as a reader finds it: those on one chain of which a majority has a point at or behind them. What a minority tells
-is another chain, which never gets there."""
+"""Which lines are final, as a reader finds it: those on one chain of which a majority has a point at or behind them, or which an earlier set
+of replicas has made final. What a minority tells is another chain, which never gets there."""
 
 import time
 from typing import Dict, Iterable, List, NamedTuple, Optional, Tuple
@@ -18,11 +18,13 @@ REMEMBERED_SECONDS = 1.0
 # Of a chain that is walked, the digests at so many of its last records are known.
 KEPT_DIGESTS = 2 * MOST_TOLD
 ChainVotes = Dict[str, ChainVote]
+# In the place of a replica's name: an earlier set, by the point up to which it has made lines final.
+EARLIER = ""
 
 
 class Walked(NamedTuple):
     """A chain that is read from its begin on: the digests at its last records, the lines that are wanted, and up to where replicas are on
-    it."""
+    it, and an earlier set; where that isn't, the number is negative."""
 
     digests: Dict[int, bytes]
     lines: Dict[int, bytes]
@@ -35,25 +37,29 @@ class Walked(NamedTuple):
         """The same chain as far as a record."""
         return Walked({at: one for at, one in self.digests.items() if at <= number},
                       {at: one for at, one in self.lines.items() if at <= number},
-                      {name: at for name, at in self.on.items() if at <= number})
+                      {name: at for name, at in self.on.items() if abs(at) <= number})
 
     def final(self, size: int) -> int:
-        """Up to where a majority of a set of this size is on it; 0 where none is."""
-        furthest = sorted(self.on.values(), reverse=True)
-        return furthest[size // 2] if len(furthest) > size // 2 else 0
+        """Up to where a majority of a set of this size is on it, or an earlier set; 0 where none is."""
+        earlier = self.on.get(EARLIER, 0)
+        furthest = sorted((at for name, at in self.on.items() if name != EARLIER), reverse=True)
+        voted = furthest[size // 2] if len(furthest) > size // 2 else 0
+        return max(voted, earlier) if earlier >= 0 else 0
 
 
 class Walk:
     """One reading of what replicas have told, for lines from a record on."""
 
-    def __init__(self, votes: ChainVotes, wanted: range) -> None:
+    def __init__(self, votes: ChainVotes, wanted: range, earlier: Optional[Point] = None) -> None:
+        """`earlier` is the last point that an earlier set of replicas made final."""
         self.wanted = wanted
+        self.earlier = earlier
         self.chains: List[Walked] = []
         self.points: Dict[int, List[Tuple[str, bytes]]] = {}
         for name, vote in votes.items():
             for point in vote.points():
                 self.points.setdefault(point.number, []).append((name, point.digest))
-        self.furthest = max(self.points, default=0)
+        self.furthest = max([*self.points, earlier.number if earlier else 0], default=0)
 
     def take(self, told: Told) -> None:
         """Takes lines, those of smaller numbers first."""
@@ -82,6 +88,8 @@ class Walk:
         for name, digest in self.points.get(end.number, ()):
             if digest == end.digest:
                 chain.on[name] = end.number
+        if self.earlier is not None and end.number == self.earlier.number:
+            chain.on[EARLIER] = end.number if end.digest == self.earlier.digest else -end.number
 
     def is_over(self, next_key: bytes) -> bool:
         """Whether what is told from a key on changes nothing any more."""
@@ -149,7 +157,7 @@ class Final:
             _, found, revision = self.etcd.transacted([], asked + ranges, [])
             if walk is None:
                 self.revision = revision
-                walk = Walk(votes_of_entries(self.replicas, found), range(first, first + count))
+                walk = Walk(votes_of_entries(self.replicas, found), range(first, first + count), self.settings.point())
                 self.remember(first, dict(zip(list(starts), found[len(asked):])))
             pages = dict(zip(list(starts), found[len(asked):]))
             asked = []
@@ -166,17 +174,31 @@ class Final:
         if time.monotonic() > self.begins_until:
             self.begins, self.begins_until = {}, time.monotonic() + REMEMBERED_SECONDS
         found: Dict[str, bytes] = {}
-        for name in self.replicas:
+        for name in self.tellers(first):
             known = self.begins.get(name, b"")
             least = self.keys.vote(name, TOLD, max(1, first - MOST_TOLD + 1))
             found[name] = max(least, known) if known <= self.keys.vote(name, TOLD, first) else least
         return found
+
+    def tellers(self, first: int) -> List[str]:
+        """Those who may have told lines from a record on."""
+        former = self.settings.former
+        return [*self.replicas, *(name for name, last in former.items() if last >= first and name not in self.replicas)]
 
     def remember(self, first: int, pages: Dict[str, List[Entry]]) -> None:
         for name, entries in pages.items():
             before = [entry.key for entry in entries if entry.key <= self.keys.vote(name, TOLD, first) and told_in(entry) is not None]
             if before:
                 self.begins[name] = before[-1]
+
+    def last(self, votes: ChainVotes, most: int) -> Optional[Point]:
+        """The last point up to this record that is final, by these votes or an earlier set; None where there is none."""
+        numbers = {point.number for vote in votes.values() for point in vote.points()}
+        for number in sorted((at for at in numbers if self.settings.chained < at <= most), reverse=True):
+            walked = self.walked(number, 1)
+            if walked is not None and number in walked.digests:
+                return Point(number, walked.digests[number])
+        return self.settings.point()
 
     def answered_by(self, number: int) -> List[str]:
         """Who of the set says that it has answered a record, alike or not."""

@@ -359,13 +359,17 @@ class Replica:
         is_chained_now = settings.is_chaining() and not self.settings.is_chaining()
         self.settings, self.votes.rules = settings, rules
         self.votes.carry(settings)
+        if self.voting is not None and self.voting.is_stopped != bool(settings.changing):
+            self.voting.is_stopped = bool(settings.changing)
+            self.tell(f"the log is being changed, {settings.changing}: no votes meanwhile" if settings.changing else "votes go on")
         if settings.replicas != self.votes.replicas:
             self.tell(f"the log's set of replicas is {', '.join(settings.replicas)} now")
             self.votes.replicas = settings.replicas
             self.votes.own = self.plan.name if self.plan.name in settings.replicas else None
             self.status.is_counted = self.votes.own is not None
-            self.voting = self.new_voting()
             self.say_itself()
+        if self.voting is not None and self.voting.is_of_others(settings):
+            self.voting = self.new_voting()
         for one in sorted(new):
             self.tell(f"record {one} is to be skipped: {settings.skips[one]}")
         if is_chained_now:

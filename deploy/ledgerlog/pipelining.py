@@ -112,8 +112,6 @@ class Pipeline:
         # The last one that was taken, while it isn't on its way yet; when it was; and the mean of what one takes.
         self.leaving: Optional[Flight] = None
         self.sent = self.mean = 0.0
-        # Up to which number it is known that what was on its way is put.
-        self.put_up_to = 0
         self.least = LEAST_SECONDS
         self.most_gathered, self.most_operations = MOST_GATHERED, MOST_AT_ONCE
         # What the last one on its way will leave: the last number, None where it isn't known, and what submitters will have put; and what
@@ -332,7 +330,6 @@ class Pipeline:
             if self.leaving is flight:
                 self.leaving = None
             if flight.is_done:
-                self.put_up_to = max(self.put_up_to, flight.batch.end)
                 self.mean += NEWEST_PART * (flight.seconds - self.mean) if self.mean else flight.seconds
             else:
                 self.failed.append(flight)
@@ -341,7 +338,7 @@ class Pipeline:
     def settle(self, failed: List[Flight]) -> None:
         """Begins anew: tells what is known of those that failed, and has the rest go again."""
         failed.sort(key=lambda one: one.batch.first)
-        if all(flight.error is None for flight in failed) and failed[0].behind and failed[0].batch.last == self.put_up_to:
+        if all(flight.error is None for flight in failed) and failed[0].behind:
             self.send_again(failed)
             return
         self.forget()
@@ -361,7 +358,7 @@ class Pipeline:
             tell(again, error_of(why))
 
     def send_again(self, failed: List[Flight]) -> None:
-        """Has those go again of which the first came before the one before it, which is put by now: nothing needs to be read for that."""
+        """Has those go again of which the first came before the one before it, most likely. That one hasn't failed: it is put by now."""
         self.last = failed[0].batch.last
         for flight in reversed(failed):
             self.used.update(flight.batch.used)

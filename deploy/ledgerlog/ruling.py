@@ -1,28 +1,73 @@
 """Changes of what the log says of itself, which all replicas follow."""
 
-from typing import Dict, List, Tuple
+from typing import Dict, List, Sequence, Tuple
 
-from .chains import vote_in
 from .errors import LogError
+from .final import ChainVotes, Final, votes_of_entries
 from .keys import LINES, PROTOCOL as PROTOCOL_KEY, SAVED, VOTE, numbered
 from .log import Log
 from .requests import Body, equal, get, put, unchanged, value_of
-from .settings import CHAINING_PROTOCOL, SKIPPING_PROTOCOL, Agreed, Limit, Settings
+from .settings import CHAINING_PROTOCOL, SKIPPING_PROTOCOL, Agreed, Limit, Settings, Settled
 from .votes import Vote, Votes, votes_in
 
 # How often a change is tried that has to come between two records.
 MOST_TRIES = 100
 
 
-def exchange(log: Log, changed: int, new: Settings) -> None:
-    """Puts new settings where those of a change still stand. LogError where someone else has put others."""
-    if not log.etcd.transact([unchanged(log.keys.log, changed)], [put(log.keys.log, new.text())], [])[0]:
+def check_still(settings: Settings) -> None:
+    """LogError where what the log says of itself is just being changed."""
+    if settings.changing:
+        raise LogError(f"the log is just being changed, {settings.changing}: try again; if that has ended halfway, `log set --take-over` "
+                       "lets its replicas vote again")
+
+
+def exchange(log: Log, changed: int, new: Settings, *compare: Body) -> int:
+    """Puts new settings where those of a change still stand. The change that has put them; 0 where what is compared beside doesn't hold.
+    LogError where someone else has put others."""
+    done, _, revision = log.etcd.transacted([unchanged(log.keys.log, changed), *compare], [put(log.keys.log, new.text())], [])
+    if done:
+        return revision
+    there = log.etcd.entry(log.keys.log)
+    if there is not None and there.changed == changed:
+        return 0
+    # It may be done by this one, whose answer got lost.
+    if there is None or there.value != new.text():
         raise LogError("what the log says of itself was changed meanwhile: try again")
+    return there.changed
 
 
 def change_set(log: Log, changed: int, old: Settings, new: Settings) -> None:
-    """Puts settings with another set of replicas, and with the save that the old set has agreed on. LogError where the log is cleared and
-    none of the new set has put such a save from there on, nor a majority of it the same one: nobody could answer the records behind it."""
+    """Puts settings with another set of replicas, with the save that the old set has agreed on, and with what it has made final: votes stand
+    still meanwhile, so that nothing becomes final beside it. LogError as `with_agreed`, and where the votes don't stand still."""
+    check_still(old)
+    if not old.is_chaining():
+        exchange(log, changed, with_agreed(log, old, new))
+        return
+    changed = exchange(log, changed, old._replace(changing=f"the set to {','.join(new.replicas)}"))
+    try:
+        for _ in range(MOST_TRIES):
+            votes, compare = chain_votes_now(log, old.replicas)
+            there = with_final(log, old, with_agreed(log, old, new), votes)
+            if exchange(log, changed, there, *compare):
+                return
+        raise LogError("replicas vote on, though the log is being changed: upgrade deploy/ on the machines of all")
+    except LogError:
+        exchange(log, changed, old)
+        raise
+
+
+def with_final(log: Log, old: Settings, new: Settings, votes: ChainVotes) -> Settings:
+    """Settings of another set, with what the old one has made final by these votes, and whose lines are to be read still."""
+    end, cleared = log.last(), log.cleared()
+    last = Final(log.etcd, log.keys, old).last(votes, end)
+    told = {**old.former, **{name: min(vote.own, end) for name, vote in votes.items()}}
+    return new._replace(settled=Settled(last.number, last.digest.hex()) if last else None,
+                        former={name: number for name, number in told.items() if name not in new.replicas and number > cleared})
+
+
+def with_agreed(log: Log, old: Settings, new: Settings) -> Settings:
+    """Settings of another set, with the save that the old one has agreed on. LogError where the log is cleared and none of the new set has
+    put such a save from there on, nor a majority of it the same one: nobody could answer the records behind it."""
     votes = votes_in(log.etcd, log.keys, old)
     cleared, saves = log.cleared(), list(votes.agreed_saves(log.last()))
     both = Votes(log.etcd, log.keys, sorted({*old.replicas, *new.replicas}))
@@ -36,7 +81,7 @@ def change_set(log: Log, changed: int, old: Settings, new: Settings) -> None:
         raise LogError(f"the log is cleared up to record {cleared}, and none of {', '.join(new.replicas)} has put an agreed save from "
                        f"there on: {do}")
     best = max([*carried, *([Vote(old.agreed.number, old.agreed.value.encode())] if old.agreed else [])], default=None)
-    exchange(log, changed, new._replace(agreed=Agreed(best.number, best.value.decode("ascii", "replace")) if best else None))
+    return new._replace(agreed=Agreed(best.number, best.value.decode("ascii", "replace")) if best else None)
 
 
 def with_skipping(settings: Settings) -> Settings:
@@ -46,6 +91,7 @@ def with_skipping(settings: Settings) -> Settings:
 
 def put_limit(log: Log, changed: int, settings: Settings, size: int, budget: int) -> None:
     """Puts settings with a limit that holds from the next record on: what is put already keeps its answer."""
+    check_still(settings)
     for _ in range(MOST_TRIES):
         last = log.last()
         limit = Limit(last + 1, size, budget)
@@ -63,6 +109,9 @@ def skip_record(log: Log, number: int, reason: str) -> None:
     """Has all replicas skip a record. LogError where it isn't in the log, or a majority has answered it: its lines, or those of a record
     behind it, may be final."""
     settings, changed = log.settings_at()
+    check_still(settings)
+    if settings.settled and number <= settings.settled.number:
+        raise LogError(f"record {number} was answered by an earlier set of replicas: what is final isn't skipped any more")
     if number in settings.skips:
         raise LogError(f"record {number} is skipped already: {settings.skips[number]}")
     if not log.cleared() < number <= log.last():
@@ -86,17 +135,22 @@ def votes_on(log: Log, settings: Settings, number: int) -> Tuple[List[str], List
     if not settings.is_chaining() or number <= settings.chained:
         votes = Votes(log.etcd, log.keys, settings.replicas).of(LINES, number)
         return list(votes), [equal(log.keys.vote(name, LINES, number), votes.get(name)) for name in settings.replicas]
-    keys = [log.keys.own(name, VOTE) for name in settings.replicas]
+    said, compare = chain_votes_now(log, settings.replicas)
+    return [name for name, vote in said.items() if vote.made.number >= number], compare
+
+
+def chain_votes_now(log: Log, names: Sequence[str]) -> Tuple[ChainVotes, List[Body]]:
+    """The votes of replicas by chain, and comparisons that hold as long as none of them votes again."""
+    keys = [log.keys.own(name, VOTE) for name in names]
     found = log.etcd.transact([], [get(key) for key in keys], [])[1]
-    said = [(name, vote_in(value_of(entries))) for name, entries in zip(settings.replicas, found)]
-    compare = [unchanged(key, entries[0].changed if entries else 0) for key, entries in zip(keys, found)]
-    return [name for name, vote in said if vote is not None and vote.made.number >= number], compare
+    return votes_of_entries(names, found), [unchanged(key, entries[0].changed if entries else 0) for key, entries in zip(keys, found)]
 
 
 def upgrade(log: Log) -> Settings:
     """Has all go by the newest protocol from the newest agreed save on. LogError where they do already, or a replica of the set doesn't know
     it."""
     settings, changed = log.settings_at()
+    check_still(settings)
     if settings.is_chaining():
         raise LogError(f"the log goes by protocol {settings.protocol} already")
     asked = [get(log.keys.own(name, PROTOCOL_KEY)) for name in settings.replicas]

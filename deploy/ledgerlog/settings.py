@@ -1,9 +1,11 @@
 """What a log says of itself: its id, its set of replicas, and what they and the submitters go by."""
 
 import json
+import re
 import secrets
 from typing import Any, Callable, Dict, NamedTuple, Optional, Tuple
 
+from .chains import Point
 from .errors import LogError, OtherProtocol
 from .records import budget_of
 
@@ -49,9 +51,21 @@ class Agreed(NamedTuple):
     value: str
 
 
+class Settled(NamedTuple):
+    """What an earlier set of replicas made final: the number of the last record, and the digest of the lines there, in hexadecimal."""
+
+    number: int
+    digest: str
+
+    def point(self) -> Point:
+        return Point(self.number, bytes.fromhex(self.digest))
+
+
 class Settings(NamedTuple):
     """What stands under NAME/log. `room` and `quota` are bytes; 0 is no limit. Records and ids are kept for so many `hours`. The lines of
-    the records behind `chained` are chained. `more` is what this code doesn't know: it is kept."""
+    the records behind `chained` are chained. `former` has replicas of earlier sets, and up to which record
+    they may have told lines that no other has told. While something is `changing`, no replica votes. `more` is what this code doesn't know:
+    it is kept."""
 
     id: str
     replicas: Tuple[str, ...]
@@ -66,6 +80,9 @@ class Settings(NamedTuple):
     skips: Dict[int, str] = {}
     agreed: Optional[Agreed] = None
     chained: int = 0
+    settled: Optional[Settled] = None
+    former: Dict[str, int] = {}
+    changing: str = ""
     more: Dict[str, Any] = {}
 
     def is_chaining(self) -> bool:
@@ -90,6 +107,10 @@ class Settings(NamedTuple):
         """Whether a ledger that was saved after this record of that log goes on in this one."""
         return log_id == self.id or any(one.id == log_id and number <= one.last for one in self.past)
 
+    def point(self) -> Optional[Point]:
+        """The last point that an earlier set of replicas made final."""
+        return self.settled.point() if self.settled else None
+
     def knows(self, log_id: str) -> bool:
         return log_id == self.id or any(one.id == log_id for one in self.past)
 
@@ -111,7 +132,7 @@ class Settings(NamedTuple):
 
 
 # The fields that came later.
-LATER = ("protocol", "hours", "limits", "skips", "agreed", "chained")
+LATER = ("protocol", "hours", "limits", "skips", "agreed", "chained", "settled", "former", "changing")
 
 
 def new_id() -> str:
@@ -123,6 +144,13 @@ def number(value: Any, least: int = 0) -> int:
     if type(value) is not int or value < least:
         raise ValueError(f"{value!r} is no number from {least} on")
     return value
+
+
+def digest(value: Any) -> str:
+    """A digest in hexadecimal. ValueError where it is none."""
+    if not re.fullmatch("[0-9a-f]{64}", value):
+        raise ValueError(f"{value!r} is no digest")
+    return str(value)
 
 
 READ: Dict[str, Callable[[Any], Any]] = {
@@ -138,7 +166,10 @@ READ: Dict[str, Callable[[Any], Any]] = {
     "limits": lambda value: tuple(Limit(number(first, 1), number(size), number(budget)) for first, size, budget in value),
     "skips": lambda value: {number(int(which), 1): str(why) for which, why in value.items()},
     "agreed": lambda value: Agreed(number(value[0], 1), str(value[1])),
-    "chained": number}
+    "chained": number,
+    "settled": lambda value: Settled(number(value[0], 1), digest(value[1])),
+    "former": lambda value: {str(who): number(last, 1) for who, last in value.items()},
+    "changing": str}
 
 
 def settings_of(text: bytes) -> Settings:

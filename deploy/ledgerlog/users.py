@@ -80,6 +80,19 @@ def change_passwords(etcd: Etcd, keys: Keys, folder: str) -> List[str]:
     return changed
 
 
+def make_user(etcd: Etcd, user: str, path: str) -> None:
+    """Makes a user, and writes its password into a file. LogError, and no file, where it is there already, unless it has no role: then it was
+    made by this, and the answer got lost."""
+    password = new_password(path)
+    try:
+        etcd.ask("/v3/auth/user/add", {"name": user, "password": password})
+    except LogError as why:
+        if "already exists" not in str(why) or etcd.ask("/v3/auth/user/get", {"name": user}).get("roles"):
+            os.remove(path)
+            raise
+        etcd.ask("/v3/auth/user/changepw", {"name": user, "password": password})
+
+
 def make_users(etcd: Etcd, keys: Keys, replicas: List[str], folder: str) -> List[str]:
     """Makes what isn't there: a role and a user of the same name for each, and root. The users that were made. A user whose
     password is in the folder already is left as it is."""
@@ -90,8 +103,7 @@ def make_users(etcd: Etcd, keys: Keys, replicas: List[str], folder: str) -> List
         make_role(etcd, role, grants)
         if os.path.exists(os.path.join(folder, f"{role}.password")):
             continue
-        password = new_password(os.path.join(folder, f"{role}.password"))
-        etcd.ask("/v3/auth/user/add", {"name": role, "password": password})
+        make_user(etcd, role, os.path.join(folder, f"{role}.password"))
         etcd.ask("/v3/auth/user/grant", {"user": role, "role": role})
         made.append(role)
     etcd.ask("/v3/auth/enable", {})

@@ -10,6 +10,7 @@ from .errors import Differs
 from .final import Final
 from .keys import LINES, TOLD, VOTE
 from .requests import Body, Entry, get_range, put, unchanged
+from .settings import Settings
 from .votes import Votes
 
 # Another one tells lines when nobody has for so long.
@@ -44,10 +45,15 @@ class Voting:
         # Up to which record it is known that this replica didn't vote otherwise before lines were chained.
         self.checked = chain.begins
         self.told, self.told_moved = 0, time.monotonic()
+        # While the log's rules change, nobody votes.
+        self.is_stopped = bool(final.settings.changing)
 
     def see(self, entries: Dict[str, Entry], last: int) -> None:
         """Takes the votes of the set as they were at one moment, when the log had this last record, and compares them. What says more than
-        that is no vote. Differs where what is final isn't what this one made."""
+        that is no vote. Differs where what is final isn't what this one made, or what an earlier set made final isn't."""
+        settled = self.final.settings.point()
+        if settled is not None and self.chain.has(settled) is False:
+            raise Differs(f"{WHAT[LINES]} {settled.number}, or of one before: an earlier set of replicas made others final than this one made")
         self.entries = entries
         found = {name: vote_in(entry.value) for name, entry in entries.items()}
         self.votes = {name: vote for name, vote in found.items()
@@ -120,6 +126,14 @@ class Voting:
                     return number, lines
         return None
 
+    def is_of_others(self, settings: Settings) -> bool:
+        """Whether these settings name another set than the one whose votes these are, or more that an earlier one made final."""
+        return (settings.replicas, settings.settled) != (self.replicas, self.final.settings.settled)
+
+    def settled(self) -> int:
+        """Up to where an earlier set of replicas made lines final, so that no vote is needed."""
+        return self.final.settings.settled.number if self.final.settings.settled else 0
+
     def known(self) -> int:
         """Up to where others have told lines that this one made too."""
         found = self.chain.begins
@@ -176,7 +190,7 @@ class Voting:
         """Votes for all that was made, and tells what is to be told, by the log's settings of this change. False where that is to be tried
         again with newer votes, or nothing may be put yet."""
         end = self.chain.end
-        if self.own is None:
+        if self.own is None or self.is_stopped or end.number < self.settled():
             return True
         entry = self.entries.get(self.own)
         own = self.votes.get(self.own)

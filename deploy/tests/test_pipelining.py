@@ -12,6 +12,7 @@ from ledgerlog.gathering import Writer
 from ledgerlog.log import Log, Offer
 from ledgerlog.pipelining import MOST_FLYING, Flight, Pipeline, Wanted
 from ledgerlog.requests import Body, Entry
+from ledgerlog.settings import Settings
 from ledgerlog.written import head_of
 
 from .served import Served
@@ -19,7 +20,7 @@ from .store import Store, made_log, run
 
 Told = Tuple[bool, List[List[Entry]]]
 # More than any machine takes.
-DEADLINE = 120.0
+DEADLINE = 600.0
 
 
 class Refusing(Store):
@@ -154,8 +155,11 @@ class OnTheirWay(unittest.TestCase):
         one, two, three = self.flights("ab cd ef")
         self.answered(two, one, three)
         self.want("gh")
-        self.flights("cd ef gh")
+        again = self.flights("cd ef gh")
         self.assertEqual(self.told, {"a": 1, "b": 2})
+        self.answered(*again)
+        self.assertTrue(all(flight.is_done for flight in again))
+        self.check("abcdefgh")
 
     def test_nothing_goes_behind_one_that_failed_until_all_have_ended(self) -> None:
         self.want("abcdef")
@@ -169,6 +173,22 @@ class OnTheirWay(unittest.TestCase):
         self.answered(three)
         self.rest()
         self.check("zabcdefg", "abcdefg")
+
+    def test_one_that_fails_while_the_next_is_made_keeps_it_back(self) -> None:
+        self.want("ab")
+        one, = self.flights("ab")
+        self.want("cd")
+
+        def rules() -> Settings:
+            if self.pipeline.flying:
+                self.answered(one, by=Refusing())
+            return self.log.settings()
+
+        self.pipeline.rules = rules
+        self.assertIsNone(self.pipeline.take())
+        self.assertEqual([one.offer.id for one in self.pipeline.wanted], ["c", "d"])
+        self.rest()
+        self.check("cd")
 
     def test_one_is_refused_in_the_middle(self) -> None:
         self.want("abcdef")
@@ -279,6 +299,7 @@ class OnTheirWay(unittest.TestCase):
         self.want("de", "rich")
         two, three = self.flights("d e")
         self.assertNotIn("c", self.told)
+        self.assertEqual(self.pipeline.held, {"poor"})
         self.answered(one, by=Refusing())
         self.answered(two, three)
         self.rest()
@@ -494,6 +515,27 @@ class Hanging(Served):
         return super().answered(store, path, body)
 
 
+class Waiting(Served):
+    """A node that answers nobody who puts until so many transactions that put have come."""
+
+    def __init__(self, store: Store, count: int) -> None:
+        self.count = count
+        self.come: Set[str] = set()
+        self.changed = threading.Condition()
+        super().__init__(store)
+
+    def answered(self, store: Store, path: str, body: Dict[str, Any]) -> Dict[str, Any]:
+        told = super().answered(store, path, body)
+        keys = [one["request_put"]["key"] for one in body.get("success", ()) if "request_put" in one]
+        if keys:
+            with self.changed:
+                # The same one that is asked again is none more.
+                self.come.add(keys[0])
+                self.changed.notify_all()
+                self.changed.wait_for(lambda: len(self.come) >= self.count, DEADLINE)
+        return told
+
+
 class Threads(unittest.TestCase):
     """Writers with their threads, over nodes and over a store."""
 
@@ -537,6 +579,18 @@ class Threads(unittest.TestCase):
                 self.assertEqual(ids_in(self.log), names)
                 for node in nodes:
                     node.close()
+
+    def test_several_are_on_their_way_before_the_first_is_answered(self) -> None:
+        node = Waiting(self.store, 3)
+        writer = self.writer(Etcd([node.address], DEADLINE), 2)
+        names = [f"x{at:02}" for at in range(30)]
+        for at, name in enumerate(names):
+            writer.want(Wanted(Offer(name, run(at)), "s", partial(self.told.setdefault, name)))
+        writer.start()
+        self.all_told(names)
+        self.assertEqual(ids_in(self.log), names)
+        writer.stop()
+        node.close()
 
     def test_two_services_put_at_once_beside_a_third_writer(self) -> None:
         writers = [self.writer(self.store, 5) for _ in range(2)]

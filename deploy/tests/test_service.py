@@ -12,7 +12,7 @@ from ledgerlog.errors import Unreachable
 from ledgerlog.etcd import Access
 from ledgerlog.keys import LINES
 from ledgerlog.log import Log, Offer
-from ledgerlog.pipelining import Pipeline, Wanted
+from ledgerlog.pipelining import Flight, Pipeline, Wanted
 from ledgerlog.service import Port, Service
 from ledgerlog.written import INLINE_BYTES
 
@@ -61,16 +61,16 @@ class Serving(unittest.TestCase):
         return [told[at] for at in range(len(calls))]
 
     def let_go_where_waiting(self, count: int) -> None:
-        """Has the service put nothing more until so many wait beside those that it puts then."""
-        writer = self.service.writer
-        real = writer.put
+        """Has the service put nothing until so many wait."""
+        pipeline = self.service.writer.pipeline
+        real = pipeline.take
 
-        def put(batch: List[Wanted]) -> None:
-            until(lambda: writer.waiting.qsize() >= count)
-            setattr(writer, "put", real)
-            real(batch)
+        def take() -> Optional[Flight]:
+            until(lambda: len(pipeline.wanted) >= count)
+            setattr(pipeline, "take", real)
+            return real()
 
-        setattr(writer, "put", put)
+        setattr(pipeline, "take", take)
 
     def test_many_at_once_get_a_number_each_in_few_transactions(self) -> None:
         ledgers = [self.ledger(f"s{at % 20}") for at in range(40)]

@@ -9,7 +9,7 @@ from ledgerlog.errors import LogError
 from ledgerlog.etcd import Access
 from ledgerlog.keys import Keys
 from ledgerlog.requests import Body
-from ledgerlog.users import change_passwords
+from ledgerlog.users import change_passwords, make_user
 
 from .store import Store, fill, made_log
 from .test_etcd import GOOD, OverNodes
@@ -80,6 +80,29 @@ class Passwords(OverNodes):
             new = file.read().strip()
         change_passwords(Asked(), Keys("L"), self.folder)
         self.assertEqual(self.read("L-keeper"), new)
+
+    def test_a_user_whose_making_was_answered_late_is_made_once(self) -> None:
+        rows: List[Tuple[List[str], bool]] = [([], True), (["x"], False)]
+        for roles, is_made in rows:
+            path = self.path(f"user{len(roles)}")
+            etcd = Asked()
+            real = etcd.ask
+
+            def there(asked: str, body: Body, roles: List[str] = roles) -> Body:
+                real(asked, body)
+                if asked.endswith("user/add"):
+                    raise LogError("etcdserver: user name already exists")
+                return {"roles": roles}
+
+            setattr(etcd, "ask", there)
+            if is_made:
+                make_user(etcd, "x", path)
+                self.assertEqual(etcd.asked[-1][0], "/v3/auth/user/changepw")
+                self.assertEqual(etcd.asked[-1][1]["password"], self.read("user0"))
+            else:
+                with self.assertRaisesRegex(LogError, "already exists"):
+                    make_user(etcd, "x", path)
+            self.assertEqual(os.path.exists(path), is_made)
 
     def test_a_password_that_changes_is_read_again(self) -> None:
         path = self.write("me", "old")

@@ -118,7 +118,7 @@ def verified(stage: Stage) -> str:
 def newcomer(stage: Stage) -> str:
     """A replica outside the set follows, and one that is handed a save is there at once."""
     folder = stage.folder / "handed"
-    handed = int(done("snapshot", *stage.words("reader"), stage.replicas["first"].folder, folder))
+    handed = int(done("snapshot", *stage.words("reader"), stage.with_agreed_save().folder, folder))
     one = stage.replica("handed", folder=folder)
     took = one.comes_back(stage.log.last(), PATIENCE)
     if "isn't in the log's set" not in one.told():

@@ -11,7 +11,7 @@ from .processes import Failed, Node, done, until
 from .stage import PATIENCE, Place, Stage
 
 LOOK = 4
-MEMBER_SECONDS = 60.0
+MEMBER_SECONDS = 600.0
 
 
 def etcdctl(place: Place, *words: object) -> str:

@@ -11,7 +11,7 @@ from typing import Callable, List, Optional
 
 from .processes import Failed, Node, ReplicaProcess, until
 
-WAIT_SECONDS = 120.0
+WAIT_SECONDS = 600.0
 NODE_DOWN_SECONDS = 1.5
 # For so long a replica stands still. It is longer than what a node waits for an answer.
 PAUSE_SECONDS = 3.0

@@ -94,8 +94,7 @@ def at_quota(stage: Stage) -> str:
     stage.all_answered(last)
     for name in ("first", "second"):
         stage.saved(name, last // stage.every * stage.every)
-    cleared = until(lambda: "cleared up to record 0" not in (told := done("log", *stage.words("keeper"), "clear", "--keep", "10"))
-                    and told, PATIENCE, "a majority has a save behind which is cleared")
+    cleared = stage.clear(10, stage.every)
     stage.submit(record, *options)
     keys = stage.log.etcd.count(stage.log.keys.records)
     if keys > stage.every + 30 or stage.log.etcd.count(stage.log.keys.ids) != keys:
@@ -105,8 +104,8 @@ def at_quota(stage: Stage) -> str:
 
 def behind_the_clearing(stage: Stage) -> str:
     """A replica that begins with a save of another one goes on from there."""
-    fresh = stage.replica("fresh")
-    done("snapshot", *stage.words("reader"), stage.replicas["first"].folder, fresh.folder)
+    given, fresh = stage.with_agreed_save(), stage.replica("fresh")
+    done("snapshot", *stage.words("reader"), given.folder, fresh.folder)
     fresh.comes_back(stage.log.last(), PATIENCE)
     fresh.kill()
     del stage.replicas["fresh"]
@@ -151,6 +150,7 @@ def filled(stage: Stage) -> List[str]:
     replica.start()
     said = replica.says("the log is full", before)
     first = done("log", *stage.words("keeper"), "room")
+    stage.with_agreed_save()
     cleared = [done("log", *stage.words("keeper"), "clear") for _ in range(2)]
     second = done("log", *stage.words("keeper"), "room")
     stage.all_answered(stage.feed(20))

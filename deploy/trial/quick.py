@@ -4,7 +4,6 @@ from typing import List
 
 from .checking import check_whole
 from .hanging import two_pause
-from .processes import Failed, done
 from .stage import NAMES, Stage
 
 
@@ -29,9 +28,7 @@ def cleared(stage: Stage) -> str:
     last = stage.feed(2 * stage.every)
     for name in NAMES:
         stage.saved(name, last - stage.every)
-    told = done("log", *stage.words("keeper"), "clear", "--keep", 10, says="cleared up to record")
-    if stage.log.cleared() == 0:
-        raise Failed(f"nothing was cleared: {told}")
+    told = stage.clear(10)
     stage.all_answered(stage.feed(10))
     stage.check_running()
     stage.verify()

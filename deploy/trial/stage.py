@@ -7,6 +7,7 @@ from typing import Dict, List, NamedTuple, Optional, Sequence, Tuple
 from ledgerlog.etcd import Access, Etcd
 from ledgerlog.final import Final
 from ledgerlog.log import Log, Offer
+from ledgerlog.votes import votes_in
 
 from .given import Given
 from .processes import NODES, PATIENCE, Node, ReplicaProcess, command, done, end_all, free_ports, until
@@ -144,9 +145,31 @@ class Stage:
         for name in names or tuple(self.replicas):
             self.replicas[name].check()
 
+    def with_agreed_save(self) -> ReplicaProcess:
+        """Waits until a replica has the newest save that a majority has put: those that save at other records don't."""
+        def found() -> Optional[ReplicaProcess]:
+            settings = self.log.settings()
+            agreed = votes_in(self.log.etcd, self.log.keys, settings).newest_agreed_save(self.log.last())
+            having = [one for one in self.replicas.values() if agreed and any(save.number == agreed.number for save in one.saves())]
+            return having[0] if having else None
+
+        one: ReplicaProcess = until(found, PATIENCE, "a replica has the newest save that a majority has put")
+        return one
+
+    def clear(self, keep: int, most: Optional[int] = None) -> str:
+        """Clears the log, when a majority has a save behind which something is cleared, and so much that at most so many records are left.
+        What that says."""
+        def told() -> str:
+            it = command("log", *self.words("keeper"), "clear", "--keep", keep)
+            is_enough = self.log.cleared() > 0 and (most is None or self.log.last() - self.log.cleared() <= most)
+            return it.stdout.decode().strip() if it.returncode == 0 and is_enough else ""
+
+        return str(until(told, PATIENCE, "a majority has a save behind which is cleared"))
+
     def verify(self, status: int = 0, says: str = "nothing differs") -> str:
-        """Has the whole log answered again."""
-        words = ["--verify", *self.words("reader"), "--moveledger", self.program, self.folder / NAMES[0]]
+        """Has the whole log answered again, or what isn't cleared of it."""
+        folder = self.with_agreed_save().folder if self.log.cleared() else self.folder / NAMES[0]
+        words = ["--verify", *self.words("reader"), "--moveledger", self.program, folder]
         return done("replica", *words, status=status, says=says)
 
     def show(self, name: str) -> bytes:
