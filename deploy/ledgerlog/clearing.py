@@ -49,7 +49,7 @@ class Cleared(NamedTuple):
 
 
 class Clearing:
-    """One clearing of a log, behind the newest save that a majority has put."""
+    """One clearing of a log, behind the newest save that a majority has voted for."""
 
     def __init__(self, log: Log, keep: int, now: Optional[float] = None) -> None:
         self.log = log
@@ -71,11 +71,11 @@ class Clearing:
         self.is_doubtful = False
 
     def run(self) -> Cleared:
-        """Clears the log. LogError where no majority has put the digest of a save."""
+        """Clears the log. LogError where no majority has voted for the digest of a save."""
         last = self.log.last()
         agreed = self.votes.newest_agreed_save(last)
         if agreed is None:
-            raise LogError("no majority of the replicas has put the digest of one save: nothing can be cleared")
+            raise LogError("no majority of the replicas has voted for the digest of one save: nothing can be cleared")
         before = self.etcd.entry(self.keys.cleared)
         self.changed_before = before.changed if before else 0
         unneeded = min(agreed.number, last - self.keep)

@@ -42,7 +42,7 @@ class Comparing:
 
     def put(self, kind: str, made: List[Vote]) -> bool:
         """Puts what this replica made, and keeps it to be compared. False where something else stands in its name. Differs where
-        a majority has put something else."""
+        a majority has voted for something else."""
         kept = self.made[kind]
         kept.update(made)
         while len(kept) > KEPT:
@@ -67,14 +67,14 @@ class Comparing:
                 self.check(kind, number, value, votes)
 
     def check(self, kind: str, number: int, made: bytes, votes: Dict[str, bytes]) -> None:
-        """Differs where a majority has put something else than this replica made."""
+        """Differs where a majority has voted for something else than this replica made."""
         other = decided_against(kind, votes, len(self.votes.replicas), made)
         if other is not None:
-            raise Differs(f"{WHAT[kind]} {number}: a majority of the replicas has put {shown(other)}, and this one made "
+            raise Differs(f"{WHAT[kind]} {number}: a majority of the replicas has voted for {shown(other)}, and this one made "
                           f"{shown(made)}")
 
     def look(self) -> None:
-        """Compares what the others have put since. Differs where a majority has put something else than this one made."""
+        """Compares what the others have put since. Differs where a majority has voted for something else than this one made."""
         self.settle()
         asked = []
         for kind, kept in self.made.items():
@@ -102,6 +102,6 @@ class Comparing:
                           f"made {shown(made)}; {self.standing(kind, vote.number, made)}")
 
     def standing(self, kind: str, number: int, made: bytes) -> str:
-        """Whether a majority has put what this replica made."""
+        """Whether a majority has voted for what this replica made."""
         is_final = self.votes.final(kind, number) == made
-        return "a majority has put what this one made, which goes on" if is_final else "no majority has decided yet"
+        return "a majority has voted for what this one made, which goes on" if is_final else "no majority has decided yet"

@@ -61,7 +61,7 @@ class NeedsPerson(Exception):
 
 
 class Differs(NeedsPerson):
-    """A majority of replicas has put something else than this one made."""
+    """A majority of replicas has voted for something else than this one made."""
 
 
 class OtherHistory(NeedsPerson):

@@ -1,5 +1,5 @@
 """Saves over the network: a replica gives its own to those that ask, and fetches one when the log was cleared before it came so far. What
-comes counts only by the digest that a majority has put."""
+comes counts only by the digest that a majority has voted for."""
 
 import http.client
 import os
@@ -114,13 +114,13 @@ class Fetching:
             agreed = [vote for vote in votes.agreed_saves(last) if vote.number >= cleared]
             given = self.addresses(votes)
             if not given or not agreed:
-                raise Behind(f"{why}; " + ("no majority has put a later one" if not agreed else "no replica of the set says where it gives "
+                raise Behind(f"{why}; " + ("no majority has voted for a later one" if not agreed else "no replica of the set says where it gives "
                                            "its saves (--saves-at)"))
             found, silent = self.fetched(settings, agreed, given)
             if found is not None:
                 return found
             if not silent:
-                raise Behind(f"{why}; none of {', '.join(name for name, _ in given)} gives one that a majority has put")
+                raise Behind(f"{why}; none of {', '.join(name for name, _ in given)} gives one that a majority has voted for")
             self.tell(f"{why}; {', '.join(silent)} gives none yet: asks again in {pause:g} s")
             ends = time.monotonic() + pause
             while time.monotonic() < ends and not self.is_stopping():
@@ -145,10 +145,10 @@ class Fetching:
                 try:
                     if self.is_taken(vote, address):
                         save = self.saves.named(self.saves.fetched(), vote.number, settings.id)
-                        self.tell(f"has the save behind record {vote.number} from {name}, with the digest that a majority has put")
+                        self.tell(f"has the save behind record {vote.number} from {name}, with the digest that a majority has voted for")
                         return save, []
                 except Wrong as why:
-                    self.tell(f"{name} gives another save behind record {vote.number} than a majority has put ({why}): it is thrown away")
+                    self.tell(f"{name} gives another save behind record {vote.number} than a majority has voted for ({why}): it is thrown away")
                 except (OSError, http.client.HTTPException) as error:
                     silent.append(name)
                     self.tell(f"{name} at {address} doesn't give a save: {error or type(error).__name__}")

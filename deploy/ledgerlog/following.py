@@ -142,11 +142,11 @@ class Replica:
         return self.settings.is_chaining() and number > self.settings.chained
 
     def start_anew(self) -> None:
-        """Sets aside what no majority has put, where this replica differed and a person has looked since."""
+        """Sets aside what no majority has voted for, where this replica differed and a person has looked since."""
         for save in self.saves.all():
             final = self.patiently(self.votes.final, SAVED, save.number)
             if final is None or saved_vote_in(final).ledger != save.vote():
-                self.tell(f"{save.path} is set aside, since no majority has put its digest")
+                self.tell(f"{save.path} is set aside, since no majority has voted for its digest")
                 self.saves.set_aside(save)
         self.saves.start_again()
 

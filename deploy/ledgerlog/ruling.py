@@ -161,7 +161,7 @@ def upgrade(log: Log) -> Settings:
                        "the machines of all replicas and submitters, start the replicas one by one, and try again")
     agreed = votes_in(log.etcd, log.keys, settings).newest_agreed_save(log.last())
     if agreed is None and log.cleared() > 0:
-        raise LogError("no majority has put the digest of a save behind what was cleared: wait until the replicas have saved")
+        raise LogError("no majority has voted for the digest of a save behind what was cleared: wait until the replicas have saved")
     new = settings._replace(protocol=CHAINING_PROTOCOL, chained=agreed.number if agreed else 0)
     exchange(log, changed, new)
     return new

@@ -20,7 +20,7 @@ PART = 1 << 16
 
 
 class LogValues(NamedTuple):
-    """What the log has: up to which record it was cleared, the newest save of which a majority has put the digest, and its bytes."""
+    """What the log has: up to which record it was cleared, the newest save of which a majority has voted for the digest, and its bytes."""
 
     cleared: int = 0
     agreed: int = 0

@@ -1,5 +1,5 @@
 """Answers a log again, as far as it isn't cleared, and compares what replicas have put: their lines, and the digest of the newest
-save that a majority has put."""
+save that a majority has voted for."""
 
 import os
 import sys
@@ -22,7 +22,7 @@ MOST_TOLD_DIFFERENCES = 10
 
 
 class Verifying:
-    """One pass over a log, from its start or from the oldest save of a folder that a majority has put."""
+    """One pass over a log, from its start or from the oldest save of a folder that a majority has voted for."""
 
     def __init__(self, log: Log, program: str, folder: str) -> None:
         self.log = log
@@ -84,7 +84,7 @@ class Verifying:
                 and self.settings.has_save(save.log_id, save.number) and self.is_agreed(save)]
         if not good:
             raise OtherHistory(f"the log was cleared up to record {self.log.cleared()}, and {self.folder} has no later save that "
-                               "a majority has put")
+                               "a majority has voted for")
         return good[-1]
 
     def is_agreed(self, save: Save) -> bool:
@@ -92,7 +92,7 @@ class Verifying:
         return value is not None and self.votes.is_usable(save.number, value) and saved_vote_in(value).ledger == save.vote()
 
     def next_saved(self, number: int) -> Optional[int]:
-        """The number of the next save behind a record of which a majority has put the digest, where that isn't the last time."""
+        """The number of the next save behind a record of which a majority has voted for the digest, where that isn't the last time."""
         newest = self.votes.newest_agreed_save(self.log.last())
         return newest.number if newest and newest.number > number else None
 

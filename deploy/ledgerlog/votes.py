@@ -39,7 +39,7 @@ def majority(kind: str, votes: Dict[str, bytes], size: int) -> Optional[bytes]:
 
 
 def decided_against(kind: str, votes: Dict[str, bytes], size: int, made: bytes) -> Optional[bytes]:
-    """What a majority has put in place of what was made; None where none has, or it can't be compared."""
+    """What a majority has voted for in place of what was made; None where none has, or it can't be compared."""
     value = majority(kind, votes, size)
     return value if value not in (None, made) and form_of(kind, value or b"") == form_of(kind, made) else None
 
@@ -92,7 +92,7 @@ class Votes:
         return majority(kind, votes, len(self.replicas))
 
     def final(self, kind: str, number: int) -> Optional[bytes]:
-        """What a majority of the set has put under a number, or of an earlier one has."""
+        """What a majority of the set has voted for under a number, or of an earlier one has."""
         return self.decided(kind, number, self.of(kind, number))
 
     def put(self, kind: str, made: List[Vote]) -> List[Vote]:

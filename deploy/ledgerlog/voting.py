@@ -93,7 +93,7 @@ class Voting:
         for number in range(first, end + 1):
             made, other = self.chain.lines.get(number), walked.lines.get(number) if walked else None
             if made is not None and other is not None and made != other:
-                raise Differs(f"{WHAT[LINES]} {number}: a majority of the replicas has put {shown(other)}, and this one made {shown(made)}")
+                raise Differs(f"{WHAT[LINES]} {number}: a majority of the replicas has voted for {shown(other)}, and this one made {shown(made)}")
         if walked and end >= first and walked.digests.get(end) not in (None, self.chain.digests.get(end)):
             raise Differs(f"a majority of the replicas has other lines before record {first} than this one made: their votes at record "
                           f"{end} have another digest")
@@ -103,7 +103,7 @@ class Voting:
 
     def name(self, name: str, is_final: bool) -> None:
         """Says once that another one differs: by its lines, where it has told them in time."""
-        standing = "a majority has put what this one made, which goes on" if is_final else "no majority has decided yet"
+        standing = "a majority has voted for what this one made, which goes on" if is_final else "no majority has decided yet"
         first, point = self.first_doubtful(name), self.wrong[name]
         found = self.first_difference(name, first, point.number)
         if found is None and time.monotonic() < self.wrong_since[name] + NAME_SECONDS:

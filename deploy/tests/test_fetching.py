@@ -167,7 +167,7 @@ class Fetches(OverStandIn):
         self.cleared()
         self.assertRegex(str(self.start("c").ends()), "record 1 isn't in the log any more.*no replica of the set says where it gives its saves")
         self.lies("a", lambda handler: handler.send_error(404))
-        self.assertRegex(str(self.start("c").ends()), "none of a gives one that a majority has put")
+        self.assertRegex(str(self.start("c").ends()), "none of a gives one that a majority has voted for")
         self.assertIsInstance(self.running["c"].error, Behind)
 
     def test_nothing_but_saves_is_given(self) -> None:

@@ -67,7 +67,7 @@ class VerifyingALog(unittest.TestCase):
 
     def test_a_cleared_log_is_verified_from_a_save_on(self) -> None:
         self.log.etcd.put(self.log.keys.cleared, b"8")
-        with self.assertRaisesRegex(OtherHistory, "has no later save that a majority has put"):
+        with self.assertRaisesRegex(OtherHistory, "has no later save that a majority has voted for"):
             self.verified()
         os.rename(self.path("saved"), self.path(name_of(8, LOG_ID)))
         is_alike, told = self.verified()

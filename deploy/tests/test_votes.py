@@ -95,7 +95,7 @@ class ComparingVotes(unittest.TestCase):
         self.one.look()
         self.assertIn("no majority has decided yet", self.told[0])
         put_vote(self.log, "c", LINES, 1, b"other")
-        with self.assertRaisesRegex(Differs, "a majority of the replicas has put 'other', and this one made 'mine'"):
+        with self.assertRaisesRegex(Differs, "a majority of the replicas has voted for 'other', and this one made 'mine'"):
             self.one.look()
 
     def test_what_others_put_later_is_compared_too(self) -> None:
@@ -128,7 +128,7 @@ class ComparingVotes(unittest.TestCase):
         one.put(SAVED, [Vote(4, b"MVL2 mine")])
         for name in "bc":
             put_vote(log, name, SAVED, 4, b"MVL2 other")
-        with self.assertRaisesRegex(Differs, "the ledger saved after record 4: a majority of the replicas has put 'MVL2 other'"):
+        with self.assertRaisesRegex(Differs, "the ledger saved after record 4: a majority of the replicas has voted for 'MVL2 other'"):
             one.look()
 
     def test_wrong_lines_that_others_agree_with_stop_it(self) -> None:

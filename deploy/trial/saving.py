@@ -55,7 +55,7 @@ def agreed(stage: Stage) -> int:
 
 
 def newest_agreed(stage: Stage, name: str) -> Optional[Save]:
-    """A replica's save that is the newest one that a majority has put; None where it hasn't it yet."""
+    """A replica's save that is the newest one that a majority has voted for; None where it hasn't it yet."""
     number = agreed(stage)
     return next((save for save in stage.replicas[name].saves() if save.number == number), None)
 
@@ -77,7 +77,7 @@ def fetched(stage: Stage) -> str:
         raise Failed("third isn't there")
     third.process.send_signal(signal.SIGSTOP)
     number = cleared_behind(stage, 2 * stage.every)
-    newest = until(lambda: newest_agreed(stage, "first"), PATIENCE, "first has the newest save that a majority has put")
+    newest = until(lambda: newest_agreed(stage, "first"), PATIENCE, "first has the newest save that a majority has voted for")
     flip(newest.path, stage.random.getrandbits(60))
     before = len(third.told())
     third.process.send_signal(signal.SIGCONT)

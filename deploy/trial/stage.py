@@ -146,14 +146,14 @@ class Stage:
             self.replicas[name].check()
 
     def with_agreed_save(self) -> ReplicaProcess:
-        """Waits until a replica has the newest save that a majority has put: those that save at other records don't."""
+        """Waits until a replica has the newest save that a majority has voted for: those that save at other records don't."""
         def found() -> Optional[ReplicaProcess]:
             settings = self.log.settings()
             agreed = votes_in(self.log.etcd, self.log.keys, settings).newest_agreed_save(self.log.last())
             having = [one for one in self.replicas.values() if agreed and any(save.number == agreed.number for save in one.saves())]
             return having[0] if having else None
 
-        one: ReplicaProcess = until(found, PATIENCE, "a replica has the newest save that a majority has put")
+        one: ReplicaProcess = until(found, PATIENCE, "a replica has the newest save that a majority has voted for")
         return one
 
     def clear(self, keep: int, most: Optional[int] = None) -> str:
