@@ -9,7 +9,7 @@ use Rattle.mv_move_types.specs.declared.tables.Key.{Key}
 use Rattle.mv_machine.specs.State.{Entry, Storage, key_before}
 use Rattle.mv_machine.specs.Count.{count}
 use Rattle.mv_machine.specs.Run.{RunOutcome, Returned, Aborted, Exhausted, Faulted, FunctionCall, run}
-use Rattle.mv_machine.specs.Ledger.{LedgerState, Request, Publish, Run, Show, Audit, BadRun, Bad, modules_of, scarce_structs, admitted}
+use Rattle.mv_machine.specs.Ledger.{LedgerState, Request, Publish, Run, Show, Audit, Age, BadRun, Bad, modules_of, scarce_structs, admitted}
 use Rattle.mv_machine.specs.Lines.{Reply, Tallied}
 use Rattle.mv_ledger.specs.Answering.{IsReplied}
 use Rattle.mv_ledger_state.specs.Counting.Headline.{EndsWell, CallEndsWell, RunsWell}
@@ -43,6 +43,7 @@ run_keeps Keeps from s (Publish sender offers) h = tt
 run_keeps Keeps from s (Run r) h = call_keeps Keeps from s r.budget (admitted s r) h
 run_keeps Keeps from s (Show format) h = tt
 run_keeps Keeps from s (Audit format) h = tt
+run_keeps Keeps from s Age h = tt
 run_keeps Keeps from s BadRun h = tt
 run_keeps Keeps from s Bad h = tt
 

@@ -6,7 +6,7 @@ use Rattle.std.specs.Io.KnownBytes.{Appends}
 use Rattle.mv_machine.specs.declared.Ending.{Ending}
 use Rattle.mv_machine.specs.declared.Ending.TheVariants.{Returned as HasReturned, Aborted as HasAborted, Exhausted as HasExhausted}
 use Rattle.mv_machine.specs.Lines.{Reply as Told, Refused as ToldRefused, reply_lines, numbered}
-use Rattle.mv_machine.specs.Ledger.{Publish, Run, Show, Audit, BadRun, Bad, Format, AsText, AsJson}
+use Rattle.mv_machine.specs.Ledger.{Publish, Run, Show, Audit, Age, BadRun, Bad, Format, AsText, AsJson}
 use Rattle.mv_move_types.specs.declared.refusal.Refusal.{Refusal as ReportRefusal}
 use Rattle.mv_lines.specs.LinesView.{LinesView}
 use Rattle.mv_ledger_state.specs.RecordText.{IsShapeless, format_text}
@@ -14,7 +14,7 @@ use Rattle.mv_ledger.specs.Answering.{Replies, told, told_ending, told_lines}
 use Rattle.mv_ledger_state.specs.View.{LedgerView, state_of}
 use Rattle.mv_ledger_state.specs.Accepted.SoundLedger.{IsSoundLedger}
 use Rattle.mv_ledger.specs.declared.Reply.{Reply}
-use Rattle.mv_ledger.specs.declared.Reply.TheVariants.{Published, Refused, Rejected, Ran, Memory}
+use Rattle.mv_ledger.specs.declared.Reply.TheVariants.{Published, Refused, Rejected, Ran, Aged, Memory}
 use Rattle.moveledger.proofs.HeadlineLemmas.{answers_whole}
 use Rattle.moveledger.specs.Answered.{BreaksOffReply, IsAnswered, IsBrokenOff, MayBeAnswered, MayBeAnsweredByLines, WritesReply, WritesReplyWholeLines, WritesReplyPart, line_of}
 use Rattle.moveledger.specs.Records.{Whole}
@@ -39,6 +39,7 @@ one_line (Published n) t is = along _ t is refl
 one_line (Refused n) t is = along _ t is refl
 one_line (Rejected n) t is = along _ t is refl
 one_line (Ran outcome) t is = along _ t is (ended_line outcome.ending outcome.steps)
+one_line (Aged n) t is = along _ t is refl
 one_line Memory t is = cc
 
 -- the text of its line is that of its lines
@@ -152,15 +153,16 @@ breaks_off n kind same payload (Some t) old new held holds is replies broken =
     (reply_lines t, ((t, (answers_whole kind payload t old new (subst P (sym is) replies), refl)), broken))
 
 -- a payload of a kind of no record has no shape
-shapeless : (kind : ℕ) (payload : List ℕ) → (kind ≢ 1) → (kind ≢ 2) → (kind ≢ 3) → (kind ≢ 4) → IsShapeless kind payload
-shapeless kind payload one two three four (Publish sender offers) h = one h.0
-shapeless kind payload one two three four (Run r) h = two h.0
-shapeless kind payload one two three four (Show format) h = three h.0
-shapeless kind payload one two three four (Audit format) h = four h.0
-shapeless kind payload one two three four BadRun h = h
-shapeless kind payload one two three four Bad h = h
+shapeless : (kind : ℕ) (payload : List ℕ) → (kind ≢ 1) → (kind ≢ 2) → (kind ≢ 3) → (kind ≢ 4) → (kind ≢ 5) → IsShapeless kind payload
+shapeless kind payload one two three four five (Publish sender offers) h = one h.0
+shapeless kind payload one two three four five (Run r) h = two h.0
+shapeless kind payload one two three four five (Show format) h = three h.0
+shapeless kind payload one two three four five (Audit format) h = four h.0
+shapeless kind payload one two three four five Age h = five h.0
+shapeless kind payload one two three four five BadRun h = h
+shapeless kind payload one two three four five Bad h = h
 
 -- it is refused
-pub other_replied : (kind : ℕ) (payload : List ℕ) (v : LedgerView) → (kind ≢ 1) → (kind ≢ 2) → (kind ≢ 3) → (kind ≢ 4) → IsSoundLedger (state_of v) → Replies kind payload (Some (ToldRefused 1)) v v
-other_replied kind payload v one two three four sound =
-    record { answers = (Bad, (two, shapeless kind payload one two three four), (refl, refl), tt, sound); leaves = refl; rightly = λ is. absurd (one is) }
+pub other_replied : (kind : ℕ) (payload : List ℕ) (v : LedgerView) → (kind ≢ 1) → (kind ≢ 2) → (kind ≢ 3) → (kind ≢ 4) → (kind ≢ 5) → IsSoundLedger (state_of v) → Replies kind payload (Some (ToldRefused 1)) v v
+other_replied kind payload v one two three four five sound =
+    record { answers = (Bad, (two, shapeless kind payload one two three four five), (refl, refl), tt, sound); leaves = refl; rightly = λ is. absurd (one is) }

@@ -4,7 +4,7 @@ use Rattle.std.proofs.lemmas.Option.{some_pair_parts}
 use Rattle.mv_move_types.specs.Published.{PublishedModule}
 use Rattle.mv_binary_format.specs.Laws.{IsReadByText}
 use Rattle.mv_machine.specs.Lines.{Reply, Published, Refused, reply_lines, numbered}
-use Rattle.mv_machine.specs.Ledger.{Offer, LedgerState, Request, Publish, Run, Show, Audit, BadRun, Bad, Answers, with_bundle}
+use Rattle.mv_machine.specs.Ledger.{Offer, LedgerState, Request, Publish, Run, Show, Audit, Age, BadRun, Bad, Answers, with_bundle}
 use Rattle.mv_ledger_state.specs.RecordText.{Asks, IsShaped}
 use Rattle.mv_ledger_state.specs.Publishing.{Spells, IsPublished, IsRefusedAt}
 use Rattle.mv_ledger_state.specs.Exact.{IsAccepted, IsRefused, no_bundle, failing, IsRightly}
@@ -62,6 +62,7 @@ replies-one reads kind payload s (Publish sender offers) r q t u asked a b x y =
 replies-one reads kind payload s (Run run) r q t u asked a b x y = some_pair_parts r q t u (sym a ∙ b)
 replies-one reads kind payload s (Show format) r q t u asked a b x y = (a.0 ∙ sym b.0, a.1 ∙ sym b.1)
 replies-one reads kind payload s (Audit format) r q t u asked a b x y = (a.0 ∙ sym b.0, a.1 ∙ sym b.1)
+replies-one reads kind payload s Age r q t u asked a b x y = (a.0 ∙ sym b.0, a.1 ∙ sym b.1)
 replies-one reads kind payload s BadRun r q t u asked a b x y = (a.0 ∙ sym b.0, a.1 ∙ sym b.1)
 replies-one reads kind payload s Bad r q t u asked a b x y = (a.0 ∙ sym b.0, a.1 ∙ sym b.1)
 

@@ -10,7 +10,7 @@ use Rattle.mv_module_text.specs.Parsing.{identifier_from, address_from}
 use Rattle.mv_module_text.proofs.Handles.{identifier-whole}
 use Rattle.mv_module_text.proofs.Addresses.{address-whole}
 use Rattle.mv_machine.specs.Value.{Leaf, Struct, Ref}
-use Rattle.mv_machine.specs.Ledger.{Offer, RunRequest, Request, Publish, Run, Show, Audit, BadRun, Bad, Format, AsText, AsJson}
+use Rattle.mv_machine.specs.Ledger.{Offer, RunRequest, Request, Publish, Run, Show, Audit, Age, BadRun, Bad, Format, AsText, AsJson}
 use Rattle.mv_machine.specs.Arguments.{arg_value}
 use Rattle.mv_ledger_state.specs.RecordText.{offer_text, offer_fits, publish_text, publish_fits, run_text, run_fits, argument_text, argument_fits, format_text, IsShaped, Asks}
 use Rattle.mv_ledger_state.specs.Payloads.{argument_from}
@@ -135,6 +135,7 @@ shaped-one kind payload (Publish s os) (Publish t qs) a b =
 shaped-one kind payload (Run r) (Run q) a b = ap Run (run-one r q (sym a.1 ∙ b.1) a.2 b.2)
 shaped-one kind payload (Show f) (Show g) a b = ap Show (format-one f g (sym a.1 ∙ b.1))
 shaped-one kind payload (Audit f) (Audit g) a b = ap Audit (format-one f g (sym a.1 ∙ b.1))
+shaped-one kind payload Age Age a b = refl
 shaped-one kind payload BadRun q a b = absurd a
 shaped-one kind payload Bad q a b = absurd a
 shaped-one kind payload r BadRun a b = absurd b

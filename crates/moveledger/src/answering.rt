@@ -149,6 +149,7 @@ fn put_reply(alloc: Global, line: &mut Vec<u8>, number: u64, reply: Reply) -> Re
         Reply::Refused(phase) => put_count(line, number, "refused ", u64::from(phase)),
         Reply::Rejected(reason) => put_count(line, number, "rejected ", u64::from(reason)),
         Reply::Ran(outcome) => put_ending(alloc, line, number, outcome.ending, outcome.steps),
+        Reply::Aged(runs) => put_count(line, number, "aged ", runs),
         Reply::Memory => Err(AllocError),
     }
 }
@@ -260,6 +261,9 @@ const SHOW: u8 = 3;
 /// The kind of an audit record.
 const AUDIT: u8 = 4;
 
+/// The kind of an age record.
+const AGE: u8 = 5;
+
 /// Answers a whole record, and writes its lines; that of a reply is made in the memory of another one's. Where an allocation
 /// fails, the ledger is as before or as after the record.
 pub fn answer<W: Write>(
@@ -293,6 +297,9 @@ pub fn answer<W: Write>(
     }
     if kind == AUDIT {
         return write_report(alloc, writer, number, ledger.audit_lines(payload), line);
+    }
+    if kind == AGE {
+        return write_reply(alloc, writer, number, ledger.age(payload), line);
     }
     // For the prover: so the ledger is balanced.
     ledger.is_sound();

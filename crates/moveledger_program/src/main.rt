@@ -2,7 +2,7 @@
 //! certificates for modules, and checks modules with them.
 //!
 //! ```text
-//! moveledger apply [--load PATH] [--save PATH] FILE
+//! moveledger apply [--load PATH] [--save PATH] [--done PATH] FILE
 //! moveledger migrate OLD NEW
 //! moveledger prove MODULE
 //! moveledger check MODULE CERT

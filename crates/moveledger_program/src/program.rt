@@ -68,11 +68,29 @@ fn done(rt: &HostRuntime, words: &[&str]) -> Told {
         return version(&output);
     }
     match command(rt.alloc(), words) {
-        Ok(Task::Apply { file, load, save }) => apply(&output, file, load, save),
+        Ok(
+            Task::Apply {
+                file,
+                load,
+                save,
+                done,
+            },
+        ) => after(&output, apply(&output, file, load, save), done),
         Ok(Task::Migrate(old, new)) => migrate(&output, old, new),
         Ok(Task::Prove(module)) => prove(&output, module),
         Ok(Task::Check(module, certificate)) => check(&output, module, certificate),
         Err(error) => Told::plainly(refused(rt, error)),
+    }
+}
+
+/// Makes a file, if one is wanted, where all is done.
+fn after(output: &Output<'_>, told: Told, done: Option<&str>) -> Told {
+    let (End::Done, Some(path)) = (told.end, done) else {
+        return told;
+    };
+    match File::create(output.rt, path) {
+        Ok(_) => told,
+        Err(e) => Told::of_file(output.rt.alloc(), End::Write, path, e),
     }
 }
 

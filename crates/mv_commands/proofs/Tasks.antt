@@ -25,7 +25,7 @@ task_of_named (Some p) name rows task n r t =
     t ∙ ap (λ (x : Text). named_task x rows) name_is ∙ ap (λ (x : List Row). named_task p.0 x) rows_are
 
 -- where there is no subcommand no file is given
-pub task_of_none : (o : Option (Text × List Row)) → o ≡ None → Applies [] None None ≡ task_in o
+pub task_of_none : (o : Option (Text × List Row)) → o ≡ None → Applies [] None None None ≡ task_in o
 task_of_none None e = refl
 task_of_none (Some p) e = cc
 

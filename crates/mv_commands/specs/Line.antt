@@ -25,9 +25,9 @@ name_of name = record (new_rule name) { required = true }
 abbrev pub path_option : Text → Rule
 path_option name = record (new_rule name) { long = Some name; value_names = 1 }
 
--- apply [--load PATH] [--save PATH] FILE
+-- apply [--load PATH] [--save PATH] [--done PATH] FILE
 abbrev pub apply : App
-apply = with_rule (with_rule (with_rule (new_app (codes "apply")) (path_option (codes "load"))) (path_option (codes "save"))) (name_of (codes "FILE"))
+apply = with_rule (with_rule (with_rule (with_rule (new_app (codes "apply")) (path_option (codes "load"))) (path_option (codes "save"))) (path_option (codes "done"))) (name_of (codes "FILE"))
 
 -- migrate OLD NEW
 abbrev pub migrate : App
@@ -55,14 +55,14 @@ moveledger = with_subcommand (with_subcommand ledger_commands prove.top) check.t
 
 -- a task without where its names lie
 pub data Seen : Type 0 where
-  Applies : Text → Option Text → Option Text → Seen
+  Applies : Text → Option Text → Option Text → Option Text → Seen
   Proves : Text → Seen
   Checks : Text → Text → Seen
   Migrates : Text → Text → Seen
 
 -- the names of a task
 abbrev pub seen : Task → Seen
-seen (Apply file load save) = Applies file.now (option_map (λ s. s.now) load) (option_map (λ s. s.now) save)
+seen (Apply file load save done) = Applies file.now (option_map (λ s. s.now) load) (option_map (λ s. s.now) save) (option_map (λ s. s.now) done)
 seen (Prove file) = Proves file.now
 seen (Check file certificate) = Checks file.now certificate.now
 seen (Migrate old new) = Migrates old.now new.now
@@ -77,11 +77,11 @@ named_task name rows =
     if bytes_eq name (codes "prove") then Proves (given_as (codes "MODULE") rows)
     else if bytes_eq name (codes "check") then Checks (given_as (codes "MODULE") rows) (given_as (codes "CERT") rows)
     else if bytes_eq name (codes "migrate") then Migrates (given_as (codes "OLD") rows) (given_as (codes "NEW") rows)
-    else Applies (given_as (codes "FILE") rows) (first_of (codes "load") rows) (first_of (codes "save") rows)
+    else Applies (given_as (codes "FILE") rows) (first_of (codes "load") rows) (first_of (codes "save") rows) (first_of (codes "done") rows)
 
 -- the task that the matches of a subcommand have
 abbrev pub task_in : Option (Text × List Row) → Seen
-task_in None = Applies [] None None
+task_in None = Applies [] None None None
 task_in (Some found) = named_task found.0 found.1
 
 -- where the words are at fault, the error has one of these kinds

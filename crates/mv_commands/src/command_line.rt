@@ -20,6 +20,8 @@ pub enum Task<'a> {
         load: Option<&'a str>,
         /// The file to keep the ledger in at the end.
         save: Option<&'a str>,
+        /// The file that is made once all is done.
+        done: Option<&'a str>,
     },
     /// Print a certificate for the module of this file.
     Prove(&'a str),
@@ -71,7 +73,7 @@ fn path_option<'a>(alloc: Global, name: &'a str, help: &'a str) -> Arg<'a>
         .help(help)
 }
 
-/// `apply [--load PATH] [--save PATH] FILE`.
+/// `apply [--load PATH] [--save PATH] [--done PATH] FILE`.
 fn apply_command<'a>(alloc: Global) -> Result<Command<'a>, AllocError>
     ensures app { IfOk result (λ c. app_of c ≡ apply) }
     ensures local { IfOk result (λ c. (out-Command c).has_globals ≡ false) }
@@ -90,6 +92,11 @@ fn apply_command<'a>(alloc: Global) -> Result<Command<'a>, AllocError>
             alloc,
             "save",
             "Save the ledger in this file once the input is answered to its end",
+        ))?
+        .arg(path_option(
+            alloc,
+            "done",
+            "Make this file, which is empty, once all is done",
         ))?
         .arg(name_arg(alloc, "FILE", "The stream of records; - is standard input"))
 }
@@ -203,6 +210,7 @@ fn named_task<'a>(name: &str, found: &ArgMatches<'a>) -> Task<'a>
         file: given(found, "FILE"),
         load: asked(found, "load"),
         save: asked(found, "save"),
+        done: asked(found, "done"),
     }
 }
 
@@ -215,6 +223,7 @@ fn task_of<'a>(matches: &ArgMatches<'a>) -> Task<'a>
             file: "",
             load: None,
             save: None,
+            done: None,
         },
         Some((name, found)) => named_task(name, found),
     }

@@ -33,11 +33,11 @@ pub use Rattle.mv_frames.specs.declared.counters.StructTally.{StructTally}
 pub use Rattle.mv_storage.specs.Map.{Layers}
 pub use Rattle.mv_machine.specs.Count.{count}
 pub use Rattle.mv_machine.specs.Flat.{FlatEntry, storage_of}
-pub use Rattle.mv_machine.specs.Ledger.{Answers, AreRead, AsJson, AsText, Audit, Bad, BadRun, Format, LedgerState, Offer, Publish, Request, Run, RunRequest, Show, admitted, are_arguments}
+pub use Rattle.mv_machine.specs.Ledger.{Age, Answers, AreRead, AsJson, AsText, Audit, Bad, BadRun, Format, LedgerState, Offer, Publish, Request, Run, RunRequest, Show, admitted, are_arguments}
 pub use Rattle.mv_machine.specs.Ledger.{attempted, audited, modules_of, scarce_structs, settled, shown, tally_of, tally_with, with_bundle}
 pub use Rattle.mv_machine.specs.Ledger.{with_signer, with_signer as with_sender}
 pub use Rattle.mv_machine.specs.Lines.{RanOut, RanToAbort, Published as ToldPublished, count_line}
-pub use Rattle.mv_machine.specs.Lines.{Refused as ToldRefused, Rejected as ToldRejected, Reply, Reply as Told, RanToEnd, Tallied, Told as ToldLines, count_object}
+pub use Rattle.mv_machine.specs.Lines.{Refused as ToldRefused, Rejected as ToldRejected, Reply, Reply as Told, RanToEnd, Tallied, Told as ToldLines, Aged as ToldAged, count_object}
 pub use Rattle.mv_machine.specs.Lines.{audit_json, audit_lines, end_line, json_line}
 pub use Rattle.mv_machine.specs.Run.{Aborted, Exhausted, Faulted, FunctionCall, Returned, RunOutcome, packs, run, unpacks}
 pub use Rattle.mv_machine.specs.State.{Event, Storage}

@@ -12,7 +12,7 @@ use Rattle.mv_move_types.specs.declared.refusal.Refusal.TheVariants.{Phase, Memo
 use Rattle.mv_machine.specs.declared.Ending.{Ending}
 use Rattle.mv_machine.specs.declared.Ending.TheVariants.{Returned as HasReturned, Aborted as HasAborted, Exhausted as HasExhausted}
 use Rattle.mv_machine.specs.Lines.{Reply as Told, Published as ToldPublished, Refused as ToldRefused, Rejected as ToldRejected}
-use Rattle.mv_machine.specs.Lines.{RanToEnd, RanToAbort, RanOut, Told as ToldLines}
+use Rattle.mv_machine.specs.Lines.{RanToEnd, RanToAbort, RanOut, Told as ToldLines, Aged as ToldAged}
 use Rattle.mv_machine.specs.Ledger.{LedgerState, Request, Answers}
 use Rattle.mv_ledger_state.specs.View.{LedgerView, state_of}
 use Rattle.mv_ledger_state.specs.RecordText.{Asks}
@@ -23,7 +23,7 @@ use Rattle.mv_ledger_state.specs.Publishing.{Spells}
 use Rattle.mv_ledger_state.specs.Accepted.SoundLedger.{IsSoundLedger}
 use Rattle.mv_ledger_state.specs.Counting.Headline.{RunsWell}
 use Rattle.mv_ledger.specs.declared.Reply.{Reply}
-use Rattle.mv_ledger.specs.declared.Reply.TheVariants.{Published, Refused, Rejected, Ran, Memory}
+use Rattle.mv_ledger.specs.declared.Reply.TheVariants.{Published, Refused, Rejected, Ran, Aged, Memory}
 
 -- what a run's ending says after so many steps
 abbrev pub told_ending : Ending → ℕ → Told
@@ -37,6 +37,7 @@ told (Published count) = Some (ToldPublished count)
 told (Refused phase) = Some (ToldRefused phase)
 told (Rejected reason) = Some (ToldRejected reason)
 told (Ran outcome) = Some (told_ending outcome.ending outcome.steps)
+told (Aged runs) = Some (ToldAged runs)
 told Memory = None
 
 -- what a show or an audit says: its lines, or that it is refused; want of memory says nothing

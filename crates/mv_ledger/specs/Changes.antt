@@ -1,7 +1,7 @@
 -- What a reply leaves as it was.
 use Rattle.std.specs.Prelude.{◌≡◌, ◌+◌, List, Option, Some, None, ⊤}
 use Rattle.mv_machine.specs.Flat.{FlatEntry}
-use Rattle.mv_machine.specs.Lines.{Reply, Published, Refused, Rejected, RanToEnd, RanToAbort, RanOut, Told}
+use Rattle.mv_machine.specs.Lines.{Reply, Published, Refused, Rejected, RanToEnd, RanToAbort, RanOut, Told, Aged}
 use Rattle.mv_machine.specs.declared.Tally.{Tally}
 use Rattle.mv_ledger_state.specs.View.{LedgerView}
 
@@ -19,6 +19,7 @@ Leaves (RanToEnd steps) old new = ⊤
 Leaves (RanToAbort kind n steps) old new = new ≡ with_run_had old
 Leaves (RanOut stop steps) old new = new ≡ with_run_had old
 Leaves (Told lines) old new = new ≡ old
+Leaves (Aged runs) old new = new ≡ old
 
 -- storage and tallies stay
 abbrev pub IsKept : List FlatEntry → List FlatEntry → List Tally → List Tally → Type 0
@@ -34,3 +35,4 @@ RunsTo (Some (Published n)) old new before after = ⊥
 RunsTo (Some (Refused phase)) old new before after = ⊥
 RunsTo (Some (Rejected reason)) old new before after = ⊥
 RunsTo (Some (Told lines)) old new before after = ⊥
+RunsTo (Some (Aged runs)) old new before after = ⊥

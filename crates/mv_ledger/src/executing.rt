@@ -39,7 +39,7 @@ pub struct Call {
 /// Why a run is not begun.
 #[derive(Clone, Copy)]
 pub enum Barred {
-    /// For this reason, from 2 to 7.
+    /// For this reason, from 2 to 8.
     Rejected(u8),
     /// A growth was refused.
     Memory,
@@ -106,8 +106,8 @@ fn are_passed(types: &[LinkedType], arguments: &[Arg]) -> bool
 /// # Errors
 ///
 /// `Rejected` with the first reason against it: 2, a budget above 10,000,000; 3, no such module; 4, no such function in
-/// it; 5, a function that is no entry; 6, arguments that are not of its parameters' types; 7, no further run may be had.
-/// `Memory`, where a growth was refused.
+/// it; 5, a function that is no entry; 6, arguments that are not of its parameters' types; 7, no further run may be had;
+/// 8, the sender is 0x0. `Memory`, where a growth was refused.
 pub fn admitted(store: &Store, runs: u64, asked: RunRecord<'_>) -> Result<Call, Barred>
     requires range { IsTrue (list_all (λ (a : Argument). number_fits a.kind a.number) asked.arguments.items) }
     ensures call { IfOk result (λ c. IsCall (tables_in store.now) c.function c.arguments.items) }
@@ -136,6 +136,9 @@ pub fn admitted(store: &Store, runs: u64, asked: RunRecord<'_>) -> Result<Call, 
     }
     if runs >= MOST_RUNS {
         return Err(Barred::Rejected(7));
+    }
+    if asked.sender == 0 {
+        return Err(Barred::Rejected(8));
     }
     Ok(Call {
         function: Definition {

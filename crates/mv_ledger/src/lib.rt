@@ -57,6 +57,8 @@ pub enum Reply {
     Rejected(u8),
     /// The run was executed, with this outcome.
     Ran(Outcome),
+    /// So many runs were executed before.
+    Aged(u64),
     /// An allocation failed, and nothing changed.
     Memory,
 }
@@ -185,6 +187,16 @@ impl Ledger {
     {
         let lines = self.audit_lines(payload)?;
         Ok(lines.into_text()?)
+    }
+
+    /// Answers an age record with this payload: how many runs were executed before. The payload has to be empty.
+    pub fn age(&self, payload: &[u8]) -> Reply
+        ensures { Replies 5 payload.now (told result) self.now self.now }
+    {
+        if !payload.is_empty() {
+            return Reply::Refused(1);
+        }
+        Reply::Aged(self.runs)
     }
 
     /// As `show`, but piece by piece: each is made when it is asked for.

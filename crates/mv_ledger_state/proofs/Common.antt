@@ -98,7 +98,7 @@ pub use Rattle.mv_machine.proofs.Runs.{begun, run-keeps, step-stepped}
 pub use Rattle.mv_machine.proofs.Empty.{empty_ledger}
 pub use Rattle.mv_machine.specs.Count.{count, count_in, count_in_fields}
 pub use Rattle.mv_machine.specs.Flat.{FlatEntry, fields_from, flat, flat_fields, flat_storage, storage_of, struct_from, value_from, value_under}
-pub use Rattle.mv_machine.specs.Ledger.{Answers, Audit, Bad, BadRun, LedgerState, Offer, Publish, Request, Run, RunRequest, Show, admitted, are_arguments}
+pub use Rattle.mv_machine.specs.Ledger.{Age, Answers, Audit, Bad, BadRun, LedgerState, Offer, Publish, Request, Run, RunRequest, Show, admitted, are_arguments}
 pub use Rattle.mv_machine.specs.Ledger.{attempted, is_argument, modules_of, scarce_name, scarce_structs, settled, tally_of, tally_with, untouched_tally, with_bundle}
 pub use Rattle.mv_machine.specs.Ledger.{with_returned, with_run, with_signer}
 pub use Rattle.mv_machine.specs.Lines.{Published, Refused}

@@ -3,7 +3,7 @@ use Rattle.mv_ledger_state.proofs.Common.{[], ◌++◌, ◌<◌, ◌^◌, ◌∙
 use Rattle.mv_ledger_state.proofs.Common.{refl, subst, sym, ℕ, and_from, and_parts, ltb-true, length-map, flat_map-map, list_all-map, none-some, same_Some, then_some, list_all, ◌&&◌, nat_le, nat_lt}
 use Rattle.mv_ledger_state.proofs.Common.{◌>>=◌, number_from, uleb, address-parts, address-whole, Front, Front-as, Front-join, Parts, Whole, bytes-front, bytes-whole, bytes_after, counted-parts}
 use Rattle.mv_ledger_state.proofs.Common.{counted-whole, number-front, number-whole, on_bind, then_some-parts, address_text, counted, identifier_text, address_fits, identifier_fits, is_byte, AreBytes}
-use Rattle.mv_ledger_state.proofs.Common.{address_from, bytes_from, counted_from, identifier_from, Audit, Offer, Publish, Request, Run, RunRequest, Show, Value, arg_value, Arg, argument_from}
+use Rattle.mv_ledger_state.proofs.Common.{address_from, bytes_from, counted_from, identifier_from, Age, Audit, Offer, Publish, Request, Run, RunRequest, Show, Value, arg_value, Arg, argument_from}
 use Rattle.mv_ledger_state.proofs.Common.{bundle_from, offer_from, offers_from, run_from, sized_from, IsShaped, IsShapeless, argument_fits, argument_text, offer_fits, offer_text, publish_fits}
 use Rattle.mv_ledger_state.proofs.Common.{publish_text, run_fits, run_text, sized}
 use Rattle.mv_module_text.proofs.Handles.{identifier-parts, identifier-whole}
@@ -109,6 +109,7 @@ bundle-read payload (Publish sender os) h = ((sender, os), ap bundle_from (h.1 �
 bundle-read payload (Run r) h = absurd (omega (arith, h.0))
 bundle-read payload (Show format) h = absurd (omega (arith, h.0))
 bundle-read payload (Audit format) h = absurd (omega (arith, h.0))
+bundle-read payload Age h = absurd (omega (arith, h.0))
 bundle-read _ _ h = absurd h
 
 -- what isn't read has no such shape
@@ -227,6 +228,7 @@ run-read payload (Run r) h = (r, ap run_from (h.1 ∙ sym (append-nil (run_text 
 run-read payload (Publish sender os) h = absurd (omega (arith, h.0))
 run-read payload (Show format) h = absurd (omega (arith, h.0))
 run-read payload (Audit format) h = absurd (omega (arith, h.0))
+run-read payload Age h = absurd (omega (arith, h.0))
 run-read _ _ h = absurd h
 
 -- what isn't read has no such shape

@@ -1,7 +1,7 @@
 -- What a reply to a publish record says of the bundle that its payload has.
 use Rattle.std.specs.Prelude.{◌≡◌, ℕ, List, length}
 use Rattle.mv_move_types.specs.Published.{PublishedModule}
-use Rattle.mv_machine.specs.Lines.{Reply, Published, Refused, Rejected, RanToEnd, RanToAbort, RanOut, Told}
+use Rattle.mv_machine.specs.Lines.{Reply, Published, Refused, Rejected, RanToEnd, RanToAbort, RanOut, Told, Aged}
 use Rattle.mv_machine.specs.Ledger.{Offer, LedgerState, Publish, with_bundle}
 use Rattle.mv_ledger_state.specs.RecordText.{IsShaped, IsShapeless}
 use Rattle.mv_ledger_state.specs.Publishing.{IsPublished, IsRefusedAt}
@@ -29,3 +29,4 @@ IsRightly old payload (RanToEnd steps) new = ⊥
 IsRightly old payload (RanToAbort kind n steps) new = ⊥
 IsRightly old payload (RanOut stop steps) new = ⊥
 IsRightly old payload (Told lines) new = ⊥
+IsRightly old payload (Aged runs) new = ⊥

@@ -17,7 +17,7 @@ use Rattle.mv_module_text.specs.Entries.{address_text, leaf_token, number_text, 
 use Rattle.mv_machine.specs.Value.{Value, Leaf, Struct, Ref}
 use Rattle.mv_machine.specs.Typed.{leaf_fits}
 use Rattle.mv_uleb.specs.Uleb.{uleb}
-use Rattle.mv_machine.specs.Ledger.{Offer, RunRequest, Request, Publish, Run, BadRun, Bad, Show, Audit, Format, AsText, AsJson}
+use Rattle.mv_machine.specs.Ledger.{Offer, RunRequest, Request, Publish, Run, BadRun, Bad, Show, Audit, Age, Format, AsText, AsJson}
 use Rattle.mv_module_text.specs.Fits.{is_byte, address_fits, identifier_fits}
 
 -- a leaf without its token; no leaf is a signer here
@@ -90,6 +90,7 @@ IsShaped kind payload (Publish sender offers) =
 IsShaped kind payload (Run r) = (kind ≡ 2) × (payload ≡ run_text r) × IsTrue (run_fits r)
 IsShaped kind payload (Show format) = (kind ≡ 3) × (payload ≡ format_text format)
 IsShaped kind payload (Audit format) = (kind ≡ 4) × (payload ≡ format_text format)
+IsShaped kind payload Age = (kind ≡ 5) × (payload ≡ [])
 IsShaped kind payload BadRun = ⊥
 IsShaped kind payload Bad = ⊥
 

@@ -14,7 +14,7 @@ use Rattle.std.specs.Prelude.{◌≡◌, ℕ, ◌*◌, ◌^◌, ◌<◌, ◌≤�
 use Rattle.std.specs.List.{list_all, filter, enumerate_from}
 use Rattle.std.specs.Int.{w128, to_le_bytes}
 use Rattle.mv_uleb.specs.Uleb.{uleb}
-use Rattle.mv_move_types.specs.Limits.{most_modules, most_runs, most_steps}
+use Rattle.mv_move_types.specs.Limits.{most_modules, most_runs}
 use Rattle.mv_move_types.specs.declared.tables.Definition.{Definition}
 use Rattle.mv_move_types.specs.Module.{Module}
 use Rattle.mv_module_text.specs.Entries.{address_text, counted}
@@ -95,10 +95,10 @@ body_text form s = flat_map (tally_text form) s.tallies ++ storage_text form (mo
 abbrev pub saved_text : Form → LedgerState → List ℕ
 saved_text form s = head_text form s.runs (map offered s.published) ++ body_text form s
 
--- the greatest count that a form can write: what 16 bytes can say, or as many as the most runs make in the most steps of each
+-- the greatest count that a form can write: what 16 bytes can say, or what 8 bytes can of which each tells whether another one follows
 abbrev pub greatest_count : Form → ℕ
 greatest_count First = 2 ^ 128 - 1
-greatest_count Second = most_steps * most_runs
+greatest_count Second = 2 ^ 56 - 1
 
 -- whether a tally can be written
 abbrev pub tally_fits : Form → Tallied → Bool

@@ -1,6 +1,6 @@
 -- Worked answers and lines of the coin module, by computation.
 use Rattle.mv_machine.proofs.Common.{[], ℕ, ◌∷◌, ◌≡◌, Err, List, None, Option, Some, refl, codes, Number, U64, U8, admitted, Leaf, Value}
-use Rattle.mv_machine.specs.Lines.{Reply, Told, numbered, reply_lines}
+use Rattle.mv_machine.specs.Lines.{Aged, Reply, Told, numbered, reply_lines}
 use Rattle.mv_machine.specs.Ledger.{LedgerState, RunRequest, AsText, AsJson, with_bundle, attempted, shown, audited}
 use Rattle.mv_machine.proofs.Coin.{coin_module}
 use Rattle.mv_machine.proofs.Computed.{computed}
@@ -66,6 +66,14 @@ show_json : reply_text 6 (Told (shown minted AsJson))
     ≡ codes "6 json {\"show\":[{\"address\":\"00000000000000000000000000000001\",\"struct\":\"00000000000000000000000000000001::M::Coin\",\"value\":\"{7}\"}]}\n"
 unfolding computed
 show_json = refl
+
+age_text : reply_text 7 (Aged minted.runs) ≡ codes "7 aged 1\n"
+unfolding computed
+age_text = refl
+
+no_sender : admitted with_coin (record (mint_by seven 100) { sender = 0 }) ≡ Err 8
+unfolding computed
+no_sender = refl
 
 too_large_a_budget : admitted with_coin (mint_by seven 10000001) ≡ Err 2
 unfolding computed

@@ -14,7 +14,7 @@
 use Rattle.std.specs.Prelude.{ℕ, List, [], map, cond, Option, Some, None, flat_map, filter_map, find, unwrap_or, Bool, false, ◌∷◌, ◌≡◌, true, ◌&&◌}
 use Rattle.std.specs.Prelude.{nat_lt, nat_le, Result, Ok, ok_or, slice_get, ◌+◌, Err, length}
 use Rattle.mv_machine.specs.State.{Storage, Event}
-use Rattle.mv_machine.specs.Lines.{Tallied, Reply, RanToEnd, RanToAbort, RanOut, Rejected, Published, Refused, Told}
+use Rattle.mv_machine.specs.Lines.{Tallied, Reply, RanToEnd, RanToAbort, RanOut, Rejected, Published, Refused, Told, Aged}
 use Rattle.mv_machine.specs.Lines.{show_lines, audit_lines, show_json, audit_json}
 use Rattle.mv_move_types.specs.Limits.{most_runs, most_steps}
 use Rattle.mv_move_types.specs.Scarce.{is_scarce_struct}
@@ -66,6 +66,7 @@ pub data Request : Type 0 where
   Run : (run : RunRequest) → Request
   Show : (format : Format) → Request
   Audit : (format : Format) → Request
+  Age : Request
   BadRun : Request
   Bad : Request
 
@@ -128,6 +129,7 @@ admitted s r = do
   tokens ← ok_or (parameter_tokens home d) 6
   need (are_arguments tokens (with_signer r.sender tokens r.arguments)) 6
   need (nat_lt s.runs most_runs) 7
+  need (nat_lt 0 r.sender) 8
   Ok (record { function = record { place = place; index = index }; arguments = with_signer r.sender tokens r.arguments })
 
 -- a struct's tally with those of a run
@@ -177,5 +179,6 @@ Answers IsText old (Publish sender offers) reply new = AnswersPublish IsText old
 Answers IsText old (Run r) reply new = attempted old r.budget (admitted old r) ≡ Some (reply, new)
 Answers IsText old (Show format) reply new = (reply ≡ Told (shown old format)) × (new ≡ old)
 Answers IsText old (Audit format) reply new = (reply ≡ Told (audited old format)) × (new ≡ old)
+Answers IsText old Age reply new = (reply ≡ Aged old.runs) × (new ≡ old)
 Answers IsText old BadRun reply new = (reply ≡ Rejected 1) × (new ≡ old)
 Answers IsText old Bad reply new = (reply ≡ Refused 1) × (new ≡ old)

@@ -144,6 +144,7 @@ pub data Reply : Type 0 where
   RanToAbort : (kind : Kind) (number steps : ℕ) → Reply
   RanOut : (stop : Stop) (steps : ℕ) → Reply
   Told : (lines : List (List ℕ)) → Reply
+  Aged : (runs : ℕ) → Reply
 
 -- why a run aborted
 abbrev pub kind_text : Kind → List ℕ
@@ -167,6 +168,7 @@ reply_lines (RanToAbort kind n steps) =
     (codes "aborted " ++ kind_text kind ++ codes " " ++ decimal n ++ codes " " ++ decimal steps) ∷ []
 reply_lines (RanOut stop steps) = (codes "exhausted " ++ stop_text stop ++ codes " " ++ decimal steps) ∷ []
 reply_lines (Told lines) = lines
+reply_lines (Aged runs) = (codes "aged " ++ decimal runs) ∷ []
 
 -- a line of the report: the record's number, a space, the text and a line end
 abbrev pub numbered : ℕ → List ℕ → List ℕ

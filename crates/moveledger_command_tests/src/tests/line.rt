@@ -20,12 +20,14 @@ fn asks(rt: &impl Abort, alloc: Global, words: &[&str], wanted: Task<'_>) -> Res
 fn files_are_applied(rt: HostRuntime) -> Result<(), Fail> {
     let (file, load, save) = ("first-coin.stream", None, None);
     let words = ["moveledger", "apply", "first-coin.stream"];
-    asks(&rt, rt.alloc(), &words, Task::Apply { file, load, save })
+    let done = None;
+    asks(&rt, rt.alloc(), &words, Task::Apply { file, load, save, done })
 }
 
 #[test]
 fn ledgers_are_loaded_and_saved(rt: HostRuntime) -> Result<(), Fail> {
     let (file, load, save) = ("-", Some("old.ledger"), Some("new.ledger"));
+    let done = None;
     let words = [
         "moveledger",
         "apply",
@@ -34,7 +36,7 @@ fn ledgers_are_loaded_and_saved(rt: HostRuntime) -> Result<(), Fail> {
         "--save=new.ledger",
         "-",
     ];
-    asks(&rt, rt.alloc(), &words, Task::Apply { file, load, save })?;
+    asks(&rt, rt.alloc(), &words, Task::Apply { file, load, save, done })?;
     let words = [
         "moveledger",
         "apply",
@@ -43,10 +45,13 @@ fn ledgers_are_loaded_and_saved(rt: HostRuntime) -> Result<(), Fail> {
         "new.ledger",
         "--load=old.ledger",
     ];
-    asks(&rt, rt.alloc(), &words, Task::Apply { file, load, save })?;
+    asks(&rt, rt.alloc(), &words, Task::Apply { file, load, save, done })?;
     let load = None;
     let words = ["moveledger", "apply", "--save", "new.ledger", "-"];
-    asks(&rt, rt.alloc(), &words, Task::Apply { file, load, save })?;
+    asks(&rt, rt.alloc(), &words, Task::Apply { file, load, save, done })?;
+    let done = Some("all.done");
+    let words = ["moveledger", "apply", "--done=all.done", "--save", "new.ledger", "-"];
+    asks(&rt, rt.alloc(), &words, Task::Apply { file, load, save, done })?;
     let words = ["moveledger", "migrate", "old.ledger", "new.ledger"];
     asks(
         &rt,

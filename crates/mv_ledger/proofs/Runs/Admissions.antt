@@ -103,7 +103,8 @@ module _ (published : List PublishedModule) (runs : ℕ) (r : RunRequest) where
   after_types : (place : ℕ) (home : Module) (index : ℕ) (d : FunctionDefinition) (tokens : List Token) (result : Result FunctionCall ℕ) → FindsTypes place home index d tokens
       → (need (are_arguments tokens (with_signer r.sender tokens r.arguments)) 6
       >> (need (nat_lt runs (2 ^ 32)) 7
-      >> Ok (record { function = record { place = place; index = index }; arguments = with_signer r.sender tokens r.arguments })))
+      >> (need (nat_lt 0 r.sender) 8
+      >> Ok (record { function = record { place = place; index = index }; arguments = with_signer r.sender tokens r.arguments }))))
       ≡ result
       → (storage : Storage) (tallies : List Tallied) → admitted (ledger storage tallies) r ≡ result
   unfolding admitted
@@ -121,11 +122,17 @@ module _ (published : List PublishedModule) (runs : ℕ) (r : RunRequest) where
   no_runs place home index d tokens types same full =
       each_admits (Err 7) (Err (Rejected 7)) (after_types place home index d tokens (Err 7) types (rw (same, not_below runs 4294967296 full) refl)) refl
 
+  -- 8: the sender is 0x0
+  pub no_sender : (place : ℕ) (home : Module) (index : ℕ) (d : FunctionDefinition) (tokens : List Token) → FindsTypes place home index d tokens
+      → are_arguments tokens (with_signer r.sender tokens r.arguments) ≡ true → runs < 4294967296 → r.sender ≤ 0 → IsAdmitted published runs r (Err (Rejected 8))
+  no_sender place home index d tokens types same room none =
+      each_admits (Err 8) (Err (Rejected 8)) (after_types place home index d tokens (Err 8) types (rw (same, below runs 4294967296 room, not_below 0 r.sender none) refl)) refl
+
   -- the call is admitted
   pub admits : (place : ℕ) (home : Module) (index : ℕ) (d : FunctionDefinition) (tokens : List Token) (c : Call) → FindsTypes place home index d tokens
-      → are_arguments tokens (with_signer r.sender tokens r.arguments) ≡ true → runs < 4294967296
+      → are_arguments tokens (with_signer r.sender tokens r.arguments) ≡ true → runs < 4294967296 → 0 < r.sender
       → call_of c.function c.arguments.items ≡ record { function = record { place = place; index = index }; arguments = with_signer r.sender tokens r.arguments } → c.budget ≡ r.budget
       → IsAdmitted published runs r (Ok c)
-  admits place home index d tokens c types same room call_is budget_is =
+  admits place home index d tokens c types same room someone call_is budget_is =
       let call : FunctionCall = record { function = record { place = place; index = index }; arguments = with_signer r.sender tokens r.arguments } in
-      each_admits (Ok call) (Ok c) (after_types place home index d tokens (Ok call) types (rw (same, below runs 4294967296 room) refl)) (call_is, budget_is)
+      each_admits (Ok call) (Ok c) (after_types place home index d tokens (Ok call) types (rw (same, below runs 4294967296 room, below 0 r.sender someone) refl)) (call_is, budget_is)

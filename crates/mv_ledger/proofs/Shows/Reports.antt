@@ -4,7 +4,7 @@ use Rattle.mv_ledger.proofs.Common.{All-tail, length-enumerate_from, count_by-le
 use Rattle.mv_ledger.proofs.Common.{is_scarce_struct, few_structs, count, Audit, Bad, BadRun, Format, Show, audited, shown, ToldRefused, Tallied, ToldLines, audit_json, audit_lines}
 use Rattle.mv_ledger.proofs.Common.{end_line, json_line, Storage, IsPublishable, tables_in, IsSoundLedger, Replies, audit_from, count_line, count_object, counts_json, stored_of, IsShapeless}
 use Rattle.mv_ledger.proofs.Common.{format_text, AreScarce, LedgerView, all_of, scarce_indices, state_of, Tally}
-use Rattle.mv_ledger.proofs.Common.{Answers, Asks, LedgerState, Publish, Request, Run, Spells, subst}
+use Rattle.mv_ledger.proofs.Common.{Age, AsText, ToldAged, Answers, Asks, LedgerState, Publish, Request, Run, Spells, subst}
 use Rattle.std.specs.Prelude.{IsUtf8}
 use Rattle.mv_lines.specs.LinesView.{ended}
 use Rattle.mv_ledger.specs.Formats.{IsNoFormat}
@@ -17,6 +17,7 @@ use Rattle.mv_lines.proofs.Shows.Characters.{shown_utf8, audited_utf8}
 shapeless : (kind : ℕ) (payload : List ℕ) → 2 < kind → IsNoFormat payload → IsShapeless kind payload
 shapeless kind payload late none (Show format) asked = none format asked.1
 shapeless kind payload late none (Audit format) asked = none format asked.1
+shapeless kind payload late none Age asked = none AsText asked.1
 shapeless kind payload late none BadRun asked = asked
 shapeless kind payload late none Bad asked = asked
 shapeless kind payload late none _ asked = absurd (omega (arith, late, asked.0))
@@ -28,6 +29,30 @@ unasked_replies kind payload v late none sound = record {
   leaves = refl;
   rightly = λ is. absurd (omega (arith, late, is));
 }
+
+-- ---- a payload that asks for an age
+
+no_age : (payload : List ℕ) → (payload ≡ [] → ⊥) → IsShapeless 5 payload
+no_age payload some Age asked = some asked.1
+no_age payload some BadRun asked = asked
+no_age payload some Bad asked = asked
+no_age payload some _ asked = absurd (omega (arith, asked.0))
+
+module _ (payload : List ℕ) (v : LedgerView) (sound : IsSoundLedger (state_of v)) where
+  pub age_replies : payload ≡ [] → Replies 5 payload (Some (ToldAged v.runs)) v v
+  age_replies none = record {
+    answers = answers_record 5 payload Age (ToldAged v.runs) (state_of v) (state_of v) (refl, none) (refl, refl) sound;
+    leaves = refl;
+    rightly = λ kind. absurd (omega (arith, kind));
+  }
+
+  -- or for nothing
+  pub no_age_replies : (payload ≡ [] → ⊥) → Replies 5 payload (Some (ToldRefused 1)) v v
+  no_age_replies some = record {
+    answers = answers_record 5 payload Bad (ToldRefused 1) (state_of v) (state_of v) (λ is. omega (arith, is), no_age payload some) (refl, refl) sound;
+    leaves = refl;
+    rightly = λ kind. absurd (omega (arith, kind));
+  }
 
 -- ---- one that asks for one
 
@@ -94,6 +119,7 @@ told_utf8 kind payload lines old new (Show format) late asked answers sound =
 told_utf8 kind payload lines old new (Audit format) late asked answers sound =
     let same : lines ≡ audited old format = cc in
     subst (λ (ls : List (List ℕ)). IsUtf8 (ended ls)) (sym same) (audited_utf8 old sound.store sound.tallied format)
+told_utf8 kind payload lines old new Age late asked answers sound = cc
 told_utf8 kind payload lines old new BadRun late asked answers sound = absurd (omega (arith, late, asked.0))
 told_utf8 kind payload lines old new Bad late asked answers sound = cc
 

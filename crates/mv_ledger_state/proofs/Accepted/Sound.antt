@@ -1,5 +1,5 @@
 -- No run of a sound ledger meets a fault, and each answered record leaves it sound.
-use Rattle.mv_ledger_state.proofs.Common.{◌≡◌, Err, IsTrue, List, Ok, Option, Result, Some, refl, subst, sym, ℕ, PublishedModule, with_modules, IsReadByText, address_fits, WhereSome, Answers, Audit, Bad}
+use Rattle.mv_ledger_state.proofs.Common.{◌≡◌, Err, IsTrue, List, Ok, Option, Result, Some, refl, subst, sym, ℕ, PublishedModule, with_modules, IsReadByText, address_fits, WhereSome, Age, Answers, Audit, Bad}
 use Rattle.mv_ledger_state.proofs.Common.{BadRun, LedgerState, Offer, Publish, Request, Run, RunRequest, Show, admitted, attempted, empty_ledger, modules_of, settled, with_bundle, with_returned}
 use Rattle.mv_ledger_state.proofs.Common.{with_run, Published, Refused, Reply, AtReturn, Aborted, Exhausted, Faulted, FunctionCall, Returned, RunOutcome, run, Event}
 use Rattle.mv_ledger_state.proofs.Common.{Storage, is_fine_storage, IsStore, tables_in, runs_faultless, Ranged, admitted_typed, fine_storage, typed_is_fine, StorageTyped, IsVetted, IsSoundLedger}
@@ -105,6 +105,7 @@ RequestFits (Publish sender offers) = OffersAreBytes offers
 RequestFits (Run r) = RunFits r
 RequestFits (Show format) = Unit {0}
 RequestFits (Audit format) = Unit {0}
+RequestFits Age = Unit {0}
 RequestFits BadRun = Unit {0}
 RequestFits Bad = Unit {0}
 
@@ -116,6 +117,7 @@ answered_sound reads old new (Publish sender offers) (Refused phase) sound fits 
 answered_sound reads old new (Run r) reply sound fits a v = attempted_sound old new reply r sound fits a
 answered_sound reads old new (Show format) reply sound fits a v = subst IsSoundLedger (sym a.1) sound
 answered_sound reads old new (Audit format) reply sound fits a v = subst IsSoundLedger (sym a.1) sound
+answered_sound reads old new Age reply sound fits a v = subst IsSoundLedger (sym a.1) sound
 answered_sound reads old new BadRun reply sound fits a v = subst IsSoundLedger (sym a.1) sound
 answered_sound reads old new Bad reply sound fits a v = subst IsSoundLedger (sym a.1) sound
 answered_sound _ _ _ _ _ _ _ a _ = absurd a

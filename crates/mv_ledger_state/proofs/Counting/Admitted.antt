@@ -26,11 +26,12 @@ admitted-entry s r call e =
     on_some (parameter_tokens home d) _ _ call e6 (λ tokens tokens_are e7.
     on_need (are_arguments tokens (with_signer r.sender tokens r.arguments)) _ _ call e7 (λ typed e8.
     on_need (nat_lt s.runs (2 ^ 32)) _ _ call e8 (λ room e9.
-    subst (WhereOk (IsEntryCall (modules_of s))) e9 (record {
+    on_need (nat_lt 0 r.sender) _ _ call e9 (λ someone e10.
+    subst (WhereOk (IsEntryCall (modules_of s))) e10 (record {
       home = home;
       function = d;
       home_is = home_is;
       function_is = d_is;
       is_entry = is_entry;
       leaves = arguments-leaves tokens (with_signer r.sender tokens r.arguments) typed;
-    }))))))))))
+    })))))))))))

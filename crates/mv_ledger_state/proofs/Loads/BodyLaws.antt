@@ -24,15 +24,15 @@ count-parts First bytes rest n ok e =
     let lt : n < 2 ^ 128 = p.1 in
     (p.0, le-leb n (2 ^ 128 - 1) (omega arith))
 count-parts Second bytes rest n ok e =
-    let p = number-front 42949672960000000 n bytes rest (omega arith) ok e in
-    (p.0, le-leb n 42949672960000000 p.1)
+    let p = number-front 72057594037927935 n bytes rest (omega arith) ok e in
+    (p.0, le-leb n 72057594037927935 p.1)
 
 count-whole : (form : Form) → Whole (count_from form) (count_text form) (count_fits form)
 count-whole First rest n ok =
     let le : n ≤ 2 ^ 128 - 1 = leb-true n (2 ^ 128 - 1) ok in
     let lt : n < 2 ^ 128 = omega arith in
     number_of-whole U128 n rest lt
-count-whole Second rest n ok = number-whole 42949672960000000 n rest (omega arith) (leb-true n 42949672960000000 ok)
+count-whole Second rest n ok = number-whole 72057594037927935 n rest (omega arith) (leb-true n 72057594037927935 ok)
 
 -- both counts of a tally
 abbrev pair_text : Form → ℕ × ℕ → List ℕ

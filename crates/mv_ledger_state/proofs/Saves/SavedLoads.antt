@@ -27,7 +27,7 @@ module _ (s : LedgerState) where
   -- both forms can write what so many runs made
   within : (form : Form) (n : ℕ) → n ≤ 42949672960000000 → nat_le n (greatest_count form) ≡ true
   within First n h = le-leb n (greatest_count First) (omega (arith, h))
-  within Second n h = le-leb n (greatest_count Second) h
+  within Second n h = le-leb n (greatest_count Second) (omega (arith, h))
 
   counts_fit : (form : Form) (ts : List Tallied) → s.runs ≤ 4294967296 → AllByRecursion (λ t. IsBounded t × IsStored t) ts → list_all (tally_fits form) ts ≡ true
   counts_fit form [] had h = refl

@@ -10,7 +10,7 @@ use Rattle.std.specs.List.{AllByRecursion}
 use Rattle.mv_machine.specs.State.{Event}
 use Rattle.mv_machine.specs.Count.{count}
 use Rattle.mv_machine.specs.Run.{RunOutcome, Returned, Aborted, Exhausted, Faulted, FunctionCall, run}
-use Rattle.mv_machine.specs.Ledger.{LedgerState, Request, Publish, Run, Show, Audit, BadRun, Bad, modules_of, admitted}
+use Rattle.mv_machine.specs.Ledger.{LedgerState, Request, Publish, Run, Show, Audit, Age, BadRun, Bad, modules_of, admitted}
 
 -- of each struct with neither copy nor drop as many values are stored as were made and not taken apart
 abbrev pub IsBalanced : LedgerState → Type 0
@@ -38,6 +38,7 @@ RunsWell s (Run r) = CallEndsWell s r.budget (admitted s r)
 RunsWell s (Publish sender offers) = Unit {0}
 RunsWell s (Show format) = Unit {0}
 RunsWell s (Audit format) = Unit {0}
+RunsWell s Age = Unit {0}
 RunsWell s BadRun = Unit {0}
 RunsWell s Bad = Unit {0}
 

@@ -92,6 +92,7 @@ admitted_typed s r call store sender ranged e =
     on_there (parameter_tokens home d) _ _ call e6 (λ tokens tokens_are e7.
     on_need (are_arguments tokens (with_signer r.sender tokens r.arguments)) _ _ call e7 (λ typed e8.
     on_need (nat_lt s.runs (2 ^ 32)) _ _ call e8 (λ room e9.
+    on_need (nat_lt 0 r.sender) _ _ call e9 (λ someone e10.
     let arguments = arguments_typed (modules_of s) home tokens (with_signer r.sender tokens r.arguments) typed (signed_ranged r.sender tokens r.arguments sender ranged) in
-    let same : record { function = record { place = place; index = index }; arguments = with_signer r.sender tokens r.arguments } ≡ call = cc (e9) in
-    subst (CallTyped (modules_of s)) same (call_typed (modules_of s) store place index home d tokens (with_signer r.sender tokens r.arguments) home_is d_is tokens_are arguments))))))))))
+    let same : record { function = record { place = place; index = index }; arguments = with_signer r.sender tokens r.arguments } ≡ call = cc (e10) in
+    subst (CallTyped (modules_of s)) same (call_typed (modules_of s) store place index home d tokens (with_signer r.sender tokens r.arguments) home_is d_is tokens_are arguments)))))))))))

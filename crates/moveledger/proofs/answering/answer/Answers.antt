@@ -81,24 +81,42 @@ returns-then-kind-eq-AUDIT-clause-memory g c failed =
     report_answers c.args.number c.args.kind 4 c.args.payload.now c.args.ledger.now (g.W.Write.contents c.args.writer.now) (g.W.Write.contents c.write_report-then-kind-eq-AUDIT.new.writer)
     c.if-kind-eq-AUDIT.true (λ json. inr (refl, json)) c.audit_lines.result c.audit_lines.ensures.replies c.audit_lines.ensures.format (c.write_report-then-kind-eq-AUDIT.ensures.memory failed) written.1
 
+pub returns-then-kind-eq-AGE-clause-ok : goal.returns-then-kind-eq-AGE-clause-ok
+returns-then-kind-eq-AGE-clause-ok g c =
+    written_answers c.args.number c.args.kind 5 c.args.payload.now (told c.age.result) c.args.ledger.now c.args.ledger.now (g.W.Write.contents c.args.writer.now) (g.W.Write.contents c.write_reply-then-kind-eq-AGE.new.writer)
+    c.write_reply-then-kind-eq-AGE.result c.if-kind-eq-AGE.true c.age.ensures c.write_reply-then-kind-eq-AGE.ensures.ok
+
+pub returns-then-kind-eq-AGE-clause-err : goal.returns-then-kind-eq-AGE-clause-err
+returns-then-kind-eq-AGE-clause-err g c =
+    begun_answers Read c.args.number c.args.kind 5 c.args.payload.now (told c.age.result) c.args.ledger.now c.args.ledger.now (g.W.Write.contents c.args.writer.now) (g.W.Write.contents c.write_reply-then-kind-eq-AGE.new.writer)
+    c.write_reply-then-kind-eq-AGE.result c.if-kind-eq-AGE.true c.age.ensures c.write_reply-then-kind-eq-AGE.ensures.err
+
+pub returns-then-kind-eq-AGE-clause-write : goal.returns-then-kind-eq-AGE-clause-write
+returns-then-kind-eq-AGE-clause-write g c failed =
+    breaks_off c.args.number c.args.kind 5 c.args.payload.now (told c.age.result) c.args.ledger.now c.args.ledger.now (g.W.Write.contents c.args.writer.now) (g.W.Write.contents c.write_reply-then-kind-eq-AGE.new.writer) c.if-kind-eq-AGE.true c.age.ensures (c.write_reply-then-kind-eq-AGE.ensures.write failed)
+
+pub returns-then-kind-eq-AGE-clause-memory : goal.returns-then-kind-eq-AGE-clause-memory
+returns-then-kind-eq-AGE-clause-memory g c failed =
+    unwritten_answers c.args.number c.args.kind 5 c.args.payload.now (told c.age.result) c.args.ledger.now c.args.ledger.now (g.W.Write.contents c.args.writer.now) (g.W.Write.contents c.write_reply-then-kind-eq-AGE.new.writer) c.if-kind-eq-AGE.true c.age.ensures (c.write_reply-then-kind-eq-AGE.ensures.memory failed)
+
 pub returns-clause-ok : goal.returns-clause-ok
 returns-clause-ok g c =
-    let other = other_replied c.args.kind c.args.payload.now c.args.ledger.now c.if-kind-eq-PUBLISH.false c.if-kind-eq-RUN.false c.if-kind-eq-SHOW.false c.if-kind-eq-AUDIT.false c.is_sound.ensures in
+    let other = other_replied c.args.kind c.args.payload.now c.args.ledger.now c.if-kind-eq-PUBLISH.false c.if-kind-eq-RUN.false c.if-kind-eq-SHOW.false c.if-kind-eq-AUDIT.false c.if-kind-eq-AGE.false c.is_sound.ensures in
     written_answers c.args.number c.args.kind c.args.kind c.args.payload.now (Some (Refused 1)) c.args.ledger.now c.args.ledger.now (g.W.Write.contents c.args.writer.now) (g.W.Write.contents c.write_reply-2.new.writer)
     c.write_reply-2.result refl other c.write_reply-2.ensures.ok
 
 pub returns-clause-err : goal.returns-clause-err
 returns-clause-err g c =
-    let other = other_replied c.args.kind c.args.payload.now c.args.ledger.now c.if-kind-eq-PUBLISH.false c.if-kind-eq-RUN.false c.if-kind-eq-SHOW.false c.if-kind-eq-AUDIT.false c.is_sound.ensures in
+    let other = other_replied c.args.kind c.args.payload.now c.args.ledger.now c.if-kind-eq-PUBLISH.false c.if-kind-eq-RUN.false c.if-kind-eq-SHOW.false c.if-kind-eq-AUDIT.false c.if-kind-eq-AGE.false c.is_sound.ensures in
     begun_answers Read c.args.number c.args.kind c.args.kind c.args.payload.now (Some (Refused 1)) c.args.ledger.now c.args.ledger.now (g.W.Write.contents c.args.writer.now) (g.W.Write.contents c.write_reply-2.new.writer)
     c.write_reply-2.result refl other c.write_reply-2.ensures.err
 
 pub returns-clause-write : goal.returns-clause-write
 returns-clause-write g c failed =
-    let other = other_replied c.args.kind c.args.payload.now c.args.ledger.now c.if-kind-eq-PUBLISH.false c.if-kind-eq-RUN.false c.if-kind-eq-SHOW.false c.if-kind-eq-AUDIT.false c.is_sound.ensures in
+    let other = other_replied c.args.kind c.args.payload.now c.args.ledger.now c.if-kind-eq-PUBLISH.false c.if-kind-eq-RUN.false c.if-kind-eq-SHOW.false c.if-kind-eq-AUDIT.false c.if-kind-eq-AGE.false c.is_sound.ensures in
     breaks_off c.args.number c.args.kind c.args.kind c.args.payload.now (Some (Refused 1)) c.args.ledger.now c.args.ledger.now (g.W.Write.contents c.args.writer.now) (g.W.Write.contents c.write_reply-2.new.writer) refl other (c.write_reply-2.ensures.write failed)
 
 pub returns-clause-memory : goal.returns-clause-memory
 returns-clause-memory g c failed =
-    let other = other_replied c.args.kind c.args.payload.now c.args.ledger.now c.if-kind-eq-PUBLISH.false c.if-kind-eq-RUN.false c.if-kind-eq-SHOW.false c.if-kind-eq-AUDIT.false c.is_sound.ensures in
+    let other = other_replied c.args.kind c.args.payload.now c.args.ledger.now c.if-kind-eq-PUBLISH.false c.if-kind-eq-RUN.false c.if-kind-eq-SHOW.false c.if-kind-eq-AUDIT.false c.if-kind-eq-AGE.false c.is_sound.ensures in
     unwritten_answers c.args.number c.args.kind c.args.kind c.args.payload.now (Some (Refused 1)) c.args.ledger.now c.args.ledger.now (g.W.Write.contents c.args.writer.now) (g.W.Write.contents c.write_reply-2.new.writer) refl other (c.write_reply-2.ensures.memory failed)

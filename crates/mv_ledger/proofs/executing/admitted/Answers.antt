@@ -4,7 +4,7 @@ use Rattle.mv_ledger.proofs.Common.{FunctionCall, Value, found_at, tables_in, ar
 use Rattle.mv_interface.specs.Interface.{AreTypesOf, IsSignatureAt}
 use Rattle.mv_interface.specs.declared.interface.Signature.{Signature}
 use Rattle.mv_ledger.proofs.Runs.Parameters.{same-arguments, same-sender}
-use Rattle.mv_ledger.proofs.Runs.Admissions.{FindsModule, FindsFunction, FindsTypes, hit, miss, rejected-as, no_budget, no_module, no_function, no_entry, no_arguments, no_runs, admits, place-below}
+use Rattle.mv_ledger.proofs.Runs.Admissions.{FindsModule, FindsFunction, FindsTypes, hit, miss, rejected-as, no_budget, no_module, no_function, no_entry, no_arguments, no_runs, no_sender, admits, place-below}
 use Rattle.mv_ledger.proofs.executing.admitted.Goals as goal
 use Rattle.mv_ledger.proofs.executing.admitted.Goals.{In_ok-index, After-are_passed}
 
@@ -136,13 +136,20 @@ returns-then-runs-ge-MOST_RUNS-clause-admitted c =
     no_runs c.args.store.now c.args.runs (request_of c.args.asked) c.in_ok-place.place f.home c.in_ok-index.index f.definition f.types.tokens (types-found here f)
     (arguments-are here f ∙ c.if-not-are_passed.false) (omega (arith, c.if-runs-ge-MOST_RUNS.true))
 
+pub returns-then-asked-eq-0-clause-admitted : goal.returns-then-asked-eq-0-clause-admitted
+returns-then-asked-eq-0-clause-admitted c =
+    let here = (goal.at.returns-then-asked-eq-0-clause-admitted c).After-are_passed in
+    let f = found-of (goal.at.returns-then-asked-eq-0-clause-admitted c).In_ok-index in
+    no_sender c.args.store.now c.args.runs (request_of c.args.asked) c.in_ok-place.place f.home c.in_ok-index.index f.definition f.types.tokens (types-found here f)
+    (arguments-are here f ∙ c.if-not-are_passed.false) (omega (arith, c.if-runs-ge-MOST_RUNS.false)) (omega (arith, c.if-asked-eq-0.true))
+
 pub returns-clause-admitted : goal.returns-clause-admitted
 returns-clause-admitted c =
     let here = (goal.at.returns-clause-admitted c).After-are_passed in
     let f = found-of (goal.at.returns-clause-admitted c).In_ok-index in
     let made : List Value → FunctionCall = λ vs. record { function = record { place = c.in_ok-place.place; index = c.in_ok-index.index }; arguments = vs } in
     admits c.args.store.now c.args.runs (request_of c.args.asked) c.in_ok-place.place f.home c.in_ok-index.index f.definition f.types.tokens _ (types-found here f)
-    (arguments-are here f ∙ c.if-not-are_passed.false) (omega (arith, c.if-runs-ge-MOST_RUNS.false)) (ap made (sender-found here f)) refl
+    (arguments-are here f ∙ c.if-not-are_passed.false) (omega (arith, c.if-runs-ge-MOST_RUNS.false)) (omega (arith, c.if-asked-eq-0.false)) (ap made (sender-found here f)) refl
 
 pub returns-clause-call : goal.returns-clause-call
 returns-clause-call c =

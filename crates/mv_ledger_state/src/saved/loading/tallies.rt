@@ -9,10 +9,9 @@ use crate::unread::{Unread, number};
 use mv_machine::Tally;
 use mv_module_text::Reader;
 use mv_move_types::Width;
-use mv_move_types::limits::{MOST_RUNS, MOST_STEPS};
 
-// The most values of a struct that 2^32 runs of 10,000,000 steps each make.
-const MOST_COUNT: u64 = MOST_RUNS * MOST_STEPS;
+// The greatest count that 8 bytes tell.
+const MOST_COUNT: u64 = 72_057_594_037_927_935;
 
 /// Reads a count of a tally.
 fn count(reader: &mut Reader<'_>, form: SavedForm) -> Result<u128, Unread>
