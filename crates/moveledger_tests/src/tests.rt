@@ -98,7 +98,7 @@ fn reports(rt: &impl Abort, alloc: Global, row: &Row, bytes: &[u8], wanted: &[u8
 #[test]
 fn rows_are_answered_as_wanted(rt: HostRuntime) -> Result<(), Fail> {
     let rows = rows_of(rt.alloc(), inputs())?;
-    assert_eq!(rt; rows.len(), 137);
+    assert_eq!(rt; rows.len(), 139);
     for row in &rows {
         let bytes = row.input(rt.alloc())?;
         let wanted = row.report(rt.alloc())?;

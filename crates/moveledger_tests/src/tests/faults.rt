@@ -279,7 +279,7 @@ const LENGTHS: [(&str, Result<u64, EngineError>, &str); 5] = [
     // A length past the limit.
     ("0181808010", Ok(1), "1 refused 1\n"),
     // A record of no bytes, and a kind.
-    ("050001", Err(EngineError::Read), "1 refused 1\n"),
+    ("060001", Err(EngineError::Read), "1 refused 1\n"),
 ];
 
 // An input that ends where the reader fails is answered so.
