@@ -25,9 +25,13 @@ name_of name = record (new_rule name) { required = true }
 abbrev pub path_option : Text → Rule
 path_option name = record (new_rule name) { long = Some name; value_names = 1 }
 
+-- apply with the files of ledgers: [--load PATH] [--save PATH]
+abbrev pub ledger_files : App
+ledger_files = with_rule (with_rule (new_app (codes "apply")) (path_option (codes "load"))) (path_option (codes "save"))
+
 -- apply [--load PATH] [--save PATH] [--done PATH] FILE
 abbrev pub apply : App
-apply = with_rule (with_rule (with_rule (with_rule (new_app (codes "apply")) (path_option (codes "load"))) (path_option (codes "save"))) (path_option (codes "done"))) (name_of (codes "FILE"))
+apply = with_rule (with_rule ledger_files (path_option (codes "done"))) (name_of (codes "FILE"))
 
 -- migrate OLD NEW
 abbrev pub migrate : App

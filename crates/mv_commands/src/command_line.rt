@@ -2,7 +2,7 @@
 ghost use Rattle.std.specs.Prelude.{◌≡◌, [], ◌∷◌, IfOk, IfErr, IsTrue, OnOk, false, map, option_map};
 ghost use Rattle.clap.specs.Words.{app_of, fault_of, first_of, found_of, rows_of, rule_of, subcommand_of, subcommand_rows_of, takes};
 ghost use Rattle.clap.specs.declared.builder.Command.TheViews.{out-Command};
-ghost use Rattle.mv_commands.specs.Line.{apply, check, given_as, ledger_commands, migrate, moveledger, name_of, named_task, path_option, prove, task_in, seen, IsOfKind, IsWords};
+ghost use Rattle.mv_commands.specs.Line.{apply, check, given_as, ledger_commands, ledger_files, migrate, moveledger, name_of, named_task, path_option, prove, task_in, seen, IsOfKind, IsWords};
 
 use clap::error::ErrorKind;
 use clap::{Arg, ArgMatches, Command};
@@ -73,9 +73,9 @@ fn path_option<'a>(alloc: Global, name: &'a str, help: &'a str) -> Arg<'a>
         .help(help)
 }
 
-/// `apply [--load PATH] [--save PATH] [--done PATH] FILE`.
-fn apply_command<'a>(alloc: Global) -> Result<Command<'a>, AllocError>
-    ensures app { IfOk result (λ c. app_of c ≡ apply) }
+/// `apply`, with the files of ledgers: `[--load PATH] [--save PATH]`.
+fn ledger_files<'a>(alloc: Global) -> Result<Command<'a>, AllocError>
+    ensures app { IfOk result (λ c. app_of c ≡ ledger_files) }
     ensures local { IfOk result (λ c. (out-Command c).has_globals ≡ false) }
 {
     Command::new(alloc, "apply")
@@ -92,7 +92,15 @@ fn apply_command<'a>(alloc: Global) -> Result<Command<'a>, AllocError>
             alloc,
             "save",
             "Save the ledger in this file once the input is answered to its end",
-        ))?
+        ))
+}
+
+/// `apply [--load PATH] [--save PATH] [--done PATH] FILE`.
+fn apply_command<'a>(alloc: Global) -> Result<Command<'a>, AllocError>
+    ensures app { IfOk result (λ c. app_of c ≡ apply) }
+    ensures local { IfOk result (λ c. (out-Command c).has_globals ≡ false) }
+{
+    ledger_files(alloc)?
         .arg(path_option(
             alloc,
             "done",
