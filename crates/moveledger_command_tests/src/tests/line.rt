@@ -21,7 +21,17 @@ fn files_are_applied(rt: HostRuntime) -> Result<(), Fail> {
     let (file, load, save) = ("first-coin.stream", None, None);
     let words = ["moveledger", "apply", "first-coin.stream"];
     let done = None;
-    asks(&rt, rt.alloc(), &words, Task::Apply { file, load, save, done })
+    asks(
+        &rt,
+        rt.alloc(),
+        &words,
+        Task::Apply {
+            file,
+            load,
+            save,
+            done,
+        },
+    )
 }
 
 #[test]
@@ -36,7 +46,17 @@ fn ledgers_are_loaded_and_saved(rt: HostRuntime) -> Result<(), Fail> {
         "--save=new.ledger",
         "-",
     ];
-    asks(&rt, rt.alloc(), &words, Task::Apply { file, load, save, done })?;
+    asks(
+        &rt,
+        rt.alloc(),
+        &words,
+        Task::Apply {
+            file,
+            load,
+            save,
+            done,
+        },
+    )?;
     let words = [
         "moveledger",
         "apply",
@@ -45,13 +65,50 @@ fn ledgers_are_loaded_and_saved(rt: HostRuntime) -> Result<(), Fail> {
         "new.ledger",
         "--load=old.ledger",
     ];
-    asks(&rt, rt.alloc(), &words, Task::Apply { file, load, save, done })?;
+    asks(
+        &rt,
+        rt.alloc(),
+        &words,
+        Task::Apply {
+            file,
+            load,
+            save,
+            done,
+        },
+    )?;
     let load = None;
     let words = ["moveledger", "apply", "--save", "new.ledger", "-"];
-    asks(&rt, rt.alloc(), &words, Task::Apply { file, load, save, done })?;
+    asks(
+        &rt,
+        rt.alloc(),
+        &words,
+        Task::Apply {
+            file,
+            load,
+            save,
+            done,
+        },
+    )?;
     let done = Some("all.done");
-    let words = ["moveledger", "apply", "--done=all.done", "--save", "new.ledger", "-"];
-    asks(&rt, rt.alloc(), &words, Task::Apply { file, load, save, done })?;
+    let words = [
+        "moveledger",
+        "apply",
+        "--done=all.done",
+        "--save",
+        "new.ledger",
+        "-",
+    ];
+    asks(
+        &rt,
+        rt.alloc(),
+        &words,
+        Task::Apply {
+            file,
+            load,
+            save,
+            done,
+        },
+    )?;
     let words = ["moveledger", "migrate", "old.ledger", "new.ledger"];
     asks(
         &rt,
