@@ -136,12 +136,12 @@ returns-then-runs-ge-MOST_RUNS-clause-admitted c =
     no_runs c.args.store.now c.args.runs (request_of c.args.asked) c.in_ok-place.place f.home c.in_ok-index.index f.definition f.types.tokens (types-found here f)
     (arguments-are here f ∙ c.if-not-are_passed.false) (omega (arith, c.if-runs-ge-MOST_RUNS.true))
 
-pub returns-then-asked-eq-0-clause-admitted : goal.returns-then-asked-eq-0-clause-admitted
-returns-then-asked-eq-0-clause-admitted c =
-    let here = (goal.at.returns-then-asked-eq-0-clause-admitted c).After-are_passed in
-    let f = found-of (goal.at.returns-then-asked-eq-0-clause-admitted c).In_ok-index in
+pub returns-then-asked-eq0-clause-admitted : goal.returns-then-asked-eq0-clause-admitted
+returns-then-asked-eq0-clause-admitted c =
+    let here = (goal.at.returns-then-asked-eq0-clause-admitted c).After-are_passed in
+    let f = found-of (goal.at.returns-then-asked-eq0-clause-admitted c).In_ok-index in
     no_sender c.args.store.now c.args.runs (request_of c.args.asked) c.in_ok-place.place f.home c.in_ok-index.index f.definition f.types.tokens (types-found here f)
-    (arguments-are here f ∙ c.if-not-are_passed.false) (omega (arith, c.if-runs-ge-MOST_RUNS.false)) (omega (arith, c.if-asked-eq-0.true))
+    (arguments-are here f ∙ c.if-not-are_passed.false) (omega (arith, c.if-runs-ge-MOST_RUNS.false)) (omega (arith, c.if-asked-eq0.true))
 
 pub returns-clause-admitted : goal.returns-clause-admitted
 returns-clause-admitted c =
@@ -149,7 +149,7 @@ returns-clause-admitted c =
     let f = found-of (goal.at.returns-clause-admitted c).In_ok-index in
     let made : List Value → FunctionCall = λ vs. record { function = record { place = c.in_ok-place.place; index = c.in_ok-index.index }; arguments = vs } in
     admits c.args.store.now c.args.runs (request_of c.args.asked) c.in_ok-place.place f.home c.in_ok-index.index f.definition f.types.tokens _ (types-found here f)
-    (arguments-are here f ∙ c.if-not-are_passed.false) (omega (arith, c.if-runs-ge-MOST_RUNS.false)) (omega (arith, c.if-asked-eq-0.false)) (ap made (sender-found here f)) refl
+    (arguments-are here f ∙ c.if-not-are_passed.false) (omega (arith, c.if-runs-ge-MOST_RUNS.false)) (omega (arith, c.if-asked-eq0.false)) (ap made (sender-found here f)) refl
 
 pub returns-clause-call : goal.returns-clause-call
 returns-clause-call c =
