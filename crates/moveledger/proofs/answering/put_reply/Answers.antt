@@ -1,6 +1,6 @@
 use Rattle.std.proofs.Common.{Some, ap, sym, ◌∙◌}
 use Rattle.std.proofs.lemmas.Result.{on_ok_weaker}
-use Rattle.mv_machine.specs.Lines.{Published, Refused, Rejected}
+use Rattle.mv_machine.specs.Lines.{Aged, Published, Refused, Rejected}
 use Rattle.mv_ledger.specs.Answering.{told}
 use Rattle.moveledger.proofs.answering.put_reply.Goals as goal
 
@@ -15,3 +15,6 @@ pub returns-in-Rejected : goal.returns-in-Rejected
 returns-in-Rejected c =
     on_ok_weaker c.put_count-in-Rejected.result (λ is. (Rejected c.from-in-Rejected.result, (ap told c.in-Rejected.is ∙ ap (λ n. Some (Rejected n)) (sym c.from-in-Rejected.ensures), is)))
     c.put_count-in-Rejected.ensures
+
+pub returns-in-Aged : goal.returns-in-Aged
+returns-in-Aged c = on_ok_weaker c.put_count-in-Aged.result (λ is. (Aged c.in-Aged.runs, (ap told c.in-Aged.is, is))) c.put_count-in-Aged.ensures
