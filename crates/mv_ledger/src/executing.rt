@@ -166,7 +166,7 @@ fn run_over(store: &Store, storage: &mut Storage, call: &Call) -> Result<(Outcom
     requires few { length store.now ≤ most_modules }
     requires stored { All (IsFineWords (tables_in store.now)) storage.old.committed }
     ensures machine { IfOk result (λ r. Agrees (tables_in store.now) (run_of store.now storage.old.committed call.now) r.0 r.1.items
-        (record { committed = storage.old.committed; current = storage.new.committed })) }
+        (record { committed = storage.old.committed; current = storage.new.committed; marks = storage.old.marks })) }
     ensures fine { IfOk result (λ r. All (IsFineWords (tables_in store.now)) storage.new.committed) }
     ensures few { IfOk result (λ r. AtMost call.now.budget r.1.items) }
     ensures other { IfOk result (λ r. (HasEnded r.0 → ⊥) → storage.new.committed ≡ storage.old.committed) }

@@ -17,7 +17,7 @@ use crate::pieces::Piece;
 use mv_linker::Store;
 use mv_machine::Tally;
 use mv_move_types::Key;
-use mv_storage::Storage;
+use mv_storage::Entries;
 use serde::{Described, Serialize, Serializer};
 use std::alloc::{AllocError, Global};
 
@@ -155,12 +155,12 @@ impl<'a> StoredJson<'a> {
     ghost use Rattle.mv_lines.specs.JsonLeft.{show_left};
 
     /// The whole line.
-    pub fn new(alloc: Global, store: &'a Store, storage: &'a Storage) -> Self
-        ensures { show_left result ≡ show_json (tables_in store.entry.now) (storage_of (tables_in store.entry.now) storage.entry.now.committed) ∷ [] }
+    pub fn new(alloc: Global, store: &'a Store, entries: Entries<'a>) -> Self
+        ensures { show_left result ≡ show_json (tables_in store.entry.now) (storage_of (tables_in store.entry.now) entries.entry) ∷ [] }
     {
         StoredJson {
             store,
-            entries: Ahead::new(storage.iter()),
+            entries: Ahead::new(entries),
             place: Place::Opening,
             room: Vec::new(alloc),
         }

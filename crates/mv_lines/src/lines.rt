@@ -18,7 +18,7 @@ use crate::values::put_value;
 use mv_linker::Store;
 use mv_machine::Tally;
 use mv_move_types::Key;
-use mv_storage::Storage;
+use mv_storage::{Entries, Storage};
 use std::alloc::{AllocError, Global};
 use std::marker::Model;
 
@@ -176,11 +176,19 @@ impl<'a> Lines<'a> {
     pub fn of_storage(alloc: Global, store: &'a Store, storage: &'a Storage) -> Self
         ensures { result ≡ record { format = AsText; left = show_lines (tables_in store.entry.now) (storage_of (tables_in store.entry.now) storage.entry.now.committed) } }
     {
+        Lines::of_entries(alloc, store, storage.iter())
+    }
+
+    /// The lines of a show, if these values were all that is stored.
+    pub fn of_entries(alloc: Global, store: &'a Store, entries: Entries<'a>) -> Self
+        requires { length entries < 2 ^ 63 }
+        ensures { result ≡ record { format = AsText; left = show_lines (tables_in store.entry.now) (storage_of (tables_in store.entry.now) entries.entry) } }
+    {
         Lines {
             alloc,
             left: Left::Stored(Stored {
                 store,
-                entries: Ahead::new(storage.iter()),
+                entries: Ahead::new(entries),
                 told: 0,
                 is_ended: false,
             }),
@@ -207,9 +215,16 @@ impl<'a> Lines<'a> {
     pub fn json_of_storage(alloc: Global, store: &'a Store, storage: &'a Storage) -> Self
         ensures { result ≡ record { format = AsJson; left = show_json (tables_in store.entry.now) (storage_of (tables_in store.entry.now) storage.entry.now.committed) ∷ [] } }
     {
+        Lines::json_of_entries(alloc, store, storage.iter())
+    }
+
+    /// The line of a show, if these values were all that is stored, as JSON.
+    pub fn json_of_entries(alloc: Global, store: &'a Store, entries: Entries<'a>) -> Self
+        ensures { result ≡ record { format = AsJson; left = show_json (tables_in store.entry.now) (storage_of (tables_in store.entry.now) entries.entry) ∷ [] } }
+    {
         Lines {
             alloc,
-            left: Left::StoredJson(StoredJson::new(alloc, store, storage)),
+            left: Left::StoredJson(StoredJson::new(alloc, store, entries)),
         }
     }
 

@@ -6,10 +6,10 @@ use Rattle.std.specs.declared.alloc.AllocError.{AllocError}
 use Rattle.std.proofs.lemmas.Bool.{le-leb}
 use Rattle.std.specs.Option.{option_map, option_map_or, option_and_then}
 use Rattle.mv_storage.proofs.Common.{Key, FlatEntry, IsTracked, words_under, of_layer, layer_at, value_at, is_vacant, key_cmp, slot_at, Places, Slot, Committed, Current}
-use Rattle.mv_storage.specs.declared.slot.Slot.TheVariants.{Vacant, Empty, One, Many, AddedOne, AddedMany, Changed}
+use Rattle.mv_storage.specs.declared.slot.Slot.TheVariants.{Vacant, Gone, Empty, One, Many, AddedOne, AddedMany, Changed}
 use Rattle.mv_storage.specs.WordLists.{laid_over}
 use Rattle.mv_storage.specs.Map.{Layers, written, written_if}
-use Rattle.mv_storage.specs.Slots.{IsOwn, IsOwnAt, ShowsSame, layers, written_at, written_slot}
+use Rattle.mv_storage.specs.Slots.{is_pinned, IsOwn, IsOwnAt, KeepsPinned, ShowsSame, layers, written_at, written_slot}
 use Rattle.mv_storage.specs.declared.slot.Layer.{Layer}
 use Rattle.std.specs.BTreeMap.{IsOrdered}
 use Rattle.mv_storage.proofs.Shown.{shown_of, shown-same, shown-with, words_under-shown}
@@ -23,6 +23,7 @@ one-laid n (x ∷ xs) = refl
 pub slot-current : (s : Slot) (from width : ℕ) (words : List ℕ) → IsOwn s → 1 ≤ width → IfSome (of_layer Current s) (λ old. from + width ≤ length old)
     → of_layer Current (written_slot s from words) ≡ option_map (laid_over from words) (of_layer Current s)
 slot-current (Vacant next) from width words own wide fits = refl
+slot-current Gone from width words own wide fits = refl
 slot-current Empty from width words own wide fits = refl
 slot-current (One n) from width words own wide fits = let e : false ≡ true = own.0 in cc
 slot-current (Many v) from width words own wide fits = let e : false ≡ true = own.0 in cc
@@ -36,6 +37,7 @@ slot-current (Changed b) from width words own wide fits = refl
 
 pub slot-committed : (s : Slot) (from : ℕ) (words : List ℕ) → of_layer Committed (written_slot s from words) ≡ of_layer Committed s
 slot-committed (Vacant next) from words = refl
+slot-committed Gone from words = refl
 slot-committed Empty from words = refl
 slot-committed (One n) from words = refl
 slot-committed (Many v) from words = refl
@@ -45,6 +47,7 @@ slot-committed (Changed b) from words = refl
 
 slot-used : (s : Slot) (from : ℕ) (words : List ℕ) → is_vacant (written_slot s from words) ≡ is_vacant s
 slot-used (Vacant next) from words = refl
+slot-used Gone from words = refl
 slot-used Empty from words = refl
 slot-used (One n) from words = refl
 slot-used (Many v) from words = refl
@@ -52,8 +55,19 @@ slot-used (AddedOne n) from words = refl
 slot-used (AddedMany v) from words = refl
 slot-used (Changed b) from words = refl
 
+slot-pinned : (s : Slot) (from : ℕ) (words : List ℕ) → is_pinned (written_slot s from words) ≡ is_pinned s
+slot-pinned (Vacant next) from words = refl
+slot-pinned Gone from words = refl
+slot-pinned Empty from words = refl
+slot-pinned (One n) from words = refl
+slot-pinned (Many v) from words = refl
+slot-pinned (AddedOne n) from words = refl
+slot-pinned (AddedMany v) from words = refl
+slot-pinned (Changed b) from words = refl
+
 own-used : (s : Slot) → IsOwn s → is_vacant s ≡ false
 own-used (Vacant next) own = let e : false ≡ true = own.0 in cc
+own-used Gone own = refl
 own-used Empty own = refl
 own-used (One n) own = refl
 own-used (Many v) own = refl
@@ -81,6 +95,9 @@ module _ (m : Places) (touched : List (Key × ℕ)) (had : IsTracked m touched) 
   pub given-tracked : IsTracked n touched
   given-tracked = w.tracked s touched touched (index-read m.slots.items p s there) had (λ q h. h) (λ kept. let e : true ≡ false = sym own.0 ∙ kept in cc) (λ tree is placed. placed)
 
+  pub given-pinned : KeepsPinned m n
+  given-pinned = w.pinned (λ h. slot-pinned s from words ∙ h)
+
   by-value : (o : Option (List ℕ)) → of_layer Current s ≡ o → is_some o ≡ true → shown_of Current n ≡ written (shown_of Current m) key from words
   by-value None e h = cc
   by-value (Some old) e h =
@@ -88,10 +105,10 @@ module _ (m : Places) (touched : List (Key × ℕ)) (had : IsTracked m touched) 
       let now : of_layer Current (written_slot s from words) ≡ Some (laid_over from words old) = slot-current s from width words own wide fits ∙ ap (option_map (laid_over from words)) e in
       rw under (shown-with Current m n key (laid_over from words old) had.sound.ordered given-tracked.sound.ordered (w.shows Current (Some (laid_over from words old)) now))
 
-  pub given-layers : layers n ≡ record { committed = (layers m).committed; current = written (layers m).current key from words }
-  given-layers = layers-equal (layers n) (record { committed = (layers m).committed; current = written (layers m).current key from words })
+  pub given-layers : layers n ≡ record (layers m) { current = written (layers m).current key from words }
+  given-layers = layers-equal (layers n) (record (layers m) { current = written (layers m).current key from words })
       (shown-same Committed Committed m n had.sound.ordered given-tracked.sound.ordered (w.same Committed (slot-committed s from words)))
-      (by-value (of_layer Current s) refl own.1)
+      (by-value (of_layer Current s) refl own.1) refl
 
 -- ---- what opening leaves, at the place that was found or at none
 
@@ -109,7 +126,7 @@ get-within (x ∷ xs) (suc i) s e = omega (arith, get-within xs i s e)
 module _ (m₀ m : Places) (touched : List (Key × ℕ)) (had : IsTracked m touched) (ordered : IsOrdered key_cmp m₀.tree) (same : (layer : Layer) → ShowsSame layer m₀ m) (key : Key) (from width : ℕ)
     (fits : IfSome (words_under (layers m₀).current key) (λ old. from + width ≤ length old)) where
   layers-kept : layers m ≡ layers m₀
-  layers-kept = layers-equal (layers m) (layers m₀) (shown-same Committed Committed m₀ m ordered had.sound.ordered (same Committed)) (shown-same Current Current m₀ m ordered had.sound.ordered (same Current))
+  layers-kept = layers-equal (layers m) (layers m₀) (shown-same Committed Committed m₀ m ordered had.sound.ordered (same Committed)) (shown-same Current Current m₀ m ordered had.sound.ordered (same Current)) refl
 
   owned : (p : ℕ) (own : Result (Option ℕ) AllocError) → IfOk own (λ found. IfSome found (IsOwnAt m key)) → own ≡ Ok (Some p) → IsOwnAt m key p
   owned p own h e = subst (λ o. IfOk o (λ found. IfSome found (IsOwnAt m key))) e h
@@ -147,10 +164,17 @@ module _ (m₀ m : Places) (touched : List (Key × ℕ)) (had : IsTracked m touc
       let wide : nat_lt 0 width ≡ true = le-leb 1 width f.1.1 in
       rw (o.1.1, f.1.2, wide)
       (given-layers m touched had key p o.0 o.1.0 o.1.1 o.1.2 from width f.1.1 (fitting p o.1.0 o.0 o.1.1) words
-      ∙ ap (λ (l : Layers). as_layers l.committed (written l.current key from words)) layers-kept)
+      ∙ ap (λ (l : Layers). as_layers l.committed (written l.current key from words) l.marks) layers-kept)
     where
-      as_layers : List FlatEntry → List FlatEntry → Layers
-      as_layers x y = record { committed = x; current = y }
+      as_layers : List FlatEntry → List FlatEntry → List (List FlatEntry) → Layers
+      as_layers x y z = record { committed = x; current = y; marks = z }
+
+  pub opened-pinned : (place : Option ℕ) (lent : Bool) (own : Result (Option ℕ) AllocError) → Found m key width place lent own → (words : List ℕ)
+      → KeepsPinned m (written_at m place from words)
+  opened-pinned None lent own f words = λ q place h. h
+  opened-pinned (Some p) lent own f words =
+      let o = owned p own f.0 f.1.0 in
+      rw o.1.1 (given-pinned m touched had key p o.0 o.1.0 o.1.1 o.1.2 from width f.1.1 (fitting p o.1.0 o.0 o.1.1) words)
 
   pub opened-tracked : (place : Option ℕ) (lent : Bool) (own : Result (Option ℕ) AllocError) → Found m key width place lent own → (words : List ℕ)
       → IsTracked (written_at m place from words) touched

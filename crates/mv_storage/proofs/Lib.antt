@@ -5,7 +5,14 @@ pub mod Maps
 pub mod PlaceLemmas
 pub mod SlotReads
 pub mod Shown
+pub mod Pinned
 pub mod Steps
+pub mod Entered
 pub mod Written
 pub mod Loans
 pub mod Lent
+pub mod Undoing
+pub mod Differing
+pub mod SlotKinds
+pub mod Ranges
+pub mod Pages

@@ -76,16 +76,20 @@ module _ {M : Type 1} {𝓤 : Ura M} (𝓛 : Logic 𝓤) where
 
     -- words of the width that stand in place of as many
     edited : (wide : Bool) → nat_lt 0 width ≡ wide → (w : List ℕ) → length w ≡ width
-        → (cond wide (record { committed = x.now.storage.now.committed; current = written x.now.storage.now.current key from w }) x.now.storage.now).current ≡ overwritten x.now.storage.now.current key from w
+        → (cond wide (record (x.now.storage.now) { current = written x.now.storage.now.current key from w }) x.now.storage.now).current ≡ overwritten x.now.storage.now.current key from w
     edited true e w long = written-overwritten x.now.storage.now.current key from width w fits long
     edited false e w long = sym (none-overwritten x.now.storage.now.current key from width w ascends fits long (grind (arith, e)))
 
-    kept : (wide : Bool) (w : List ℕ) → (cond wide (record { committed = x.now.storage.now.committed; current = written x.now.storage.now.current key from w }) x.now.storage.now).committed ≡ x.now.storage.now.committed
+    kept : (wide : Bool) (w : List ℕ) → (cond wide (record (x.now.storage.now) { current = written x.now.storage.now.current key from w }) x.now.storage.now).committed ≡ x.now.storage.now.committed
     kept true w = refl
     kept false w = refl
 
+    still : (wide : Bool) (w : List ℕ) → (cond wide (record (x.now.storage.now) { current = written x.now.storage.now.current key from w }) x.now.storage.now).marks ≡ x.now.storage.now.marks
+    still true w = refl
+    still false w = refl
+
     abbrev way : Ways
-    way = ((over_written true width x.now key from, x.now), (λ w. record { current = edited (nat_lt 0 width) refl w; committed = kept (nat_lt 0 width) w; loan = refl }), record { same = refl; loan = refl })
+    way = ((over_written true width x.now key from, x.now), (λ w. record { current = edited (nat_lt 0 width) refl w; committed = kept (nat_lt 0 width) w; marks = still (nat_lt 0 width) w; loan = refl }), record { same = refl; loan = refl })
 
     -- what follows words that are lent
     given_words : (r : MutBor (List ℕ)) → ent 𝓤 (sem 𝓛 (LendsLent x key from width true r)) (sem 𝓛 (LendsWords x key from width (Ok (Some r))))

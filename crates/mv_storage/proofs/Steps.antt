@@ -8,10 +8,11 @@ use Rattle.std.specs.List.{list_any}
 use Rattle.std.proofs.lemmas.List.Folds.{list_any-append}
 use Rattle.std.proofs.lemmas.Bool.{or_left, cases_Bool}
 use Rattle.mv_storage.specs.Map.{Layers}
-use Rattle.mv_storage.specs.Slots.{is_change, ArePlaced, IsSettled, IsSettledAt, ShowsAt, layers}
+use Rattle.mv_storage.specs.Slots.{is_change, is_pinned, keeps_place, KeepsPinned, ArePlaced, IsSettled, IsSettledAt, ShowsAt, layers}
 use Rattle.mv_storage.proofs.Keys.{same_key-is, same_key-refl, same_key-symm, same_key-to}
 use Rattle.mv_storage.proofs.PlaceLemmas.{HasAt, HasPlace, Put, place-read, settling-used, wrote-at, removed-at, used-not_vacant, same-sound, same-slots, same-settling, wrote-settling}
 use Rattle.mv_storage.proofs.PlaceLemmas.{removed-settling, slice_set-again, slice_set-read}
+use Rattle.mv_storage.proofs.Pinned.{keeps-at, keeps-same, keeps-removed, keeps-tree}
 use Rattle.mv_storage.proofs.Shown.{shown_of, words_under-shown, shown-same, layers-same}
 
 -- each key touched has the place that it is noted with, or has been taken out since
@@ -140,6 +141,7 @@ pub record Wrote (m n : Places) (k : Key) (p : ℕ) (s t : Slot) : Type 0 where
       → (is_change r ≡ false → list_any (λ u. same_key k u.0) more ≡ true)
       → ((tree : BTreeMap Key ℕ) → get key_cmp tree k ≡ Some p → ArePlaced tree touched → ArePlaced tree more)
       → IsTracked n more
+  pub pinned : (is_pinned s ≡ true → is_pinned t ≡ true) → KeepsPinned m n
 
 pub wrote : (m n : Places) (k : Key) (p : ℕ) (s t : Slot) → IsSound m → Some p ≡ get key_cmp m.tree k → s ≡ slice_index_or m.slots.items p s → is_vacant t ≡ false
     → n.tree ≡ m.tree → n.slots.items ≡ slice_set m.slots.items p t
@@ -151,6 +153,7 @@ wrote m n k p s t sound at is used tree slots = record {
   tracked = λ r touched more read had grows now placed.
       tracked-put m n k r t touched more had (slot-read m k p r sound (sym at) read) put grows (λ kept _. now kept)
       (subst (λ (x : BTreeMap Key ℕ). ArePlaced x more) (sym tree) (placed m.tree (sym at) had.placed));
+  pinned = λ keeps. keeps-at m n k s t (slot-read m k p s sound (sym at) is) put.has (keeps-tree m n tree) keeps;
 }
   where
     put : Put m n k t
@@ -244,6 +247,7 @@ settles-none layer m n k p s sound settling is vacant tree slots = record {
   settled = ap is_changed (same-slots m n entries items k) ∙ gone settling;
   others = λ q _. same-slots m n entries items q;
   settling = same-settling m n tree items;
+  pinned = λ _. keeps-same m n (same-slots m n entries items) (keeps-tree m n tree);
 }
   where
     read : slice_get m.slots.items p ≡ Some s
@@ -262,9 +266,9 @@ settles-none layer m n k p s sound settling is vacant tree slots = record {
 -- the slot stays
 pub settles-kept : (layer : Layer) (m n : Places) (k : Key) (p : ℕ) (s t : Slot) → IsSound m → IsSettling m k p → s ≡ slice_index_or m.slots.items p s → false ≡ is_vacant s
     → n.tree ≡ m.tree → n.slots.items ≡ slice_set m.slots.items p t
-    → is_vacant t ≡ false → is_change t ≡ false → of_layer layer t ≡ of_layer layer s
+    → is_vacant t ≡ false → is_change t ≡ false → of_layer layer t ≡ of_layer layer s → (layer ≡ Committed → is_pinned s ≡ true → is_pinned t ≡ true)
     → IsSettledAt layer k m n
-settles-kept layer m n k p s t sound settling is stands tree slots used kept same =
+settles-kept layer m n k p s t sound settling is stands tree slots used kept same keeps =
     let read = place-read m k p s sound settling is in
     let at = settling-used m k p s read (sym stands) settling in
     let put = wrote-at m n k p t sound at used tree slots in
@@ -274,22 +278,25 @@ settles-kept layer m n k p s t sound settling is stands tree slots used kept sam
       settled = ap is_changed (has-here m n k (Some t) put.has) ∙ kept;
       others = has-off m n k (Some t) put.has;
       settling = wrote-settling m n p s t read (sym stands) tree slots;
+      pinned = λ c. keeps-at m n k s t (slot-read m k p s sound at is) put.has (keeps-tree m n tree) (keeps c);
     }
 
 -- the layer has no value, so the key is taken out
 pub settles-removed : (layer : Layer) (m n : Places) (k : Key) (p : ℕ) (s t : Slot) → IsSound m → IsSettling m k p → s ≡ slice_index_or m.slots.items p s → false ≡ is_vacant s
-    → false ≡ is_some (of_layer layer s) → IsOrdered key_cmp n.tree → HasPlace m n k None → n.slots.items ≡ slice_set (slice_set m.slots.items p t) p (Vacant m.free)
+    → of_layer layer s ≡ None → (layer ≡ Committed → is_pinned s ≡ false) → IsOrdered key_cmp n.tree → HasPlace m n k None
+    → n.slots.items ≡ slice_set (slice_set m.slots.items p t) p (Vacant m.free)
     → IsSettledAt layer k m n
-settles-removed layer m n k p s t sound settling is stands empty order gets slots =
+settles-removed layer m n k p s t sound settling is stands empty loose order gets slots =
     let at = settling-used m k p s (place-read m k p s sound settling is) (sym stands) settling in
     let once = slots ∙ slice_set-again m.slots.items p t (Vacant m.free) in
     let gone = removed-at m n k p (Vacant m.free) sound (inl at) order gets once in
     record {
       sound = gone.sound;
-      same = has-same layer m n k None gone.has (sym (let none = sym empty in let nothing : of_layer layer s ≡ None = grind (arith, none) in nothing) ∙ ap (layer_at layer) (sym (slot-read m k p s sound at is)));
+      same = has-same layer m n k None gone.has (sym empty ∙ ap (layer_at layer) (sym (slot-read m k p s sound at is)));
       settled = ap is_changed (has-here m n k None gone.has);
       others = has-off m n k None gone.has;
       settling = removed-settling m n k p (Vacant m.free) sound at refl gets once;
+      pinned = λ c. keeps-removed m n k (ap keeps_place (slot-read m k p s sound at is) ∙ loose c) gone.has gets;
     }
 
 -- where no slot is changed, both layers are one
@@ -306,8 +313,8 @@ pub settled-shows : (layer : Layer) (m n : Places) (touched : List (Key × ℕ))
 settled-shows layer m n touched s t same = shown-same layer Committed m n s.ordered t.sound.ordered (λ q. one-layer layer (slot_at n q) (t.kept q) ∙ same q)
 
 -- overlays with the same layers are one
-pub layers-equal : (a b : Layers) → a.committed ≡ b.committed → a.current ≡ b.current → a ≡ b
-layers-equal a b p q = let e : make a.committed a.current ≡ make b.committed b.current = cc in e
+pub layers-equal : (a b : Layers) → a.committed ≡ b.committed → a.current ≡ b.current → a.marks ≡ b.marks → a ≡ b
+layers-equal a b p q r = let e : make a.committed a.current a.marks ≡ make b.committed b.current b.marks = cc in e
   where
-    make : List FlatEntry → List FlatEntry → Layers
-    make x y = record { committed = x; current = y }
+    make : List FlatEntry → List FlatEntry → List (List FlatEntry) → Layers
+    make x y z = record { committed = x; current = y; marks = z }

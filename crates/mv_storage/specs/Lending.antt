@@ -56,6 +56,7 @@ lent_words (Some r) = Some r.now
 pub record IsEdited (old : Overlay) (key : Key) (from width : ℕ) (words : List ℕ) (new : Overlay) : Type 0 where
   pub current : length words ≡ width → new.storage.now.current ≡ overwritten old.storage.now.current key from words
   pub committed : new.storage.now.committed ≡ old.storage.now.committed
+  pub marks : new.storage.now.marks ≡ old.storage.now.marks
   pub loan : new.storage.ghost_name ≡ old.storage.ghost_name
 
 -- the overlay where none were lent: nothing is changed

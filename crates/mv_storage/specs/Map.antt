@@ -21,10 +21,12 @@ abbrev pub overwritten : FlatStorage → Key → ℕ → List ℕ → FlatStorag
 overwritten storage key from words =
     option_map_or (with_words storage key) (option_and_then (spliced from words) (words_under storage key)) storage
 
--- what a run sees: the storage as it was before the run, and as it is by now
+-- what a run sees: the storage as it was before the run, and as it is by now; and what was committed at the beginning of each open
+-- block, the oldest first
 pub record Layers : Type 0 where
   pub committed : FlatStorage
   pub current : FlatStorage
+  pub marks : List FlatStorage
 
 -- the storage with these words over those under a key from a place on, as far as there are so many
 abbrev pub written : FlatStorage → Key → ℕ → List ℕ → FlatStorage
@@ -32,4 +34,4 @@ written storage key from words = option_map_or (λ old. with_words storage key (
 
 -- what a run sees once so many words that were lent are these, or the same where none were lent
 abbrev pub written_if : Bool → ℕ → Layers → Key → ℕ → List ℕ → Layers
-written_if lent width l key from words = cond (lent && nat_lt 0 width) (record { committed = l.committed; current = written l.current key from words }) l
+written_if lent width l key from words = cond (lent && nat_lt 0 width) (record l { current = written l.current key from words }) l

@@ -10,7 +10,7 @@ use Rattle.mv_move_types.specs.declared.tables.Key.{Key}
 use Rattle.mv_machine.specs.State.{same_key}
 use Rattle.mv_storage.specs.declared.slot.Slot.{Slot}
 use Rattle.mv_storage.specs.declared.slot.Versions.{Versions}
-use Rattle.mv_storage.specs.declared.slot.Slot.TheVariants.{Vacant, Empty, One, Many, AddedOne, AddedMany, Changed}
+use Rattle.mv_storage.specs.declared.slot.Slot.TheVariants.{Vacant, Gone, Empty, One, Many, AddedOne, AddedMany, Changed}
 use Rattle.mv_storage.specs.declared.slot.Layer.{Layer}
 use Rattle.mv_storage.specs.declared.slot.Layer.TheVariants.{Committed, Current}
 use Rattle.mv_storage.specs.declared.places.Places.{Places}
@@ -35,6 +35,7 @@ added Current words = Some words
 -- the value of a slot as a run sees it, or as it was before
 abbrev pub of_layer : Layer → Slot → Option (List ℕ)
 of_layer layer (Vacant next) = None
+of_layer layer Gone = None
 of_layer layer Empty = None
 of_layer layer (One n) = Some (n ∷ [])
 of_layer layer (Many words) = Some words.items
@@ -49,6 +50,7 @@ layer_at layer slot = option_and_then (of_layer layer) slot
 -- whether a run has changed it
 abbrev pub is_change : Slot → Bool
 is_change (Vacant next) = false
+is_change Gone = false
 is_change Empty = true
 is_change (One n) = false
 is_change (Many words) = false
@@ -64,12 +66,46 @@ is_changed (Some s) = is_change s
 -- whether it is no key's
 abbrev pub is_vacant : Slot → Bool
 is_vacant (Vacant next) = true
+is_vacant Gone = false
 is_vacant Empty = false
 is_vacant (One n) = false
 is_vacant (Many words) = false
 is_vacant (AddedOne n) = false
 is_vacant (AddedMany words) = false
 is_vacant (Changed versions) = false
+
+-- whether it keeps its place whatever the run makes of it
+abbrev pub is_pinned : Slot → Bool
+is_pinned (Vacant next) = false
+is_pinned Gone = true
+is_pinned Empty = false
+is_pinned (One n) = true
+is_pinned (Many words) = true
+is_pinned (AddedOne n) = false
+is_pinned (AddedMany words) = false
+is_pinned (Changed versions) = true
+
+-- whether it is a key's without a value, which an open block has taken out
+abbrev pub is_gone : Slot → Bool
+is_gone (Vacant next) = false
+is_gone Gone = true
+is_gone Empty = false
+is_gone (One n) = false
+is_gone (Many words) = false
+is_gone (AddedOne n) = false
+is_gone (AddedMany words) = false
+is_gone (Changed versions) = false
+
+-- whether the run has put a value where no key was, and taken it out again
+abbrev pub is_empty : Slot → Bool
+is_empty (Vacant next) = false
+is_empty Gone = false
+is_empty Empty = true
+is_empty (One n) = false
+is_empty (Many words) = false
+is_empty (AddedOne n) = false
+is_empty (AddedMany words) = false
+is_empty (Changed versions) = false
 
 -- a slot stands at the place, and is no key's
 abbrev pub IsVacantAt : List Slot → ℕ → Type 0
@@ -82,6 +118,7 @@ IsUsedAt slots place = (s : Slot) × (slice_get slots place ≡ Some s) × (is_v
 -- the free place that a slot names, or else this one
 abbrev pub next_free : ℕ → Slot → ℕ
 next_free free (Vacant next) = next
+next_free free Gone = free
 next_free free Empty = free
 next_free free (One n) = free
 next_free free (Many words) = free
@@ -105,11 +142,24 @@ shown layer slots (e ∷ es) = shown_before e.0 (layer_at layer (slice_get slots
 
 -- both layers of the slots
 abbrev pub layers : Places → Layers
-layers p = record { committed = shown Committed p.slots.items p.tree.entries; current = shown Current p.slots.items p.tree.entries }
+layers p = record { committed = shown Committed p.slots.items p.tree.entries; current = shown Current p.slots.items p.tree.entries; marks = [] }
 
 -- the slot under a key
 abbrev pub slot_at : Places → Key → Option Slot
 slot_at p key = option_and_then (slice_get p.slots.items) (get key_cmp p.tree key)
+
+-- whether the slot under a key, which may be absent, keeps its place
+abbrev pub keeps_place : Option Slot → Bool
+keeps_place None = false
+keeps_place (Some s) = is_pinned s
+
+-- a key has this place, and keeps it whatever the run makes of its value
+abbrev pub IsPinned : Places → Key → ℕ → Type 0
+IsPinned p key place = (get key_cmp p.tree key ≡ Some place) × (keeps_place (slot_at p key) ≡ true)
+
+-- each key that keeps its place has it still
+abbrev pub KeepsPinned : Places → Places → Type 0
+KeepsPinned old new = (q : Key) (place : ℕ) → IsPinned old q place → IsPinned new q place
 
 -- what the slot under a key shows in a layer
 abbrev pub value_at : Layer → Places → Key → Option (List ℕ)
@@ -160,13 +210,19 @@ abbrev pub IsSettling : Places → Key → ℕ → Type 0
 IsSettling p key place = (get key_cmp p.tree key ≡ Some place) ⊎ ((get key_cmp p.tree key ≡ None) × IsVacantAt p.slots.items place)
 
 -- what settling the slot of one key leaves: the layer shows what it showed, the slot is not a run's change any more, each
--- other key has the slot that it had, and what is left to settle can be settled
+-- other key has the slot that it had, and what is left to settle can be settled; where the run's changes are given up, keys that
+-- keep their places have them still
 pub record IsSettledAt (layer : Layer) (key : Key) (old new : Places) : Type 0 where
   pub sound : IsSound new
   pub same : ShowsSame layer old new
   pub settled : is_changed (slot_at new key) ≡ false
   pub others : (q : Key) → same_key key q ≡ false → slot_at new q ≡ slot_at old q
   pub settling : (q : Key) (place : ℕ) → IsSettling old q place → IsSettling new q place
+  pub pinned : layer ≡ Committed → KeepsPinned old new
+
+-- no slot is a run's change
+abbrev pub AreKept : Places → Type 0
+AreKept p = (q : Key) → is_changed (slot_at p q) ≡ false
 
 -- the slots as a run has them
 pub record IsTracked (p : Places) (touched : List (Key × ℕ)) : Type 0 where
@@ -200,6 +256,7 @@ written_versions v from words = record { committed = v.committed; current = opti
 -- a slot with these words over those that are the run's own, from a place on
 abbrev pub written_slot : Slot → ℕ → List ℕ → Slot
 written_slot (Vacant next) from words = Vacant next
+written_slot Gone from words = Gone
 written_slot Empty from words = Empty
 written_slot (One n) from words = One n
 written_slot (Many v) from words = Many v

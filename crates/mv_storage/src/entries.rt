@@ -5,13 +5,13 @@ ghost use Rattle.mv_storage.specs.declared.slot.Layer.TheVariants.{Committed};
 
 use crate::slot::Slot;
 use mv_move_types::Key;
-use std::collections::btree_map::Iter;
+use std::collections::btree_map::Range;
 use std::marker::Model;
 
-/// The committed values by ascending key, each with its key. Its model is the list of those that are left.
+/// Committed values by ascending key, each with its key. Its model is the list of those that are left.
 #[derive(Drop)]
 pub struct Entries<'a> {
-    pub(crate) places: Iter<'a, Key, usize>,
+    pub(crate) places: Range<'a, Key, usize>,
     pub(crate) slots: &'a [Slot],
 }
 
@@ -38,6 +38,19 @@ impl<'a> Entries<'a> {
             }
         }
         None
+    }
+
+    /// The same values once more.
+    pub fn copied(&self) -> Self
+        ensures { result ≡ self.now }
+    {
+        match self.places.clone() {
+            Ok(places) => Entries {
+                places,
+                slots: self.slots,
+            },
+            Err(_) => unreachable!(),
+        }
     }
 }
 

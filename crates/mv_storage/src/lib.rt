@@ -25,16 +25,21 @@
 //! ```
 #![tactic(auto)]
 
+mod blocks;
+mod changes;
 mod entries;
 mod known;
 mod overlay;
+mod page;
 mod places;
 mod slot;
 mod slots;
 mod storage;
 mod value;
 
+pub use changes::Changes;
 pub use entries::Entries;
 pub use overlay::Overlay;
+pub use page::Page;
 pub use storage::Storage;
 pub use value::Value;

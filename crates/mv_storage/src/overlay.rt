@@ -1,5 +1,5 @@
 // What a run sees of the storage, and what it does to it.
-ghost use Rattle.std.specs.Prelude.{◌≡◌, ◌≤◌, ◌+◌, length, cond, not, take, drop, None, is_some, IfOk, IfSome, IsOk, OnOk, OnErr, MatchOption, option_copied, option_and_then, option_map, slice_get};
+ghost use Rattle.std.specs.Prelude.{◌≡◌, ◌≤◌, ◌+◌, length, [], cond, not, take, drop, None, is_some, IfOk, IfSome, IsOk, OnOk, OnErr, MatchOption, option_copied, option_and_then, option_map, slice_get};
 ghost use Rattle.mv_move_types.specs.declared.tables.Key.{Key};
 ghost use Rattle.mv_storage.specs.WordLists.{spliced};
 ghost use Rattle.mv_storage.specs.FlatStorage.{words_under, with_words, without_words};
@@ -8,7 +8,6 @@ ghost use Rattle.std.specs.Prelude.{true, false, Some, Ok, Err};
 ghost use Rattle.std.specs.Borrow.{sem};
 ghost use Rattle.mv_storage.specs.Lending.{LendsLent, LendsWords, lent_words};
 
-use crate::slot::Layer;
 use crate::{Storage, Value};
 use mv_move_types::Key;
 use std::alloc::{AllocError, Global};
@@ -22,10 +21,11 @@ pub struct Overlay<'a> {
 
 impl Drop for Overlay<'_> {
     fn drop(self)
-        ensures { self.exit.0.now.committed ≡ self.entry.storage.now.committed }
+        ensures committed { self.exit.0.now.committed ≡ self.entry.storage.now.committed }
+        ensures marks { self.exit.0.now.marks ≡ self.entry.storage.now.marks }
     {
         let Self { storage } = self;
-        storage.settle(Layer::Committed);
+        storage.give_up();
     }
 }
 
@@ -177,6 +177,7 @@ impl Overlay<'_> {
         ensures done { IfOk result (λ done. done ≡ is_some (option_and_then (spliced from new.now) (words_under self.old.storage.now.current key.now))) }
         ensures current { OnOk result (self.new.storage.now.current ≡ overwritten self.old.storage.now.current key.now from new.now) }
         ensures committed { self.new.storage.now.committed ≡ self.old.storage.now.committed }
+        ensures marks { self.new.storage.now.marks ≡ self.old.storage.now.marks }
         ensures loan { self.new.storage.ghost_name ≡ self.old.storage.ghost_name }
         ensures err { OnErr result (self.new.storage.now ≡ self.old.storage.now) }
     {
@@ -188,6 +189,7 @@ impl Overlay<'_> {
         ensures value { IfOk result (λ v. v ≡ words_under self.old.storage.now.current key.now) }
         ensures current { OnOk result (self.new.storage.now.current ≡ without_words self.old.storage.now.current key.now) }
         ensures committed { self.new.storage.now.committed ≡ self.old.storage.now.committed }
+        ensures marks { self.new.storage.now.marks ≡ self.old.storage.now.marks }
         ensures loan { self.new.storage.ghost_name ≡ self.old.storage.ghost_name }
         ensures err { OnErr result (self.new.storage.now ≡ self.old.storage.now) }
     {
@@ -199,6 +201,7 @@ impl Overlay<'_> {
         requires absent { words_under self.old.storage.now.current key ≡ None }
         ensures current { OnOk result (self.new.storage.now.current ≡ with_words self.old.storage.now.current key value) }
         ensures committed { self.new.storage.now.committed ≡ self.old.storage.now.committed }
+        ensures marks { self.new.storage.now.marks ≡ self.old.storage.now.marks }
         ensures loan { self.new.storage.ghost_name ≡ self.old.storage.ghost_name }
         ensures err { OnErr result (self.new.storage.now ≡ self.old.storage.now) }
     {
@@ -215,6 +218,7 @@ impl Overlay<'_> {
         ensures done { IfOk result (λ done. done ≡ not (is_some (words_under self.old.storage.now.current key))) }
         ensures current { IfOk result (λ done. self.new.storage.now.current ≡ cond done (with_words self.old.storage.now.current key value) self.old.storage.now.current) }
         ensures committed { self.new.storage.now.committed ≡ self.old.storage.now.committed }
+        ensures marks { self.new.storage.now.marks ≡ self.old.storage.now.marks }
         ensures loan { self.new.storage.ghost_name ≡ self.old.storage.ghost_name }
         ensures err { OnErr result (self.new.storage.now ≡ self.old.storage.now) }
     {
@@ -225,21 +229,23 @@ impl Overlay<'_> {
     ///
     /// # Errors
     ///
-    /// None: it takes no memory and never fails. An error would leave overlay and storage as they were.
+    /// Where no block is open it takes no memory and never fails. In a block it may fail for want of memory; overlay and storage are
+    /// then as they were.
     pub fn commit(&mut self) -> Result<(), AllocError>
-        ensures done { IsOk result }
+        ensures done { self.old.storage.now.marks ≡ [] → IsOk result }
         ensures committed { OnOk result (self.new.storage.now.committed ≡ self.old.storage.now.current) }
         ensures current { self.new.storage.now.current ≡ self.old.storage.now.current }
+        ensures marks { self.new.storage.now.marks ≡ self.old.storage.now.marks }
         ensures loan { self.new.storage.ghost_name ≡ self.old.storage.ghost_name }
         ensures err { OnErr result (self.new.storage.now ≡ self.old.storage.now) }
     {
-        self.storage.settle(Layer::Current);
-        Ok(())
+        self.storage.commit()
     }
 
     /// Gives up what the run has made since the last commit. It takes no memory.
     pub fn discard(self)
-        ensures { self.exit.0.now.committed ≡ self.entry.storage.now.committed }
+        ensures committed { self.exit.0.now.committed ≡ self.entry.storage.now.committed }
+        ensures marks { self.exit.0.now.marks ≡ self.entry.storage.now.marks }
     {
         drop(self);
     }

@@ -1,15 +1,17 @@
 // What stands under a key: a value that the run at work has left alone, one that it has put, or the committed one and what
 // the run has made of it.
 ghost use Rattle.std.specs.Prelude.{◌≡◌, None, Some, true, false, cond, not, is_some, option_copied, option_and_then, IfOk, OnOk, OnErr};
-ghost use Rattle.std.specs.Prelude.{◌≤◌, ◌+◌, length, take, drop, option_map, slice_get, IfSome};
+ghost use Rattle.std.specs.Prelude.{◌≤◌, ◌+◌, length, take, drop, option_map, slice_get, IfSome, MatchOption};
 ghost use Rattle.std.specs.Borrow.{sem};
-ghost use Rattle.mv_storage.specs.Slots.{version, of_layer, is_change, is_vacant, edited, IsOwn};
+ghost use Rattle.mv_storage.specs.Slots.{version, of_layer, is_change, is_vacant, is_pinned, is_gone, is_empty, edited, IsOwn};
+ghost use Rattle.mv_storage.specs.Blocks.{value_before, is_absent};
 ghost use Rattle.mv_storage.specs.Lending.{LendsVersion, LendsSlot};
 ghost use Rattle.mv_storage.specs.WordLists.{spliced};
 ghost use Rattle.mv_storage.specs.declared.slot.Layer.{Layer};
 ghost use Rattle.mv_storage.specs.declared.slot.Layer.TheVariants.{Committed, Current};
 
 use crate::Value;
+use crate::blocks::Before;
 use crate::value::{Words, edit_words};
 use std::alloc::{AllocError, Global};
 use std::mem::{replace, size_of};
@@ -72,12 +74,14 @@ impl Versions {
     }
 }
 
-// What a place holds. `Vacant`: no key, and the next free place. `Empty`: a key whose value the run has put and taken out again.
+// What a place holds. `Vacant`: no key, and the next free place. `Gone`: a key whose value was taken out in a block that is still
+// open, so that its place is kept. `Empty`: a key whose value the run has put and taken out again.
 // `One`, `Many`: a committed value that the run has left alone. `AddedOne`, `AddedMany`: a value that the run has put where none
 // was. `Changed`: both versions of a value that the run has changed. `One` and `AddedOne` have their single leaf in place.
 #[derive(Drop)]
 pub(crate) enum Slot {
     Vacant(usize),
+    Gone,
     Empty,
     One(u128),
     Many(Vec<u128>),
@@ -90,10 +94,11 @@ const _: () = prove!(size_of::<Slot>() == 32);
 
 impl Slot {
     // A value that no run has changed.
-    fn kept(value: Value) -> Self
+    pub(crate) fn kept(value: Value) -> Self
         ensures value { (layer : Layer) → of_layer layer result ≡ Some value }
         ensures kept { is_change result ≡ false }
         ensures used { is_vacant result ≡ false }
+        ensures pinned { is_pinned result ≡ true }
     {
         match value.into_words() {
             Words::One(word) => Slot::One(word),
@@ -120,7 +125,10 @@ impl Slot {
     pub(crate) fn is_kept(&self) -> bool
         ensures { result ≡ not (is_change self.now) }
     {
-        matches!(self, Slot::Vacant(_) | Slot::One(_) | Slot::Many(_))
+        matches!(
+            self,
+            Slot::Vacant(_) | Slot::Gone | Slot::One(_) | Slot::Many(_)
+        )
     }
 
     // Whether both versions of a value stand here.
@@ -139,13 +147,29 @@ impl Slot {
         matches!(self, Slot::Vacant(_))
     }
 
+    // Whether it is a key's whose value was taken out in an open block.
+    #[inline(always)]
+    pub(crate) fn is_gone(&self) -> bool
+        ensures { result ≡ is_gone self.now }
+    {
+        matches!(self, Slot::Gone)
+    }
+
+    // Whether the run has put a value here where no key was, and taken it out again.
+    #[inline]
+    pub(crate) fn is_empty(&self) -> bool
+        ensures { result ≡ is_empty self.now }
+    {
+        matches!(self, Slot::Empty)
+    }
+
     // Whether the run sees a value here.
     #[inline(always)]
     pub(crate) fn is_seen(&self) -> bool
         ensures { result ≡ is_some (of_layer Current self.now) }
     {
         match self {
-            Slot::Vacant(_) | Slot::Empty => false,
+            Slot::Vacant(_) | Slot::Gone | Slot::Empty => false,
             Slot::One(_) | Slot::Many(_) | Slot::AddedOne(_) | Slot::AddedMany(_) => true,
             Slot::Changed(versions) => versions.current.is_some(),
         }
@@ -168,7 +192,7 @@ impl Slot {
         ensures { option_copied result ≡ of_layer Current self.now }
     {
         match self {
-            Slot::Vacant(_) | Slot::Empty => None,
+            Slot::Vacant(_) | Slot::Gone | Slot::Empty => None,
             Slot::One(word) | Slot::AddedOne(word) => Some(slice::from_ref(word)),
             Slot::Many(words) | Slot::AddedMany(words) => Some(words.as_slice()),
             Slot::Changed(versions) => match &versions.current {
@@ -184,7 +208,8 @@ impl Slot {
         ensures { option_copied result ≡ of_layer Committed self.now }
     {
         match self {
-            Slot::Vacant(_) | Slot::Empty | Slot::AddedOne(_) | Slot::AddedMany(_) => None,
+            Slot::Vacant(_) | Slot::Gone | Slot::Empty | Slot::AddedOne(_) | Slot::AddedMany(_) =>
+                None,
             Slot::One(word) => Some(slice::from_ref(word)),
             Slot::Many(words) => Some(words.as_slice()),
             Slot::Changed(versions) => match &versions.committed {
@@ -202,6 +227,7 @@ impl Slot {
         ensures committed { of_layer Committed self.new ≡ of_layer Committed self.old }
         ensures change { OnOk result (is_change self.new ≡ true) }
         ensures used { is_vacant self.new ≡ false }
+        ensures pinned { OnOk result (is_pinned self.new ≡ true) }
         ensures err { OnErr result (self.new ≡ self.old) }
     {
         let fresh = Box::new(
@@ -222,25 +248,31 @@ impl Slot {
         Ok(())
     }
 
-    // Puts a value where the run sees none, and says whether it did.
-    pub(crate) fn put(&mut self, value: Value) -> bool
+    // Puts a value where the run sees none, and says whether it did. It fails only where memory runs out, and nothing changes then.
+    pub(crate) fn put(&mut self, value: Value, alloc: Global) -> Result<bool, AllocError>
         requires { is_vacant self.old ≡ false }
-        ensures done { result ≡ not (is_some (of_layer Current self.old)) }
-        ensures current { of_layer Current self.new ≡ cond result (Some value) (of_layer Current self.old) }
+        ensures done { IfOk result (λ done. done ≡ not (is_some (of_layer Current self.old))) }
+        ensures current { IfOk result (λ done. of_layer Current self.new ≡ cond done (Some value) (of_layer Current self.old)) }
         ensures committed { of_layer Committed self.new ≡ of_layer Committed self.old }
-        ensures change { is_change self.new ≡ is_change self.old }
+        ensures change { is_change self.new ≡ true → is_change self.old ≡ false → is_gone self.old ≡ true }
         ensures used { is_vacant self.new ≡ false }
+        ensures pinned { is_pinned self.old ≡ true → is_pinned self.new ≡ true }
+        ensures err { OnErr result (self.new ≡ self.old) }
     {
         match self {
             Slot::Empty => {
                 *self = Slot::added(value);
-                true
+                Ok(true)
             }
             Slot::Changed(versions) if versions.current.is_none() => {
                 versions.current = Some(value);
-                true
+                Ok(true)
             }
-            _ => false,
+            Slot::Gone => {
+                self.change(Some(value), alloc)?;
+                Ok(true)
+            }
+            _ => Ok(false),
         }
     }
 
@@ -251,12 +283,14 @@ impl Slot {
         ensures committed { of_layer Committed self.new ≡ of_layer Committed self.old }
         ensures gone { OnOk result (of_layer Current self.new ≡ None) }
         ensures used { is_vacant self.new ≡ false }
+        ensures pinned { is_pinned self.old ≡ true → is_pinned self.new ≡ true }
         ensures err { OnErr result (self.new ≡ self.old) }
     {
         let copy = match self {
             Slot::One(word) => Value::leaf(*word),
             Slot::Many(words) => Value::words(words.as_slice().to_vec(alloc)?),
             Slot::Changed(versions) => return Ok(versions.current.take()),
+            Slot::Vacant(_) | Slot::Gone => return Ok(None),
             _ => return Ok(self.take_added()),
         };
         self.change(None, alloc)?;
@@ -285,8 +319,9 @@ impl Slot {
     fn own(&mut self, alloc: Global) -> Result<(), AllocError>
         requires { is_vacant self.old ≡ false }
         ensures layers { (layer : Layer) → of_layer layer self.new ≡ of_layer layer self.old }
-        ensures changed { OnOk result (is_change self.new ≡ true) }
+        ensures changed { OnOk result (is_some (of_layer Current self.old) ≡ true → is_change self.new ≡ true) }
         ensures used { is_vacant self.new ≡ false }
+        ensures pinned { is_pinned self.old ≡ true → is_pinned self.new ≡ true }
         ensures err { OnErr result (self.new ≡ self.old) }
     {
         let copy = match self {
@@ -310,6 +345,7 @@ impl Slot {
         ensures current { OnOk result (of_layer Current self.new ≡ edited from new.now (of_layer Current self.old)) }
         ensures committed { of_layer Committed self.new ≡ of_layer Committed self.old }
         ensures used { is_vacant self.new ≡ false }
+        ensures pinned { is_pinned self.old ≡ true → is_pinned self.new ≡ true }
         ensures err { OnErr result (of_layer Current self.new ≡ of_layer Current self.old) }
     {
         if let Slot::Changed(versions) = self {
@@ -336,6 +372,7 @@ impl Slot {
         ensures place { IfOk result (λ found. found ≡ cond (is_some (of_layer Current self.old)) (Some place) None) }
         ensures own { IfOk result (λ found. is_some found ≡ true → IsOwn self.new) }
         ensures used { is_vacant self.new ≡ false }
+        ensures pinned { is_pinned self.old ≡ true → is_pinned self.new ≡ true }
     {
         Slot::own(self, alloc)?;
         if self.current().is_some() {
@@ -360,17 +397,19 @@ impl Slot {
         }
     }
 
-    // Makes one layer of it the committed one, and says whether there is one.
+    // Makes one layer of it the committed one, and says whether its key keeps its place: so it does where the layer has a value, and
+    // where an open block has taken its value out.
     #[inline]
     pub(crate) fn settle(&mut self, layer: Layer) -> bool
         requires { is_vacant self.old ≡ false }
-        ensures there { result ≡ is_some (of_layer layer self.old) }
+        ensures there { result ≡ false → of_layer layer self.old ≡ None }
         ensures same { of_layer layer self.new ≡ of_layer layer self.old }
         ensures kept { result ≡ true → is_change self.new ≡ false }
         ensures used { is_vacant self.new ≡ false }
+        ensures pinned { layer ≡ Committed → is_pinned self.old ≡ true → (result ≡ true) × (is_pinned self.new ≡ true) }
     {
         match self {
-            Slot::One(_) | Slot::Many(_) => true,
+            Slot::Gone | Slot::One(_) | Slot::Many(_) => true,
             Slot::AddedOne(word) => match layer {
                 Layer::Committed => false,
                 Layer::Current => {
@@ -383,16 +422,33 @@ impl Slot {
                     *self = Slot::kept(value);
                     true
                 }
-                None => false,
+                None => self.leave(layer),
             },
             _ => self.settle_added(layer),
+        }
+    }
+
+    // Leaves a slot without a value where its key keeps its place, and says whether it does.
+    fn leave(&mut self, layer: Layer) -> bool
+        requires { (of_layer layer self.old ≡ None) × (is_vacant self.old ≡ false) }
+        ensures same { of_layer layer self.new ≡ None }
+        ensures kept { result ≡ true → is_change self.new ≡ false }
+        ensures used { is_vacant self.new ≡ false }
+        ensures pinned { layer ≡ Committed → (result ≡ true) × (is_pinned self.new ≡ true) }
+    {
+        match layer {
+            Layer::Committed => {
+                *self = Slot::Gone;
+                true
+            }
+            Layer::Current => false,
         }
     }
 
     // The same for a value of many leaves that the run has put.
     fn settle_added(&mut self, layer: Layer) -> bool
         requires { (of_layer Committed self.old ≡ None) × (is_vacant self.old ≡ false) }
-        ensures there { result ≡ is_some (of_layer layer self.old) }
+        ensures there { result ≡ false → of_layer layer self.old ≡ None }
         ensures same { of_layer layer self.new ≡ of_layer layer self.old }
         ensures kept { result ≡ true → is_change self.new ≡ false }
         ensures used { is_vacant self.new ≡ false }
@@ -406,6 +462,70 @@ impl Slot {
                 true
             }
             None => false,
+        }
+    }
+
+    // Makes what the run sees the committed value of a key that keeps its place from then on, and tells what was committed before
+    // if the run has changed it. What was committed is moved.
+    pub(crate) fn note(&mut self) -> Option<Before>
+        requires { (is_vacant self.old ≡ false) × (is_empty self.old ≡ false) }
+        ensures same { of_layer Current self.new ≡ of_layer Current self.old }
+        ensures kept { is_change self.new ≡ false }
+        ensures used { is_vacant self.new ≡ false }
+        ensures pinned { is_pinned self.new ≡ true }
+        ensures before { MatchOption result (of_layer Current self.old ≡ of_layer Committed self.old) (λ b. value_before b ≡ of_layer Committed self.old) }
+        ensures absent { IfSome result (λ b. is_absent b ≡ true → is_pinned self.old ≡ false) }
+    {
+        match replace(self, Slot::Gone) {
+            Slot::AddedOne(word) => {
+                *self = Slot::One(word);
+                Some(Before::Absent)
+            }
+            Slot::AddedMany(words) => {
+                *self = Slot::Many(words);
+                Some(Before::Absent)
+            }
+            Slot::Changed(versions) => {
+                let (slot, before) = Slot::parted(Box::into_inner(versions));
+                *self = slot;
+                before
+            }
+            slot => {
+                *self = slot;
+                None
+            }
+        }
+    }
+
+    // The same for both versions of a value, of which the current one stays.
+    fn parted(versions: Versions) -> (Self, Option<Before>)
+        ensures same { of_layer Current result.0 ≡ version Current versions }
+        ensures kept { is_change result.0 ≡ false }
+        ensures used { is_vacant result.0 ≡ false }
+        ensures pinned { is_pinned result.0 ≡ true }
+        ensures before { MatchOption result.1 (version Current versions ≡ version Committed versions) (λ b. value_before b ≡ version Committed versions) }
+        ensures absent { IfSome result.1 (λ b. is_absent b ≡ false) }
+    {
+        let Versions { committed, current } = versions;
+        match committed {
+            Some(value) => (Slot::held(current), Some(Before::Held(value))),
+            None => match current {
+                Some(value) => (Slot::kept(value), Some(Before::Nothing)),
+                None => (Slot::Gone, None),
+            },
+        }
+    }
+
+    // A value that no run has changed, or the place that it had.
+    fn held(value: Option<Value>) -> Self
+        ensures value { of_layer Current result ≡ value }
+        ensures kept { is_change result ≡ false }
+        ensures used { is_vacant result ≡ false }
+        ensures pinned { is_pinned result ≡ true }
+    {
+        match value {
+            Some(value) => Slot::kept(value),
+            None => Slot::Gone,
         }
     }
 }

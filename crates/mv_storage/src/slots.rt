@@ -6,7 +6,7 @@ ghost use Rattle.std.specs.BTreeMap.{BTreeMap, get};
 ghost use Rattle.mv_move_types.specs.declared.tables.Key.{Key};
 ghost use Rattle.mv_machine.specs.State.{same_key};
 ghost use Rattle.mv_storage.specs.WordLists.{spliced};
-ghost use Rattle.mv_storage.specs.Slots.{key_cmp, value_at, edited, ShowsSame, ShowsAt, is_change, IsSound, ArePlaced, IsRemembered, IsSettling, IsSettledAt, IsTracked, IsSettled, IsOwnAt};
+ghost use Rattle.mv_storage.specs.Slots.{key_cmp, value_at, edited, ShowsSame, ShowsAt, is_change, is_gone, KeepsPinned, IsSound, ArePlaced, IsRemembered, IsSettling, IsSettledAt, IsTracked, IsSettled, IsOwnAt};
 ghost use Rattle.std.specs.Prelude.{IfSome};
 ghost use Rattle.mv_storage.specs.declared.slot.Layer.{Layer};
 ghost use Rattle.mv_storage.specs.declared.slot.Layer.TheVariants.{Committed, Current};
@@ -55,6 +55,24 @@ fn note_any(
     Ok(())
 }
 
+// The same where only a key without a value, which has kept its place, is about to be changed.
+#[inline(always)]
+fn note_gone(
+    slot: &Slot,
+    touched: &mut Vec<(Key, usize)>,
+    key: Key,
+    place: usize,
+) -> Result<(), AllocError>
+    ensures noted { OnOk result (is_gone slot.now ≡ true → list_any (λ t. same_key key t.0) touched.new.items ≡ true) }
+    ensures kept { (q : Key) → list_any (λ t. same_key q t.0) touched.old.items ≡ true → list_any (λ t. same_key q t.0) touched.new.items ≡ true }
+    ensures placed { (tree : BTreeMap Key ℕ) → get key_cmp tree key ≡ Some place → ArePlaced tree touched.old.items → ArePlaced tree touched.new.items }
+{
+    if slot.is_gone() {
+        touched.push((key, place))?;
+    }
+    Ok(())
+}
+
 // Takes out what the run sees under a key.
 pub(crate) fn take_from(
     places: &mut Places,
@@ -67,6 +85,7 @@ pub(crate) fn take_from(
     requires remembered { IsRemembered places.old.tree known.old.lines }
     ensures tracked { IsTracked places.new touched.new.items }
     ensures remembered { IsRemembered places.new.tree known.new.lines }
+    ensures pinned { KeepsPinned places.old places.new }
     ensures value { IfOk result (λ v. v ≡ value_at Current places.old key.now) }
     ensures current { OnOk result (ShowsAt Current key.now None places.old places.new) }
     ensures committed { ShowsSame Committed places.old places.new }
@@ -94,6 +113,7 @@ pub(crate) fn edit_in(
     requires remembered { IsRemembered places.old.tree known.old.lines }
     ensures tracked { IsTracked places.new touched.new.items }
     ensures remembered { IsRemembered places.new.tree known.new.lines }
+    ensures pinned { KeepsPinned places.old places.new }
     ensures done { IfOk result (λ done. done ≡ is_some (option_and_then (spliced from new.now) (value_at Current places.old key.now))) }
     ensures current { OnOk result (ShowsAt Current key.now (edited from new.now (value_at Current places.old key.now)) places.old places.new) }
     ensures committed { ShowsSame Committed places.old places.new }
@@ -136,6 +156,7 @@ fn edit_any(
     requires remembered { IsRemembered places.old.tree known.old.lines }
     ensures tracked { IsTracked places.new touched.new.items }
     ensures remembered { IsRemembered places.new.tree known.new.lines }
+    ensures pinned { KeepsPinned places.old places.new }
     ensures done { IfOk result (λ done. done ≡ is_some (option_and_then (spliced from new.now) (value_at Current places.old (record { address = address; place = place; index = index })))) }
     ensures current { OnOk result (ShowsAt Current (record { address = address; place = place; index = index }) (edited from new.now (value_at Current places.old (record { address = address; place = place; index = index }))) places.old places.new) }
     ensures committed { ShowsSame Committed places.old places.new }
@@ -165,6 +186,7 @@ pub(crate) fn own_in(
     requires remembered { IsRemembered places.old.tree known.old.lines }
     ensures tracked { IsTracked places.new touched.new.items }
     ensures remembered { IsRemembered places.new.tree known.new.lines }
+    ensures pinned { KeepsPinned places.old places.new }
     ensures same { (layer : Layer) → ShowsSame layer places.old places.new }
     ensures none { IfOk result (λ found. is_some found ≡ is_some (value_at Current places.old key.now)) }
     ensures own { IfOk result (λ found. IfSome found (IsOwnAt places.new key.now)) }
@@ -176,6 +198,30 @@ pub(crate) fn own_in(
     places.slots[place].own_place(place, alloc)
 }
 
+// Puts a value at a key's place where the run sees none, and says whether it did.
+#[inline]
+fn put_at(
+    places: &mut Places,
+    touched: &mut Vec<(Key, usize)>,
+    key: Key,
+    place: usize,
+    value: Value,
+    alloc: Global,
+) -> Result<bool, AllocError>
+    requires tracked { IsTracked places.old touched.old.items }
+    requires at { get key_cmp places.old.tree key ≡ Some place }
+    ensures tracked { IsTracked places.new touched.new.items }
+    ensures tree { places.new.tree ≡ places.old.tree }
+    ensures pinned { KeepsPinned places.old places.new }
+    ensures done { IfOk result (λ done. done ≡ not (is_some (value_at Current places.old key))) }
+    ensures current { IfOk result (λ done. ShowsAt Current key (cond done (Some value) (value_at Current places.old key)) places.old places.new) }
+    ensures committed { ShowsSame Committed places.old places.new }
+    ensures err { OnErr result (ShowsSame Current places.old places.new) }
+{
+    note_gone(&places.slots[place], touched, key, place)?;
+    places.slots[place].put(value, alloc)
+}
+
 // Puts a value under a key where the run sees none, and says whether it did.
 #[inline]
 pub(crate) fn put_into(
@@ -184,23 +230,25 @@ pub(crate) fn put_into(
     known: &mut Known,
     key: Key,
     value: Value,
+    alloc: Global,
 ) -> Result<bool, AllocError>
     requires tracked { IsTracked places.old touched.old.items }
     requires remembered { IsRemembered places.old.tree known.old.lines }
     ensures tracked { IsTracked places.new touched.new.items }
     ensures remembered { IsRemembered places.new.tree known.new.lines }
+    ensures pinned { KeepsPinned places.old places.new }
     ensures done { IfOk result (λ done. done ≡ not (is_some (value_at Current places.old key))) }
     ensures current { IfOk result (λ done. ShowsAt Current key (cond done (Some value) (value_at Current places.old key)) places.old places.new) }
     ensures committed { ShowsSame Committed places.old places.new }
     ensures err { OnErr result (ShowsSame Current places.old places.new) }
 {
     if let Some(place) = known.recalled(&places.tree, &key) {
-        return Ok(places.slots[place].put(value));
+        return put_at(places, touched, key, place, value, alloc);
     }
-    put_new(places, touched, known, key, value)
+    put_new(places, touched, known, key, value, alloc)
 }
 
-// The same for a key that isn't remembered. All that may fail is done first.
+// The same for a key that isn't remembered. Where it has no place, all that may fail is done first.
 #[inline]
 fn put_new(
     places: &mut Places,
@@ -208,11 +256,13 @@ fn put_new(
     known: &mut Known,
     key: Key,
     value: Value,
+    alloc: Global,
 ) -> Result<bool, AllocError>
     requires tracked { IsTracked places.old touched.old.items }
     requires remembered { IsRemembered places.old.tree known.old.lines }
     ensures tracked { IsTracked places.new touched.new.items }
     ensures remembered { IsRemembered places.new.tree known.new.lines }
+    ensures pinned { KeepsPinned places.old places.new }
     ensures done { IfOk result (λ done. done ≡ not (is_some (value_at Current places.old key))) }
     ensures current { IfOk result (λ done. ShowsAt Current key (cond done (Some value) (value_at Current places.old key)) places.old places.new) }
     ensures committed { ShowsSame Committed places.old places.new }
@@ -229,16 +279,18 @@ fn put_new(
         }
         Some(place) => {
             known.note(key, place);
-            Ok(places.slots[place].put(value))
+            put_at(places, touched, key, place, value, alloc)
         }
     }
 }
 
-// Makes one layer of the touched slots the committed one, and takes out those that are then empty.
+// Makes one layer of the touched slots the committed one, and takes out those that are then empty, unless an open block needs
+// their places.
 pub(crate) fn settle(places: &mut Places, touched: &mut Vec<(Key, usize)>, layer: Layer)
     requires { IsTracked places.old touched.old.items }
     ensures settled { IsSettled places.new touched.new.items }
     ensures same { ShowsSame layer places.old places.new }
+    ensures pinned { layer ≡ Committed → KeepsPinned places.old places.new }
 {
     while let Some((key, place)) = touched.pop() {
         settle_one(places, &key, place, layer);

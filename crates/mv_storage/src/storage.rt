@@ -1,28 +1,37 @@
 // Storage: values under keys, and what a run at work has made of them.
-ghost use Rattle.std.specs.Prelude.{◌≡◌, ◌<◌, ◌≤◌, ◌+◌, ◌^◌, length, take, drop, [], cond, not, None, is_some, IfOk, IfSome, OnOk, OnErr, MatchOption, option_copied, option_and_then, option_map, slice_get};
+ghost use Rattle.std.specs.BTreeMap.Range.{IsLeBy, IsLtBy, range_contains};
+ghost use Rattle.std.specs.List.{filter, AllByRecursion};
+ghost use Rattle.mv_machine.specs.State.{key_before, same_key};
+ghost use Rattle.std.specs.Prelude.{◌≡◌, ◌==◌, ◌<◌, ◌≤◌, ◌+◌, ◌^◌, ◌++◌, ◌∷◌, length, take, drop, [], cond, not, None, is_some, IfOk, IfSome, IsOk, OnOk, OnErr, MatchOption, option_copied, option_and_then, option_map, slice_get};
 ghost use Rattle.mv_storage.specs.WordLists.{spliced};
-ghost use Rattle.mv_storage.specs.FlatStorage.{words_under, with_words, without_words};
+ghost use Rattle.mv_storage.specs.FlatStorage.{FlatStorage, words_under, with_words, without_words};
 ghost use Rattle.mv_storage.specs.Map.{overwritten, Ascends};
-ghost use Rattle.mv_storage.specs.Slots.{seen};
-ghost use Rattle.std.specs.Prelude.{ℕ, true, false, nat_lt, Some, Ok};
+ghost use Rattle.mv_storage.specs.Slots.{key_cmp};
+ghost use Rattle.std.specs.Prelude.{ℕ, List, true, false, nat_lt, Some, Ok};
 ghost use Rattle.std.specs.Borrow.{sem};
 ghost use Rattle.mv_storage.specs.Lending.{LendsIn};
+ghost use Rattle.mv_storage.specs.Difference.{IsDifference};
 
+use crate::blocks::{Undone, close, note_all, take_back};
+use crate::changes::{Changes, firsts, newest};
 use crate::known::Known;
 use crate::places::Places;
 use crate::slot::Layer;
 use crate::slots::{edit_in, own_in, put_into, settle, take_from};
 use crate::{Entries, Overlay, Value};
-use mv_move_types::Key;
+use mv_move_types::{Address, Key};
+use mv_undo::Marks;
 use std::alloc::{AllocError, Global};
 use std::marker::Model;
 use std::mem::replace;
+use std::ops::RangeBounds;
 
 // So many words are kept for the next run at most (64 MiB), which is what a run's locals take at most.
 const MOST_KEPT: usize = 0x40_0000;
 
-/// Values, each under its key. A contract sees those that are committed, and what the run at work has made of them by now:
-/// each is the list of entries by ascending key, every value as its words.
+/// Values, each under its key. A contract sees those that are committed, what the run at work has made of them by now, and those
+/// that were committed when each open block was begun, the oldest first: each is the list of entries by ascending key, every value
+/// as its words.
 #[derive(Drop)]
 pub struct Storage {
     places: Places,
@@ -31,6 +40,9 @@ pub struct Storage {
     known: Known,
     // memory for the words of the next run; what it holds means nothing
     room: Vec<u128>,
+    // what was committed since the oldest open block was begun, and how much of it when each open block was
+    undo: Vec<Undone>,
+    marks: Marks,
     alloc: Global,
 }
 
@@ -39,11 +51,32 @@ impl Model for Storage {
 
     ghost Value = { Layers };
 
-    ghost use Rattle.mv_storage.specs.Slots.{layers, IsTracked, IsRemembered};
+    ghost use Rattle.std.specs.Prelude.{◌≡◌, [], length};
+    ghost use Rattle.mv_storage.specs.Slots.{IsTracked, IsRemembered};
+    ghost use Rattle.mv_undo.specs.Undo.{AreMarks};
+    ghost use Rattle.mv_storage.specs.Blocks.{contents, IsUndoable};
 
-    ghost view = { λ s. layers s.places };
+    ghost view = { λ s. contents s.places s.undo.items s.marks };
 
-    ghost invariant = { λ s. IsTracked s.places s.touched.items × IsRemembered s.places.tree s.known.lines };
+    ghost invariant = { λ s. IsTracked s.places s.touched.items × IsRemembered s.places.tree s.known.lines × IsUndoable s.places s.undo.items × AreMarks s.marks (length s.undo.items) × (s.marks ≡ [] → s.undo.items ≡ []) };
+}
+
+// The first of all keys at an address.
+fn first_at(address: Address) -> Key
+    ensures { result ≡ record { address = address; place = 0; index = 0 } }
+{
+    Key {
+        address,
+        place: 0,
+        index: 0,
+    }
+}
+
+// For the prover: an address has 128 bits.
+fn has_128_bits(address: Address)
+    ensures { address < 2 ^ 128 }
+{
+    let _address = address;
 }
 
 // The words so far after a place, so many.
@@ -89,12 +122,15 @@ impl Storage {
     pub fn new(alloc: Global) -> Self
         ensures committed { result.committed ≡ [] }
         ensures current { result.current ≡ [] }
+        ensures marks { result.marks ≡ [] }
     {
         Storage {
             places: Places::new(alloc),
             touched: Vec::new(alloc),
             known: Known::new(),
             room: Vec::new(alloc),
+            undo: Vec::new(alloc),
+            marks: Marks::new(alloc),
             alloc,
         }
     }
@@ -130,15 +166,67 @@ impl Storage {
         }
     }
 
+    // The committed values under keys of a range.
+    #[inline]
+    fn entries<R: RangeBounds<Key> + Drop>(&self, keys: R) -> Entries<'_>
+        requires known { R.has_bounds keys }
+        requires forward { R.is_forward keys (IsLeBy key_cmp) (IsLtBy key_cmp) }
+        ensures value { result ≡ filter (λ e. range_contains key_cmp (R.start_bound keys) (R.end_bound keys) e.key) self.entry.now.committed }
+        ensures few { length result < 2 ^ 63 }
+    {
+        Entries {
+            places: self.places.tree.range(keys),
+            slots: self.places.slots.as_slice(),
+        }
+    }
+
     /// The committed values by ascending key.
     pub fn iter(&self) -> Entries<'_>
         ensures value { result ≡ self.entry.now.committed }
         ensures few { length self.entry.now.committed < 2 ^ 63 }
     {
-        Entries {
-            places: self.places.tree.iter(),
-            slots: self.places.slots.as_slice(),
+        self.entries(..)
+    }
+
+    /// The committed values under this key and later ones, by ascending key.
+    pub fn iter_from(&self, key: Key) -> Entries<'_>
+        ensures value { result ≡ filter (λ e. not (key_before e.key key)) self.entry.now.committed }
+        ensures few { length result < 2 ^ 63 }
+    {
+        self.entries(key..)
+    }
+
+    /// The committed values at an address, by ascending key.
+    pub fn values_at(&self, address: Address) -> Entries<'_>
+        ensures value { result ≡ filter (λ e. e.key.address == address) self.entry.now.committed }
+        ensures few { length result < 2 ^ 63 }
+    {
+        let first = first_at(address);
+        match address.checked_add(1) {
+            Some(next) => self.entries(first..first_at(next)),
+            None => {
+                // For the prover: no address is above this one.
+                self.has_addresses();
+                self.entries(first..)
+            }
         }
+    }
+
+    // For the prover: each key has an address.
+    pub(crate) fn has_addresses(&self)
+        ensures { AllByRecursion (λ e. e.key.address < 2 ^ 128) self.now.committed }
+    {
+        if let Some((last, _)) = self.places.tree.last_key_value() {
+            has_128_bits(last.address);
+        }
+    }
+
+    /// The committed value under a key, if there is one.
+    pub fn value_at(&self, key: Key) -> Entries<'_>
+        ensures value { result ≡ filter (λ e. same_key e.key key) self.entry.now.committed }
+        ensures few { length result < 2 ^ 63 }
+    {
+        self.entries(key..=key)
     }
 
     /// For the prover: the keys of the committed values ascend.
@@ -153,8 +241,9 @@ impl Storage {
         ensures loan { result.storage.ghost_name ≡ self.entry.ghost_name }
         ensures committed { result.storage.now.committed ≡ self.old.committed }
         ensures current { result.storage.now.current ≡ self.old.committed }
+        ensures marks { result.storage.now.marks ≡ self.old.marks }
     {
-        self.settle(Layer::Committed);
+        self.give_up();
         Overlay { storage: self }
     }
 
@@ -279,6 +368,7 @@ impl Storage {
         ensures done { IfOk result (λ done. done ≡ is_some (option_and_then (spliced from new.now) (words_under self.old.current key.now))) }
         ensures current { OnOk result (self.new.current ≡ overwritten self.old.current key.now from new.now) }
         ensures committed { self.new.committed ≡ self.old.committed }
+        ensures marks { self.new.marks ≡ self.old.marks }
         ensures err { OnErr result (self.new ≡ self.old) }
     {
         edit_in(
@@ -297,6 +387,7 @@ impl Storage {
         ensures value { IfOk result (λ v. v ≡ words_under self.old.current key.now) }
         ensures current { OnOk result (self.new.current ≡ without_words self.old.current key.now) }
         ensures committed { self.new.committed ≡ self.old.committed }
+        ensures marks { self.new.marks ≡ self.old.marks }
         ensures err { OnErr result (self.new ≡ self.old) }
     {
         take_from(
@@ -314,6 +405,7 @@ impl Storage {
         ensures done { IfOk result (λ done. done ≡ not (is_some (words_under self.old.current key))) }
         ensures current { IfOk result (λ done. self.new.current ≡ cond done (with_words self.old.current key value) self.old.current) }
         ensures committed { self.new.committed ≡ self.old.committed }
+        ensures marks { self.new.marks ≡ self.old.marks }
         ensures err { OnErr result (self.new ≡ self.old) }
     {
         put_into(
@@ -322,6 +414,7 @@ impl Storage {
             &mut self.known,
             key,
             value,
+            self.alloc,
         )
     }
 
@@ -330,18 +423,109 @@ impl Storage {
         requires { words_under self.old.current key ≡ None }
         ensures current { OnOk result (self.new.current ≡ with_words self.old.current key value) }
         ensures committed { self.new.committed ≡ self.old.committed }
+        ensures marks { self.new.marks ≡ self.old.marks }
         ensures err { OnErr result (self.new ≡ self.old) }
     {
         self.put_new(key, value)?;
         Ok(())
     }
 
-    // Makes one layer the committed one, and goes on from there with nothing noted. It takes no memory.
-    pub(crate) fn settle(&mut self, layer: Layer)
-        ensures committed { self.new.committed ≡ seen layer self.old }
-        ensures current { self.new.current ≡ seen layer self.old }
+    // Gives up what the run has made. It takes no memory.
+    pub(crate) fn give_up(&mut self)
+        ensures committed { self.new.committed ≡ self.old.committed }
+        ensures current { self.new.current ≡ self.old.committed }
+        ensures marks { self.new.marks ≡ self.old.marks }
     {
-        settle(&mut self.places, &mut self.touched, layer);
+        settle(&mut self.places, &mut self.touched, Layer::Committed);
         self.known.forget();
+    }
+
+    // Commits what the run has made; the run goes on from there. In a block it notes what that changes, and takes the room for it
+    // first. Where that fails nothing changes.
+    pub(crate) fn commit(&mut self) -> Result<(), AllocError>
+        ensures done { self.old.marks ≡ [] → IsOk result }
+        ensures committed { OnOk result (self.new.committed ≡ self.old.current) }
+        ensures current { self.new.current ≡ self.old.current }
+        ensures marks { self.new.marks ≡ self.old.marks }
+        ensures err { OnErr result (self.new ≡ self.old) }
+    {
+        self.known.forget();
+        if self.marks.is_empty() {
+            settle(&mut self.places, &mut self.touched, Layer::Current);
+            return Ok(());
+        }
+        self.undo.reserve(self.touched.len())?;
+        note_all(&mut self.places, &mut self.touched, &mut self.undo);
+        Ok(())
+    }
+
+    /// Opens a block, which can be taken back. What a run has made and not committed is given up.
+    ///
+    /// # Errors
+    ///
+    /// If an allocation failed. No block is opened then.
+    pub fn begin(&mut self) -> Result<(), AllocError>
+        ensures committed { self.new.committed ≡ self.old.committed }
+        ensures marks { OnOk result (self.new.marks ≡ self.old.marks ++ self.old.committed ∷ []) }
+        ensures err { OnErr result ((self.new.committed ≡ self.old.committed) × (self.new.marks ≡ self.old.marks)) }
+    {
+        settle(&mut self.places, &mut self.touched, Layer::Committed);
+        self.known.forget();
+        self.marks.begin(self.undo.len())
+    }
+
+    /// Takes back what was committed since the newest open block was begun, closes that block, and says whether there was one. It
+    /// takes no memory, and as long as what the block committed.
+    pub fn rollback(&mut self) -> bool
+        ensures back { result ≡ true → self.old.marks ≡ self.new.marks ++ self.new.committed ∷ [] }
+        ensures none { result ≡ false → (self.old.marks ≡ []) × (self.new.committed ≡ self.old.committed) × (self.new.marks ≡ []) }
+    {
+        settle(&mut self.places, &mut self.touched, Layer::Committed);
+        self.known.forget();
+        match self.marks.end() {
+            Some(mark) => {
+                take_back(&mut self.places, &mut self.undo, mark);
+                close(&mut self.places, &mut self.undo, &self.marks, self.alloc);
+                true
+            }
+            None => false,
+        }
+    }
+
+    /// Closes the newest open block, keeps what was committed in it, and says whether there was one. It takes no memory. What a
+    /// block that stands in another one committed can still be taken back with that one.
+    pub fn keep(&mut self) -> bool
+        ensures committed { self.new.committed ≡ self.old.committed }
+        ensures closed { result ≡ true → (h : FlatStorage) × (self.old.marks ≡ self.new.marks ++ h ∷ []) }
+        ensures none { result ≡ false → (self.old.marks ≡ []) × (self.new.marks ≡ []) }
+    {
+        settle(&mut self.places, &mut self.touched, Layer::Committed);
+        self.known.forget();
+        match self.marks.end() {
+            Some(_mark) => {
+                close(&mut self.places, &mut self.undo, &self.marks, self.alloc);
+                true
+            }
+            None => false,
+        }
+    }
+
+    /// What was committed since the newest open block was begun, by ascending key: each key with the value that it had and the one
+    /// that it has, where these differ; nothing where no block is open. It takes as long, and memory, as what was committed.
+    ///
+    /// # Errors
+    ///
+    /// If an allocation failed.
+    pub fn changes(&self) -> Result<Changes<'_>, AllocError>
+        ensures { IfOk result (λ told. (older : List FlatStorage) (old : FlatStorage) → self.entry.now.marks ≡ older ++ old ∷ [] → IsDifference old self.entry.now.committed told) }
+    {
+        let mark = newest(&self.marks, self.undo.len());
+        let undo = self.undo.as_slice();
+        let firsts = firsts(self.alloc, undo, mark)?;
+        Ok(Changes {
+            firsts: firsts.into_iter(),
+            undo,
+            places: &self.places,
+        })
     }
 }

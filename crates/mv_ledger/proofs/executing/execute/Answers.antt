@@ -9,7 +9,7 @@ use Rattle.mv_ledger.proofs.executing.execute.Goals.{In-Ok, then-eq, else-eq}
 
 -- what the run left
 abbrev layers-of : In-Ok → Layers
-layers-of c = record { committed = c.args.storage.now.committed; current = c.run_over.new.storage.committed }
+layers-of c = record { committed = c.args.storage.now.committed; current = c.run_over.new.storage.committed; marks = c.args.storage.now.marks }
 
 -- it is the machine's run over the modules, and the tallies are theirs
 machine-of : (c : In-Ok) → Agrees (tables_in c.args.published.now.modules) (run_of c.args.published.now.modules c.args.storage.now.committed c.args.call.now) c.in-Ok.outcome c.in-Ok.tally.items (layers-of c)

@@ -13,6 +13,7 @@ returns c =
     record {
       tracked = w.tracked c.index.result.now c.args.touched.now.items c.note.new.touched.items c.index.ensures c.requires.tracked c.note.ensures.kept c.in_ok-note.ensures.noted c.note.ensures.placed;
       remembered = c.recall.ensures.remembered;
+      pinned = w.pinned c.edit.ensures.pinned;
       done = IfOk-weaker c.edit.result _ _ (λ done e. e ∙ ap (λ o. is_some (option_and_then (spliced c.args.from c.args.new.now) o)) (w.was Current)) c.edit.ensures.done;
       current = on_ok_weaker c.edit.result (λ e. w.shows Current _ (e ∙ ap (edited c.args.from c.args.new.now) (w.was Current))) c.edit.ensures.current;
       committed = w.same Committed c.edit.ensures.committed;

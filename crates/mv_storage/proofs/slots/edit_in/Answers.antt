@@ -15,6 +15,7 @@ returns-then-has_versions c =
     record {
       tracked = w.tracked c.index.result.now c.args.touched.now.items c.args.touched.now.items c.index.ensures c.requires.tracked (λ q h. h) (λ kept. cc (c.has_versions.ensures c.if-has_versions.true, kept)) (λ tree _ h. h);
       remembered = c.requires.remembered;
+      pinned = w.pinned c.edit.ensures.pinned;
       done = IfOk-weaker c.edit.result _ _ (λ done e. e ∙ ap (λ o. is_some (option_and_then (spliced c.args.from c.args.new.now) o)) (w.was Current)) c.edit.ensures.done;
       current = on_ok_weaker c.edit.result (λ e. w.shows Current _ (e ∙ ap (edited c.args.from c.args.new.now) (w.was Current))) c.edit.ensures.current;
       committed = w.same Committed c.edit.ensures.committed;

@@ -17,6 +17,7 @@ returns c =
     record {
       tracked = w.tracked c.index.result.now c.args.touched.now.items c.note.new.touched.items c.index.ensures c.requires.tracked c.note.ensures.kept c.in_ok-note.ensures.noted c.note.ensures.placed;
       remembered = c.recall.ensures.remembered;
+      pinned = w.pinned c.own_place.ensures.pinned;
       same = λ layer. w.same layer (c.own_place.ensures.layers layer);
       none = IfOk-weaker c.own_place.result _ _ (λ found e. ap is_some e ∙ some-cond (is_some (of_layer Current s)) p ∙ ap is_some (w.was Current)) c.own_place.ensures.place;
       own = own-at n c.args.key.now p t (is_some (of_layer Current s)) c.own_place.result at there c.own_place.ensures.place c.own_place.ensures.own;

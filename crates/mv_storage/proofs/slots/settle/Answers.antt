@@ -8,6 +8,7 @@ loop-key-init c = record {
   noted = c.requires.noted;
   settling = settling-placed c.args.places.now c.args.touched.now.items c.requires.placed;
   same = λ q. refl;
+  pinned = λ is q place h. h;
 }
 
 pub settle_one-requires-clause-settling : goal.settle_one-requires-clause-settling
@@ -25,4 +26,5 @@ loop-key-preserved c =
       noted = noted-rest p n rest (c.in-Some.key, c.in-Some.place) (subst (AreNoted p) c.in-Some.ensures.items c.loop-key.invariant.noted) c.settle_one.ensures.settled c.settle_one.ensures.others;
       settling = settling-rest p n rest (c.in-Some.key, c.in-Some.place) c.settle_one.ensures.settling (subst (AreSettling p) c.in-Some.ensures.items c.loop-key.invariant.settling);
       same = λ q. c.settle_one.ensures.same q ∙ c.loop-key.invariant.same q;
+      pinned = λ is q place h. c.settle_one.ensures.pinned is q place (c.loop-key.invariant.pinned is q place h);
     }

@@ -1,4 +1,5 @@
-use Rattle.mv_storage.proofs.Common.{length, AreNoted, IsSound, ShowsSame}
+use Rattle.mv_storage.proofs.Common.{◌≡◌, length, AreNoted, IsSound, ShowsSame, Committed}
+use Rattle.mv_storage.specs.Slots.{KeepsPinned}
 use Rattle.mv_storage.proofs.slots.settle.Given as goal
 use Rattle.mv_storage.proofs.Steps.{AreSettling}
 
@@ -9,6 +10,7 @@ invariant-loop-key l = record {
   noted : AreNoted l.places l.touched.items;
   settling : AreSettling l.places l.touched.items;
   same : ShowsSame l.layer l.initial.places l.places;
+  pinned : l.layer ≡ Committed → KeepsPinned l.initial.places l.places;
 }
 
 abbrev pub decreases-loop-key : goal.decreases-loop-key

@@ -1,4 +1,6 @@
-use Rattle.mv_storage.proofs.Common.{◌∙◌, arith, refl, sym, slice_get_within}
+use Rattle.mv_storage.proofs.Common.{⊎_elim, ◌∙◌, ◌≡◌, arith, false, refl, sym, true, slice_get_within, Committed}
+use Rattle.std.proofs.lemmas.Bool.{cases_Bool}
+use Rattle.mv_storage.specs.Slots.{is_pinned}
 use Rattle.std.proofs.Common.{length-set}
 use Rattle.mv_storage.proofs.PlaceLemmas.{place-read}
 use Rattle.mv_storage.proofs.Steps.{settles-none, settles-kept, settles-removed}
@@ -12,7 +14,7 @@ returns-then-is_vacant c =
 pub returns-then-settle : goal.returns-then-settle
 returns-then-settle c =
     settles-kept c.args.layer c.args.places.now _ c.args.key.now c.args.place c.index_mut-slot.result.now c.settle.new.self c.requires.sound c.requires.settling c.index_mut-slot.ensures.value
-    c.if-is_vacant.ensures refl refl c.settle.ensures.used (c.settle.ensures.kept c.if-settle.true) c.settle.ensures.same
+    c.if-is_vacant.ensures refl refl c.settle.ensures.used (c.settle.ensures.kept c.if-settle.true) c.settle.ensures.same (λ is was. (c.settle.ensures.pinned is was).1)
 
 pub remove-requires : goal.remove-requires
 remove-requires c =
@@ -24,4 +26,11 @@ remove-requires c =
 pub returns : goal.returns
 returns c =
     settles-removed c.args.layer c.args.places.now c.remove.new.self c.args.key.now c.args.place c.index_mut-slot.result.now c.settle.new.self c.requires.sound c.requires.settling c.index_mut-slot.ensures.value
-    c.if-is_vacant.ensures (sym c.if-settle.false ∙ c.settle.ensures.there) c.remove.ensures.ordered c.remove.ensures.tree c.remove.ensures.slots
+    c.if-is_vacant.ensures (c.settle.ensures.there c.if-settle.false) loose c.remove.ensures.ordered c.remove.ensures.tree c.remove.ensures.slots
+  where
+    loose : c.args.layer ≡ Committed → is_pinned c.index_mut-slot.result.now ≡ false
+    loose is =
+        ⊎_elim
+        (λ (pinned : is_pinned c.index_mut-slot.result.now ≡ true). let no : true ≡ false = sym (c.settle.ensures.pinned is pinned).0 ∙ c.if-settle.false in cc)
+        (λ (off : is_pinned c.index_mut-slot.result.now ≡ false). off)
+        (cases_Bool (is_pinned c.index_mut-slot.result.now))

@@ -12,6 +12,7 @@ returns c =
     record {
       tracked = w.tracked c.index.result.now c.args.touched.now.items c.note.new.touched.items c.index.ensures c.requires.tracked c.note.ensures.kept c.in_ok-note.ensures.noted c.note.ensures.placed;
       remembered = c.recall.ensures.remembered;
+      pinned = w.pinned c.take.ensures.pinned;
       value = IfOk-weaker c.take.result _ _ (λ v e. e ∙ w.was Current) c.take.ensures.value;
       current = on_ok_weaker c.take.result (w.shows Current None) c.take.ensures.gone;
       committed = w.same Committed c.take.ensures.committed;

@@ -1,7 +1,10 @@
 use Rattle.mv_storage.proofs.Common.{◌∙◌, ap, is_some, refl, sym, IfOk-weaker, on_err_weaker, slot_at, Committed, Current}
 use Rattle.std.specs.Prelude.{not}
 use Rattle.mv_storage.proofs.Shown.{shown-same, shown-put}
+use Rattle.mv_undo.specs.Undo.{marks_of}
+use Rattle.mv_storage.specs.Blocks.{back}
 use Rattle.mv_storage.proofs.Steps.{reads, layers-equal}
+use Rattle.mv_storage.proofs.Undoing.{keeps-undoable}
 use Rattle.mv_storage.proofs.storage.Storage.put_new.Goals as goal
 
 pub returns-clause-done : goal.returns-clause-done
@@ -28,5 +31,21 @@ returns-clause-err c =
     let before = c.self.invariant.0.sound.ordered in
     let after = c.put_into.ensures.tracked.sound.ordered in
     on_err_weaker c.put_into.result
-    (λ same. layers-equal _ _ (shown-same Committed Committed old new before after c.put_into.ensures.committed) (shown-same Current Current old new before after same) ∙ c.self.view_is)
+    (λ same. layers-equal _ _ (shown-same Committed Committed old new before after c.put_into.ensures.committed) (shown-same Current Current old new before after same)
+    (ap (marks_of back c.self.inside.undo.items c.self.inside.marks) (shown-same Committed Committed old new before after c.put_into.ensures.committed)) ∙ c.self.view_is)
     c.put_into.ensures.err
+
+pub returns-clause-marks : goal.returns-clause-marks
+returns-clause-marks c =
+    ap (marks_of back c.self.inside.undo.items c.self.inside.marks)
+    (shown-same Committed Committed c.self.inside.places c.put_into.new.places c.self.invariant.0.sound.ordered c.put_into.ensures.tracked.sound.ordered c.put_into.ensures.committed)
+    ∙ ap (λ l. l.marks) c.self.view_is
+
+pub invariant_of-self : goal.invariant_of-self
+invariant_of-self c = (
+  c.put_into.ensures.tracked,
+  c.put_into.ensures.remembered,
+  keeps-undoable c.self.inside.places c.put_into.new.places c.self.inside.undo.items c.put_into.ensures.pinned c.self.invariant.2,
+  c.self.invariant.3,
+  c.self.invariant.4,
+)

@@ -1,6 +1,9 @@
 use Rattle.mv_storage.proofs.Common.{◌∙◌, ap, refl, sym, IfOk-weaker, on_err_weaker, on_ok_weaker, slot_at, Committed, Current}
 use Rattle.mv_storage.proofs.Shown.{shown-same, shown-without}
+use Rattle.mv_undo.specs.Undo.{marks_of}
+use Rattle.mv_storage.specs.Blocks.{back}
 use Rattle.mv_storage.proofs.Steps.{reads, layers-equal}
+use Rattle.mv_storage.proofs.Undoing.{keeps-undoable}
 use Rattle.mv_storage.proofs.storage.Storage.take.Goals as goal
 
 pub returns-clause-value : goal.returns-clause-value
@@ -27,5 +30,21 @@ returns-clause-err c =
     let before = c.self.invariant.0.sound.ordered in
     let after = c.take_from.ensures.tracked.sound.ordered in
     on_err_weaker c.take_from.result
-    (λ same. layers-equal _ _ (shown-same Committed Committed old new before after c.take_from.ensures.committed) (shown-same Current Current old new before after same) ∙ c.self.view_is)
+    (λ same. layers-equal _ _ (shown-same Committed Committed old new before after c.take_from.ensures.committed) (shown-same Current Current old new before after same)
+    (ap (marks_of back c.self.inside.undo.items c.self.inside.marks) (shown-same Committed Committed old new before after c.take_from.ensures.committed)) ∙ c.self.view_is)
     c.take_from.ensures.err
+
+pub returns-clause-marks : goal.returns-clause-marks
+returns-clause-marks c =
+    ap (marks_of back c.self.inside.undo.items c.self.inside.marks)
+    (shown-same Committed Committed c.self.inside.places c.take_from.new.places c.self.invariant.0.sound.ordered c.take_from.ensures.tracked.sound.ordered c.take_from.ensures.committed)
+    ∙ ap (λ l. l.marks) c.self.view_is
+
+pub invariant_of-self : goal.invariant_of-self
+invariant_of-self c = (
+  c.take_from.ensures.tracked,
+  c.take_from.ensures.remembered,
+  keeps-undoable c.self.inside.places c.take_from.new.places c.self.inside.undo.items c.take_from.ensures.pinned c.self.invariant.2,
+  c.self.invariant.3,
+  c.self.invariant.4,
+)

@@ -1,0 +1,204 @@
+// Blocks of storage that are taken back or kept.
+use mv_move_types::Key;
+use mv_storage::{Changes, Storage, Value};
+use std::alloc::{AllocError, Global};
+use std::test::Fail;
+
+// The key of an address.
+fn key(address: u128) -> Key {
+    Key {
+        address,
+        place: 0,
+        index: 0,
+    }
+}
+
+// The first leaf that is committed under an address.
+fn stored(storage: &Storage, address: u128) -> Option<u128> {
+    let words = storage.get(&key(address))?;
+    words.first().copied()
+}
+
+// A run that puts a value of one leaf under an address in place of the one there, or takes that out, and is kept.
+fn set(storage: &mut Storage, address: u128, leaf: Option<u128>) -> Result<(), AllocError> {
+    let mut overlay = storage.overlay();
+    overlay.take(&key(address))?;
+    if let Some(leaf) = leaf {
+        overlay.put_new(key(address), Value::leaf(leaf))?;
+    }
+    overlay.commit()
+}
+
+// A run that puts a value and takes others out, and is given up.
+fn try_out(storage: &mut Storage, address: u128) -> Result<(), AllocError> {
+    let mut overlay = storage.overlay();
+    overlay.take(&key(7))?;
+    overlay.put_new(key(7), Value::leaf(99))?;
+    overlay.take(&key(7))?;
+    overlay.put_new(key(address), Value::leaf(98))?;
+    overlay.discard();
+    Ok(())
+}
+
+// Closes the newest block, and says whether one was open.
+fn close(storage: &mut Storage, keeps: bool) -> bool {
+    if keeps {
+        return storage.keep();
+    }
+    storage.rollback()
+}
+
+// What an address has once a block is closed, where it had something before it.
+fn after(keeps: bool, before: Option<u128>, now: Option<u128>) -> Option<u128> {
+    if keeps {
+        return now;
+    }
+    before
+}
+
+// A key is set in three blocks, one in the other, and each is closed in its way: whether all is then as it should be.
+fn ends(alloc: Global, leaves: [Option<u128>; 4], keeps: [bool; 3]) -> Result<bool, AllocError> {
+    let [before, first, second, third] = leaves;
+    let [outer, middle, inner] = keeps;
+    let mut storage = Storage::new(alloc);
+    set(&mut storage, 7, before)?;
+    for leaf in [first, second, third] {
+        storage.begin()?;
+        set(&mut storage, 7, leaf)?;
+        try_out(&mut storage, 8)?;
+    }
+    let mut now = third;
+    let mut is_right = stored(&storage, 7) == now;
+    for (kept, was) in [(inner, second), (middle, first), (outer, before)] {
+        now = after(kept, was, now);
+        is_right = is_right && close(&mut storage, kept) && stored(&storage, 7) == now;
+    }
+    is_right = is_right && stored(&storage, 8).is_none();
+    Ok(is_right && !storage.rollback() && !storage.keep())
+}
+
+#[test]
+fn nested_blocks_end_in_each_way(rt: HostRuntime) -> Result<(), Fail> {
+    let alloc = rt.alloc();
+    for before in [None, Some(1)] {
+        for outer in [false, true] {
+            for middle in [false, true] {
+                for inner in [false, true] {
+                    let keeps = [outer, middle, inner];
+                    assert!(rt; ends(alloc, [before, None, Some(2), None], keeps)?);
+                    assert!(rt; ends(alloc, [before, Some(3), None, Some(4)], keeps)?);
+                    assert!(rt; ends(alloc, [before, Some(5), Some(6), Some(6)], keeps)?);
+                    assert!(rt; ends(alloc, [before, None, None, Some(7)], keeps)?);
+                }
+            }
+        }
+    }
+    Ok(())
+}
+
+#[test]
+fn blocks_stand_a_thousand_deep(rt: HostRuntime) -> Result<(), Fail> {
+    let mut storage = Storage::new(rt.alloc());
+    for depth in 0..1000 {
+        storage.begin()?;
+        set(&mut storage, 7, Some(depth))?;
+    }
+    for depth in (0..1000).rev() {
+        assert_eq!(rt; stored(&storage, 7), Some(depth));
+        assert!(rt; storage.rollback());
+    }
+    assert!(rt; stored(&storage, 7).is_none());
+    assert!(rt; !storage.rollback());
+    Ok(())
+}
+
+#[test]
+fn blocks_of_many_keys_come_back(rt: HostRuntime) -> Result<(), Fail> {
+    let mut storage = Storage::new(rt.alloc());
+    set(&mut storage, 500, Some(1))?;
+    for _ in 0..3 {
+        storage.begin()?;
+        for address in 0..5000 {
+            set(&mut storage, address, Some(address))?;
+        }
+        set(&mut storage, 600, None)?;
+        assert_eq!(rt; stored(&storage, 500), Some(500));
+        assert!(rt; storage.rollback());
+        assert_eq!(rt; stored(&storage, 500), Some(1));
+        assert!(rt; stored(&storage, 600).is_none() && stored(&storage, 4999).is_none());
+    }
+    let mut entries = storage.iter();
+    assert!(rt; entries.next().is_some() && entries.next().is_none());
+    Ok(())
+}
+
+#[test]
+fn values_of_many_leaves_come_back(rt: HostRuntime) -> Result<(), Fail> {
+    let alloc = rt.alloc();
+    let mut storage = Storage::new(alloc);
+    let mut overlay = storage.overlay();
+    overlay.put_new(key(7), Value::words([1, 2, 3].to_vec(alloc)?))?;
+    overlay.commit()?;
+    overlay.discard();
+    storage.begin()?;
+    let mut overlay = storage.overlay();
+    assert!(rt; overlay.write(&key(7), 1, &[8, 9])?);
+    overlay.commit()?;
+    // The same run goes on, commits again, and is then given up.
+    assert!(rt; overlay.write(&key(7), 0, &[5])?);
+    overlay.commit()?;
+    assert!(rt; overlay.write(&key(7), 0, &[4])?);
+    overlay.discard();
+    assert_eq!(rt; storage.get(&key(7)), Some([5, 8, 9].as_slice()));
+    assert!(rt; storage.rollback());
+    assert_eq!(rt; storage.get(&key(7)), Some([1, 2, 3].as_slice()));
+    Ok(())
+}
+
+// Whether the next change is of this address, and has these leaves before and after.
+fn is_next(
+    changes: &mut Changes<'_>,
+    address: u128,
+    before: Option<u128>,
+    now: Option<u128>,
+) -> bool {
+    match changes.next() {
+        Some((key, had, has)) => {
+            key.address == address && leaf(had) == before && leaf(has) == now
+        }
+        None => false,
+    }
+}
+
+// The first leaf of a value, if there is one.
+fn leaf(words: Option<&[u128]>) -> Option<u128> {
+    words?.first().copied()
+}
+
+#[test]
+fn changes_are_told_by_key(rt: HostRuntime) -> Result<(), Fail> {
+    let mut storage = Storage::new(rt.alloc());
+    assert!(rt; storage.changes()?.next().is_none());
+    set(&mut storage, 7, Some(1))?;
+    set(&mut storage, 8, Some(2))?;
+    storage.begin()?;
+    set(&mut storage, 9, Some(3))?;
+    set(&mut storage, 7, None)?;
+    set(&mut storage, 8, Some(4))?;
+    set(&mut storage, 6, Some(5))?;
+    set(&mut storage, 9, None)?;
+    let mut changes = storage.changes()?;
+    assert!(rt; is_next(&mut changes, 6, None, Some(5)));
+    assert!(rt; is_next(&mut changes, 7, Some(1), None));
+    assert!(rt; is_next(&mut changes, 8, Some(2), Some(4)));
+    assert!(rt; changes.next().is_none());
+    // Of the newest block alone.
+    storage.begin()?;
+    set(&mut storage, 8, Some(6))?;
+    let mut changes = storage.changes()?;
+    assert!(rt; is_next(&mut changes, 8, Some(4), Some(6)) && changes.next().is_none());
+    assert!(rt; storage.keep());
+    let mut changes = storage.changes()?;
+    assert!(rt; is_next(&mut changes, 6, None, Some(5)));
+    Ok(())
+}

@@ -1,0 +1,3 @@
+pub mod Undoing
+pub mod Parts
+pub mod Lasts
