@@ -23,10 +23,10 @@ KEPT = 250_000
 WAYS = {"once": "all in one call", "each": "a call for each"}
 
 
-def compiled(folder: Path, library: Path) -> Path:
-    """The measuring program."""
-    made = folder / "embedding"
-    words: List[Word] = ["-std=c11", "-O2", "-Wall", "-Wextra", "-I", TOP / "bindings/c", "-o", made, HERE / "embedding.c"]
+def compiled(folder: Path, library: Path, name: str = "embedding") -> Path:
+    """The measuring program of this name."""
+    made = folder / name
+    words: List[Word] = ["-std=c11", "-O2", "-Wall", "-Wextra", "-I", TOP / "bindings/c", "-o", made, HERE / f"{name}.c"]
     subprocess.run(["cc", *words, library / "libmoveledger.a"], check=True)
     return made
 

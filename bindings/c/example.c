@@ -1,5 +1,5 @@
-/* A node in small: publishes a module with a coin, mints one, asks what is stored, saves the ledger, and goes on from
- * what was saved. It needs no file: the module's bytes stand below, and the library makes the module's certificate.
+/* A node in small: publishes a module with a coin, mints one, asks what is stored, saves the ledger, goes on from what was saved,
+ * and asks for one value. It needs no file: the module's bytes stand below, and the library makes the module's certificate.
  *
  *     make run        in this folder
  */
@@ -24,6 +24,10 @@ static const uint8_t COIN[] = {
     0x6e, 0x74, 0x00, 0x00, 0x00, 0x00, 0x00, 0x00, 0x00, 0x00, 0x00, 0x00, 0x00, 0x00, 0x00, 0x00, 0x00, 0x01, 0x00, 0x02,
     0x01, 0x02, 0x03, 0x00, 0x01, 0x04, 0x00, 0x00, 0x05, 0x0e, 0x00, 0x0b, 0x01, 0x12, 0x00, 0x2d, 0x00, 0x02, 0x00,
 };
+
+/* The struct's name, by which its values are asked for, and an address. */
+static const moveledger_struct COIN_NAME = {{[15] = 1}, "M", "Coin"};
+static const uint8_t SECOND[16] = {[15] = 2};
 
 /* Bytes that are put together here: a record's payload, or records. */
 struct text {
@@ -167,6 +171,9 @@ int main(void)
     moveledger_bytes_free(&saved);
     put_mint(&next, 2, 9);
     answer(&ledger, &next, &answered);
+    /* One value, which is found by its address and its struct: the others cost nothing. */
+    expect("moveledger_show_value", moveledger_show_value(&ledger, SECOND, &COIN_NAME, MOVELEDGER_TEXT, &lines));
+    print(&lines);
     expect("moveledger_audit", moveledger_audit(&ledger, MOVELEDGER_JSON, &lines));
     print(&lines);
     moveledger_free(&ledger);

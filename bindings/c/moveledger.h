@@ -1,9 +1,10 @@
 /* moveledger.h: the ledger as a library.
  *
- * A ledger is held by a `moveledger` of yours, which holds none where `own` is NULL. Calls that only read (save, show, audit) may use one
- * ledger at once; a call that changes it (apply, free) is alone with it. A call that finds the ledger in use answers BUSY, and nothing
- * changes. Different ledgers may be used by different threads at the same time. Every call returns, and answers a status. No call aborts
- * the process, if its thread has moveledger_stack_bytes of stack. What a call changes, and what stays as it was, stands beside it.
+ * A ledger is held by a `moveledger` of yours, which holds none where `own` is NULL. Calls that only read (save, show, audit, and the
+ * questions by names and addresses) may use one ledger at once; a call that changes it (apply, begin, rollback, commit, free) is alone
+ * with it. A call that finds the ledger in use answers BUSY, and nothing changes. Different ledgers may be used by different threads at
+ * the same time. Every call returns, and answers a status. No call aborts the process, if its thread has moveledger_stack_bytes of stack.
+ * What a call changes, and what stays as it was, stands beside it.
  *
  * Compilers: what has the __atomic builtins (GCC, Clang), otherwise C11 with <stdatomic.h>. */
 #ifndef MOVELEDGER_H
@@ -11,6 +12,7 @@
 
 #include <stddef.h>
 #include <stdint.h>
+#include <string.h>
 
 #if !defined(__GNUC__) && !defined(__cplusplus)
 #include <stdatomic.h>
@@ -35,7 +37,9 @@ enum moveledger_status {
     MOVELEDGER_MEMORY = 4,         /* an allocation failed */
     MOVELEDGER_ARGUMENTS = 5,      /* a null pointer where none is allowed, a `moveledger` that holds no ledger, an unknown form,
                                       or a length above PTRDIFF_MAX; no ledger, count or report changed */
-    MOVELEDGER_BUSY = 6            /* another call uses the ledger; nothing changed, and it may be asked again */
+    MOVELEDGER_BUSY = 6,           /* another call uses the ledger; nothing changed, and it may be asked again */
+    MOVELEDGER_NO_BLOCK = 7,       /* no block is open; nothing changed */
+    MOVELEDGER_ABSENT = 8          /* what was asked for by its name isn't there */
 };
 
 /* What holds a ledger, or none: begin with {NULL, 0}. Both parts are the library's own; never copy it to a second one that is used. */
@@ -57,8 +61,16 @@ typedef struct moveledger_bytes {
     void *own;                          /* the library's own */
 } moveledger_bytes;
 
-/* Which lines moveledger_show and moveledger_audit make. */
+/* Which lines a show or an audit makes. */
 enum moveledger_form { MOVELEDGER_TEXT = 0, MOVELEDGER_JSON = 1 };
+
+/* The name of a struct: the address of the module that defines it, in 16 bytes, the most significant first, the module's identifier, and
+ * the struct's. Each identifier ends with a zero byte. */
+typedef struct moveledger_struct {
+    uint8_t address[16];
+    const char *module;
+    const char *name;
+} moveledger_struct;
 
 /* An empty ledger in *ledger. After anything but DONE *ledger holds none. What it held before is overwritten, and not freed. */
 int32_t moveledger_new(moveledger_own *ledger);
@@ -74,6 +86,15 @@ void moveledger_free(moveledger_own *ledger);
  * MEMORY: the report is a beginning of the whole one, and the ledger is as some records left it: the records up to *answered,
  * and perhaps the one after them (whose lines may be written in part). */
 int32_t moveledger_apply(moveledger_own *ledger, const uint8_t *records, size_t length, uint64_t *answered, moveledger_bytes *report);
+/* Blocks. begin opens a block: records are answered in it as ever. rollback closes the newest block and gives back the ledger as it was
+ * when that block was opened; commit closes it and keeps what was changed, as a part of the block around it, if there is one. Blocks nest.
+ * rollback and commit take no memory and can't fail; NO_BLOCK where no block is open. begin answers MEMORY where memory runs out, and
+ * no block is opened then. A block notes what each change replaced, 80 bytes for a value and 48 for a count; the first bundle that is
+ * published in a block also copies the published modules. A save, a show and the questions tell what is held now; a ledger that is loaded
+ * has no open block. */
+int32_t moveledger_begin(moveledger_own *ledger);
+int32_t moveledger_rollback(moveledger_own *ledger);
+int32_t moveledger_commit(moveledger_own *ledger);
 /* The ledger's text, as `apply --save` writes it, in *saved. The ledger stays as it was. Here and below, what `*saved`, `*lines`,
  * `*certificate` or `*migrated` held before is overwritten, and not freed; after anything but DONE it is {NULL, 0, NULL}, and where there
  * is a `*why`, it is 0 unless the status has a reason. */
@@ -81,6 +102,36 @@ int32_t moveledger_save(moveledger_own *ledger, moveledger_bytes *saved);
 /* The lines of a show or an audit, without numbers, each ended by a line feed. The ledger stays as it was. */
 int32_t moveledger_show(moveledger_own *ledger, uint32_t form, moveledger_bytes *lines);
 int32_t moveledger_audit(moveledger_own *ledger, uint32_t form, moveledger_bytes *lines);
+
+/* Questions. Each takes a search or two and what it tells, whatever else the ledger has; the ledger stays as it was. An address is 16
+ * bytes, the most significant first. Through this header a struct is named by a `const moveledger_struct *`, and a module by its address
+ * and a text that ends with a zero byte; the library itself takes the parts in turn, each text with its length. After anything but DONE
+ * bytes are {NULL, 0, NULL}, and numbers are 0.
+ *
+ * show_value: the value of a struct that is stored at an address, as the lines of a show that has no other; ABSENT where there is none.
+ * show_at: all values that are stored at an address, as the lines of a show that has no others.
+ * show_page: the values of a struct at addresses from *from on, by ascending address, likewise. The struct's values have no index of
+ * their own, so the call looks at `most` keys at most, of whichever structs they are. Then *is_more is 1 and the next page begins at
+ * *from; or *is_more is 0, no value is left, and *from is as it was, also after anything but DONE. The first page is that from address 0,
+ * and with `most` 0 the pages never end. ABSENT where no such struct is published. */
+int32_t moveledger_show_value(moveledger_own *ledger, const uint8_t *address, const uint8_t *home, const uint8_t *module,
+                              size_t module_length, const uint8_t *name, size_t name_length, uint32_t form, moveledger_bytes *lines);
+int32_t moveledger_show_at(moveledger_own *ledger, const uint8_t *address, uint32_t form, moveledger_bytes *lines);
+int32_t moveledger_show_page(moveledger_own *ledger, const uint8_t *home, const uint8_t *module, size_t module_length,
+                             const uint8_t *name, size_t name_length, uint8_t *from, size_t most, uint32_t form,
+                             moveledger_bytes *lines, uint8_t *is_more);
+/* modules: the names of the published modules in order of publication, each as ADDRESS::MODULE and a line feed, the address in 32
+ * hexadecimal digits.
+ * module: the bytes of the module of a name, and those of the certificate that it was checked with; ABSENT where there is no such module. */
+int32_t moveledger_modules(moveledger_own *ledger, moveledger_bytes *names);
+int32_t moveledger_module(moveledger_own *ledger, const uint8_t *address, const uint8_t *name, size_t name_length,
+                          moveledger_bytes *module, moveledger_bytes *certificate);
+/* runs: how many runs were begun, whatever became of them.
+ * tally: how many values of a struct were packed, and how many unpacked, in runs that returned; the difference is how many are stored.
+ * ABSENT where no such struct is published, or where it has copy or drop. */
+int32_t moveledger_runs(moveledger_own *ledger, uint64_t *runs);
+int32_t moveledger_tally(moveledger_own *ledger, const uint8_t *home, const uint8_t *module, size_t module_length,
+                         const uint8_t *name, size_t name_length, uint64_t *packed, uint64_t *unpacked);
 
 /* Without a ledger. prove: the certificate's hexadecimal, as the command prints it, without a line end. It has no limit of time: a module of
  * 7 KB is known that takes 72 seconds.
@@ -134,6 +185,9 @@ static inline void moveledger_clear_ledger(moveledger *ledger) {
 static inline void moveledger_clear_reason(uint8_t *why) {
     if (why) *why = 0;
 }
+static inline void moveledger_clear_count(uint64_t *count) {
+    if (count) *count = 0;
+}
 static inline int32_t moveledger_new_tested(moveledger *ledger) {
     moveledger_own own = {NULL};
     moveledger_clear_ledger(ledger);
@@ -170,6 +224,33 @@ static inline int32_t moveledger_apply_tested(moveledger *ledger, const uint8_t 
     moveledger_ends_use(ledger);
     return status;
 }
+static inline int32_t moveledger_begin_tested(moveledger *ledger) {
+    if (!ledger) return MOVELEDGER_ARGUMENTS;
+    if (!moveledger_begins_change(ledger)) return MOVELEDGER_BUSY;
+    moveledger_own own = {ledger->own};
+    const int32_t status = moveledger_begin(&own);
+    ledger->own = own.own;
+    moveledger_ends_use(ledger);
+    return status;
+}
+static inline int32_t moveledger_rollback_tested(moveledger *ledger) {
+    if (!ledger) return MOVELEDGER_ARGUMENTS;
+    if (!moveledger_begins_change(ledger)) return MOVELEDGER_BUSY;
+    moveledger_own own = {ledger->own};
+    const int32_t status = moveledger_rollback(&own);
+    ledger->own = own.own;
+    moveledger_ends_use(ledger);
+    return status;
+}
+static inline int32_t moveledger_commit_tested(moveledger *ledger) {
+    if (!ledger) return MOVELEDGER_ARGUMENTS;
+    if (!moveledger_begins_change(ledger)) return MOVELEDGER_BUSY;
+    moveledger_own own = {ledger->own};
+    const int32_t status = moveledger_commit(&own);
+    ledger->own = own.own;
+    moveledger_ends_use(ledger);
+    return status;
+}
 static inline int32_t moveledger_save_tested(const moveledger *ledger, moveledger_bytes *saved) {
     moveledger_clear_bytes(saved);
     if (!ledger || !saved) return MOVELEDGER_ARGUMENTS;
@@ -194,6 +275,86 @@ static inline int32_t moveledger_audit_tested(const moveledger *ledger, uint32_t
     if (!moveledger_begins_reading(ledger)) return MOVELEDGER_BUSY;
     moveledger_own own = {ledger->own};
     const int32_t status = moveledger_audit(&own, form, lines);
+    moveledger_ends_use(ledger);
+    return status;
+}
+static inline int moveledger_is_named(const moveledger_struct *name) {
+    return name && name->module && name->name;
+}
+static inline const uint8_t *moveledger_text(const char *text) {
+    return (const uint8_t *)text;
+}
+static inline int32_t moveledger_show_value_tested(const moveledger *ledger, const uint8_t *address, const moveledger_struct *name,
+                                                   uint32_t form, moveledger_bytes *lines) {
+    moveledger_clear_bytes(lines);
+    if (!ledger || !address || !moveledger_is_named(name) || !lines) return MOVELEDGER_ARGUMENTS;
+    if (!moveledger_begins_reading(ledger)) return MOVELEDGER_BUSY;
+    moveledger_own own = {ledger->own};
+    const int32_t status = moveledger_show_value(&own, address, name->address, moveledger_text(name->module), strlen(name->module),
+                                                 moveledger_text(name->name), strlen(name->name), form, lines);
+    moveledger_ends_use(ledger);
+    return status;
+}
+static inline int32_t moveledger_show_at_tested(const moveledger *ledger, const uint8_t *address, uint32_t form,
+                                                moveledger_bytes *lines) {
+    moveledger_clear_bytes(lines);
+    if (!ledger || !address || !lines) return MOVELEDGER_ARGUMENTS;
+    if (!moveledger_begins_reading(ledger)) return MOVELEDGER_BUSY;
+    moveledger_own own = {ledger->own};
+    const int32_t status = moveledger_show_at(&own, address, form, lines);
+    moveledger_ends_use(ledger);
+    return status;
+}
+static inline int32_t moveledger_show_page_tested(const moveledger *ledger, const moveledger_struct *name, uint8_t *from, size_t most,
+                                                  uint32_t form, moveledger_bytes *lines, uint8_t *is_more) {
+    moveledger_clear_bytes(lines);
+    moveledger_clear_reason(is_more);
+    if (!ledger || !moveledger_is_named(name) || !from || !lines || !is_more) return MOVELEDGER_ARGUMENTS;
+    if (!moveledger_begins_reading(ledger)) return MOVELEDGER_BUSY;
+    moveledger_own own = {ledger->own};
+    const int32_t status = moveledger_show_page(&own, name->address, moveledger_text(name->module), strlen(name->module),
+                                                moveledger_text(name->name), strlen(name->name), from, most, form, lines, is_more);
+    moveledger_ends_use(ledger);
+    return status;
+}
+static inline int32_t moveledger_modules_tested(const moveledger *ledger, moveledger_bytes *names) {
+    moveledger_clear_bytes(names);
+    if (!ledger || !names) return MOVELEDGER_ARGUMENTS;
+    if (!moveledger_begins_reading(ledger)) return MOVELEDGER_BUSY;
+    moveledger_own own = {ledger->own};
+    const int32_t status = moveledger_modules(&own, names);
+    moveledger_ends_use(ledger);
+    return status;
+}
+static inline int32_t moveledger_module_tested(const moveledger *ledger, const uint8_t *address, const char *name,
+                                               moveledger_bytes *module, moveledger_bytes *certificate) {
+    moveledger_clear_bytes(module);
+    moveledger_clear_bytes(certificate);
+    if (!ledger || !address || !name || !module || !certificate) return MOVELEDGER_ARGUMENTS;
+    if (!moveledger_begins_reading(ledger)) return MOVELEDGER_BUSY;
+    moveledger_own own = {ledger->own};
+    const int32_t status = moveledger_module(&own, address, moveledger_text(name), strlen(name), module, certificate);
+    moveledger_ends_use(ledger);
+    return status;
+}
+static inline int32_t moveledger_runs_tested(const moveledger *ledger, uint64_t *runs) {
+    moveledger_clear_count(runs);
+    if (!ledger || !runs) return MOVELEDGER_ARGUMENTS;
+    if (!moveledger_begins_reading(ledger)) return MOVELEDGER_BUSY;
+    moveledger_own own = {ledger->own};
+    const int32_t status = moveledger_runs(&own, runs);
+    moveledger_ends_use(ledger);
+    return status;
+}
+static inline int32_t moveledger_tally_tested(const moveledger *ledger, const moveledger_struct *name, uint64_t *packed,
+                                              uint64_t *unpacked) {
+    moveledger_clear_count(packed);
+    moveledger_clear_count(unpacked);
+    if (!ledger || !moveledger_is_named(name) || !packed || !unpacked) return MOVELEDGER_ARGUMENTS;
+    if (!moveledger_begins_reading(ledger)) return MOVELEDGER_BUSY;
+    moveledger_own own = {ledger->own};
+    const int32_t status = moveledger_tally(&own, name->address, moveledger_text(name->module), strlen(name->module),
+                                            moveledger_text(name->name), strlen(name->name), packed, unpacked);
     moveledger_ends_use(ledger);
     return status;
 }
@@ -224,9 +385,21 @@ static inline void moveledger_bytes_free_tested(moveledger_bytes *bytes) {
 #define moveledger_free(ledger) moveledger_free_tested(ledger)
 #define moveledger_apply(ledger, records, length, answered, report) \
     moveledger_apply_tested(ledger, records, length, answered, report)
+#define moveledger_begin(ledger) moveledger_begin_tested(ledger)
+#define moveledger_rollback(ledger) moveledger_rollback_tested(ledger)
+#define moveledger_commit(ledger) moveledger_commit_tested(ledger)
 #define moveledger_save(ledger, saved) moveledger_save_tested(ledger, saved)
 #define moveledger_show(ledger, form, lines) moveledger_show_tested(ledger, form, lines)
 #define moveledger_audit(ledger, form, lines) moveledger_audit_tested(ledger, form, lines)
+#define moveledger_show_value(ledger, address, name, form, lines) moveledger_show_value_tested(ledger, address, name, form, lines)
+#define moveledger_show_at(ledger, address, form, lines) moveledger_show_at_tested(ledger, address, form, lines)
+#define moveledger_show_page(ledger, name, from, most, form, lines, is_more) \
+    moveledger_show_page_tested(ledger, name, from, most, form, lines, is_more)
+#define moveledger_modules(ledger, names) moveledger_modules_tested(ledger, names)
+#define moveledger_module(ledger, address, name, module, certificate) \
+    moveledger_module_tested(ledger, address, name, module, certificate)
+#define moveledger_runs(ledger, runs) moveledger_runs_tested(ledger, runs)
+#define moveledger_tally(ledger, name, packed, unpacked) moveledger_tally_tested(ledger, name, packed, unpacked)
 #define moveledger_prove(module, length, certificate, why) moveledger_prove_tested(module, length, certificate, why)
 #define moveledger_check(module, length, certificate, certificate_length, why) \
     moveledger_check_tested(module, length, certificate, certificate_length, why)

@@ -17,3 +17,4 @@ with moveledger.Ledger() as ledger:
     for line in ledger.apply(moveledger.assemble(TEXT)):
         print(line)
     print(ledger.show())
+    print(ledger.value(0x1, "0x1::M::Coin"))

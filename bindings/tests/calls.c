@@ -1,4 +1,5 @@
-/* Tries calls of the library: with wrong arguments, in two threads, on one ledger in many, and very often with memory that stays flat.
+/* Tries calls of the library: with wrong arguments, questions by names and addresses, in two threads, on one ledger in many, and very
+ * often with memory that stays flat.
  * usage: calls STREAM [COUNT]    STREAM is examples/first-coin.stream; COUNT is how often records are applied, 20,000 if none is
  * given. What went wrong is printed, and the status is 1. */
 #include "moveledger.h"
@@ -138,6 +139,209 @@ static void try_arguments_of_modules(void)
     want_arguments(moveledger_migrate(stream, length, &bytes, NULL), &bytes, "migrate without a place for the reason");
 }
 
+/* The struct that the example's module has, and addresses with a value and without one. */
+static const moveledger_struct COIN = {{[15] = 1}, "M", "Coin"};
+static const uint8_t ONE[16] = {[15] = 1}, TWO[16] = {[15] = 2};
+#define COIN_LINE "at 00000000000000000000000000000001 00000000000000000000000000000001::M::Coin {7}\n"
+#define COIN_JSON "{\"address\":\"00000000000000000000000000000001\",\"struct\":\"00000000000000000000000000000001::M::Coin\",\"value\":\"{7}\"}"
+
+/* What answers a question has a place for, which held something else before. */
+static struct answers {
+    moveledger_bytes bytes, second;
+    uint64_t count, other;
+    uint8_t is_more, from[16];
+} unanswered(void)
+{
+    struct answers made;
+    memset(&made, 0x41, sizeof made);
+    memset(made.from, 0, sizeof made.from);
+    return made;
+}
+
+/* A question that is answered by another status than DONE leaves nothing. */
+static void want_nothing(int32_t status, int32_t wanted, moveledger_bytes *bytes, const char *what)
+{
+    want(status == wanted, what);
+    want(bytes->bytes == NULL && bytes->length == 0 && bytes->own == NULL, what);
+    moveledger_bytes_free(bytes);
+}
+
+/* Each question of a ledger, with an address, a struct's name and a form; all of them are answered by a status that isn't DONE. */
+static void want_refused(const moveledger *ledger, int32_t wanted, const char *what)
+{
+    struct answers it = unanswered();
+    want_nothing(moveledger_show_value(ledger, ONE, &COIN, MOVELEDGER_TEXT, &it.bytes), wanted, &it.bytes, what);
+    it = unanswered();
+    want_nothing(moveledger_show_at(ledger, ONE, MOVELEDGER_JSON, &it.bytes), wanted, &it.bytes, what);
+    it = unanswered();
+    want_nothing(moveledger_show_page(ledger, &COIN, it.from, 9, MOVELEDGER_TEXT, &it.bytes, &it.is_more), wanted, &it.bytes, what);
+    want(it.is_more == 0 && memcmp(it.from, (uint8_t[16]){0}, 16) == 0, what);
+    it = unanswered();
+    want_nothing(moveledger_modules(ledger, &it.bytes), wanted, &it.bytes, what);
+    it = unanswered();
+    want_nothing(moveledger_module(ledger, ONE, "M", &it.bytes, &it.second), wanted, &it.bytes, what);
+    want_nothing(wanted, wanted, &it.second, what);
+    want(moveledger_runs(ledger, &it.count) == wanted && it.count == 0, what);
+    it = unanswered();
+    want(moveledger_tally(ledger, &COIN, &it.count, &it.other) == wanted && it.count == 0 && it.other == 0, what);
+}
+
+/* A struct's name that names none, or isn't one: what is told of it. */
+static void try_name(const moveledger *ledger, const moveledger_struct *name, bool is_name, const char *what)
+{
+    const int32_t wanted = is_name ? MOVELEDGER_ABSENT : MOVELEDGER_ARGUMENTS;
+    struct answers it = unanswered();
+    want_nothing(moveledger_show_value(ledger, ONE, name, MOVELEDGER_TEXT, &it.bytes), wanted, &it.bytes, what);
+    want(moveledger_tally(ledger, name, &it.count, &it.other) == wanted && it.count == 0 && it.other == 0, what);
+    it = unanswered();
+    want_nothing(moveledger_show_page(ledger, name, it.from, 9, MOVELEDGER_TEXT, &it.bytes, &it.is_more), wanted, &it.bytes, what);
+    want(it.is_more == 0 && memcmp(it.from, (uint8_t[16]){0}, 16) == 0, what);
+}
+
+static void try_arguments_of_questions(const moveledger *ledger)
+{
+    const moveledger none = {NULL, 0};
+    struct answers it = unanswered();
+    want_refused(NULL, MOVELEDGER_ARGUMENTS, "a question without a ledger");
+    want_refused(&none, MOVELEDGER_ARGUMENTS, "a question of no ledger");
+    want_nothing(moveledger_show_value(ledger, NULL, &COIN, MOVELEDGER_TEXT, &it.bytes), MOVELEDGER_ARGUMENTS, &it.bytes, "no address of a value");
+    it = unanswered();
+    want_nothing(moveledger_show_value(ledger, ONE, &COIN, 2, &it.bytes), MOVELEDGER_ARGUMENTS, &it.bytes, "a value in no form");
+    want(moveledger_show_value(ledger, ONE, &COIN, MOVELEDGER_TEXT, NULL) == MOVELEDGER_ARGUMENTS, "a value without a place");
+    it = unanswered();
+    want_nothing(moveledger_show_at(ledger, NULL, MOVELEDGER_TEXT, &it.bytes), MOVELEDGER_ARGUMENTS, &it.bytes, "no address of values");
+    it = unanswered();
+    want_nothing(moveledger_show_at(ledger, ONE, UINT32_MAX, &it.bytes), MOVELEDGER_ARGUMENTS, &it.bytes, "values in no form");
+    want(moveledger_show_at(ledger, ONE, MOVELEDGER_TEXT, NULL) == MOVELEDGER_ARGUMENTS, "values without a place");
+    it = unanswered();
+    want_nothing(moveledger_show_page(ledger, &COIN, NULL, 9, MOVELEDGER_TEXT, &it.bytes, &it.is_more), MOVELEDGER_ARGUMENTS, &it.bytes, "a page from nowhere");
+    want(it.is_more == 0, "a page from nowhere goes on nowhere");
+    it = unanswered();
+    want_nothing(moveledger_show_page(ledger, &COIN, it.from, 9, 2, &it.bytes, &it.is_more), MOVELEDGER_ARGUMENTS, &it.bytes, "a page in no form");
+    want(it.is_more == 0, "a page in no form goes on nowhere");
+    it = unanswered();
+    want_nothing(moveledger_show_page(ledger, &COIN, it.from, 9, MOVELEDGER_TEXT, &it.bytes, NULL), MOVELEDGER_ARGUMENTS, &it.bytes, "a page that can't say whether it goes on");
+    want(moveledger_show_page(ledger, &COIN, it.from, 9, MOVELEDGER_TEXT, NULL, &it.is_more) == MOVELEDGER_ARGUMENTS, "a page without a place");
+    want(moveledger_modules(ledger, NULL) == MOVELEDGER_ARGUMENTS, "names without a place");
+    it = unanswered();
+    want_nothing(moveledger_module(ledger, NULL, "M", &it.bytes, &it.second), MOVELEDGER_ARGUMENTS, &it.bytes, "a module at no address");
+    it = unanswered();
+    want_nothing(moveledger_module(ledger, ONE, NULL, &it.bytes, &it.second), MOVELEDGER_ARGUMENTS, &it.second, "a module of no name");
+    it = unanswered();
+    want_nothing(moveledger_module(ledger, ONE, "M", &it.bytes, NULL), MOVELEDGER_ARGUMENTS, &it.bytes, "a module without a place for its certificate");
+    it = unanswered();
+    want_nothing(moveledger_module(ledger, ONE, "M", NULL, &it.second), MOVELEDGER_ARGUMENTS, &it.second, "a module without a place");
+    want(moveledger_runs(ledger, NULL) == MOVELEDGER_ARGUMENTS, "runs without a place");
+    it = unanswered();
+    want(moveledger_tally(ledger, &COIN, &it.count, NULL) == MOVELEDGER_ARGUMENTS && it.count == 0, "a tally without a second place");
+    want(moveledger_tally(ledger, &COIN, NULL, &it.other) == MOVELEDGER_ARGUMENTS && it.other == 0, "a tally without a first place");
+}
+
+static void try_names(const moveledger *ledger)
+{
+    struct answers it = unanswered();
+    try_name(ledger, NULL, false, "no name");
+    try_name(ledger, &(moveledger_struct){{[15] = 1}, NULL, "Coin"}, false, "a name without a module");
+    try_name(ledger, &(moveledger_struct){{[15] = 1}, "M", NULL}, false, "a name without a struct");
+    try_name(ledger, &(moveledger_struct){{[15] = 2}, "M", "Coin"}, true, "a module of another address");
+    try_name(ledger, &(moveledger_struct){{[15] = 1}, "N", "Coin"}, true, "another module");
+    try_name(ledger, &(moveledger_struct){{[15] = 1}, "M", "Coins"}, true, "a longer name");
+    try_name(ledger, &(moveledger_struct){{[15] = 1}, "M", "Coi"}, true, "a shorter name");
+    try_name(ledger, &(moveledger_struct){{[15] = 1}, "", "Coin"}, true, "a module whose name is empty");
+    try_name(ledger, &(moveledger_struct){{[15] = 1}, "M", ""}, true, "a struct whose name is empty");
+    want_nothing(moveledger_show_value(ledger, TWO, &COIN, MOVELEDGER_JSON, &it.bytes), MOVELEDGER_ABSENT, &it.bytes, "an address without a value");
+    it = unanswered();
+    want_nothing(moveledger_module(ledger, TWO, "M", &it.bytes, &it.second), MOVELEDGER_ABSENT, &it.bytes, "a module at another address");
+    want_nothing(MOVELEDGER_ABSENT, MOVELEDGER_ABSENT, &it.second, "its certificate");
+    it = unanswered();
+    want_nothing(moveledger_module(ledger, ONE, "", &it.bytes, &it.second), MOVELEDGER_ABSENT, &it.bytes, "a module whose name is empty");
+    want_nothing(MOVELEDGER_ABSENT, MOVELEDGER_ABSENT, &it.second, "its certificate");
+}
+
+/* Bytes that a question gave, which are freed. */
+static void want_text(int32_t status, moveledger_bytes *bytes, const char *wanted, const char *what)
+{
+    want(status == MOVELEDGER_DONE && bytes->length == strlen(wanted) && memcmp(bytes->bytes, wanted, bytes->length) == 0, what);
+    moveledger_bytes_free(bytes);
+}
+
+/* Where the module and its certificate stand in the example's first record. */
+enum { MODULE = 20, MODULE_LENGTH = 99, CERTIFICATE = MODULE + MODULE_LENGTH + 1, CERTIFICATE_LENGTH = 4 };
+
+static void try_answers(const moveledger *ledger)
+{
+    struct answers it = unanswered();
+    want_text(moveledger_show_value(ledger, ONE, &COIN, MOVELEDGER_TEXT, &it.bytes), &it.bytes, COIN_LINE "end 1\n", "a value");
+    want_text(moveledger_show_value(ledger, ONE, &COIN, MOVELEDGER_JSON, &it.bytes), &it.bytes, "json {\"show\":[" COIN_JSON "]}\n", "a value as JSON");
+    want_text(moveledger_show_at(ledger, ONE, MOVELEDGER_TEXT, &it.bytes), &it.bytes, COIN_LINE "end 1\n", "an address");
+    want_text(moveledger_show_at(ledger, TWO, MOVELEDGER_TEXT, &it.bytes), &it.bytes, "end 0\n", "an address with nothing");
+    want_text(moveledger_show_at(ledger, TWO, MOVELEDGER_JSON, &it.bytes), &it.bytes, "json {\"show\":[]}\n", "an address with nothing as JSON");
+    want_text(moveledger_show_page(ledger, &COIN, it.from, 9, MOVELEDGER_TEXT, &it.bytes, &it.is_more), &it.bytes, COIN_LINE "end 1\n", "a page");
+    want(it.is_more == 0, "a page with all values is the last one");
+    want_text(moveledger_modules(ledger, &it.bytes), &it.bytes, "00000000000000000000000000000001::M\n", "names of modules");
+    want(moveledger_module(ledger, ONE, "M", &it.bytes, &it.second) == MOVELEDGER_DONE, "a module");
+    want(it.bytes.length == MODULE_LENGTH && memcmp(it.bytes.bytes, stream + MODULE, MODULE_LENGTH) == 0, "a module's bytes");
+    want(it.second.length == CERTIFICATE_LENGTH && memcmp(it.second.bytes, stream + CERTIFICATE, CERTIFICATE_LENGTH) == 0, "a certificate's bytes");
+    moveledger_bytes_free(&it.bytes);
+    moveledger_bytes_free(&it.second);
+    want(moveledger_runs(ledger, &it.count) == MOVELEDGER_DONE && it.count == 1, "the number of runs");
+    want(moveledger_tally(ledger, &COIN, &it.count, &it.other) == MOVELEDGER_DONE && it.count == 1 && it.other == 0, "a tally");
+}
+
+/* All pages of a struct, of so many keys each, have as many lines as values are stored. */
+static void try_pages(moveledger *ledger, size_t most, unsigned long wanted)
+{
+    uint8_t from[16] = {0}, is_more = 1;
+    unsigned long told = 0, pages = 0;
+    while (is_more) {
+        moveledger_bytes bytes;
+        uint8_t before[16];
+        memcpy(before, from, sizeof from);
+        want(moveledger_show_page(ledger, &COIN, from, most, MOVELEDGER_TEXT, &bytes, &is_more) == MOVELEDGER_DONE, "a page of many");
+        want(!is_more || memcmp(before, from, sizeof from) < 0, "a page goes on behind where it began");
+        for (size_t at = 0; at < bytes.length; ++at)
+            told += bytes.bytes[at] == '\n';
+        moveledger_bytes_free(&bytes);
+        told -= 1;
+        ++pages;
+    }
+    want(told == wanted && pages >= wanted / most, "all pages tell all values");
+}
+
+/* Questions by names and addresses: they change nothing, and a ledger that is changed meanwhile isn't asked. */
+static void try_questions(void)
+{
+    moveledger ledger = {NULL, 0};
+    moveledger_bytes before = {NULL, 0, NULL}, after = {NULL, 0, NULL}, report = {NULL, 0, NULL};
+    uint64_t answered = 0;
+    uint8_t record[MOST];
+    want(moveledger_new(&ledger) == MOVELEDGER_DONE, "a ledger is made");
+    want(moveledger_apply(&ledger, stream, length, &answered, &report) == MOVELEDGER_DONE, "records are answered");
+    want(moveledger_save(&ledger, &before) == MOVELEDGER_DONE, "a ledger is saved");
+    try_arguments_of_questions(&ledger);
+    try_names(&ledger);
+    try_answers(&ledger);
+    ledger.users = -1;
+    want_refused(&ledger, MOVELEDGER_BUSY, "a question of a ledger that is changed");
+    ledger.users = 1;
+    try_answers(&ledger);
+    want(ledger.users == 1, "a question leaves the number of users");
+    ledger.users = 0;
+    want(moveledger_save(&ledger, &after) == MOVELEDGER_DONE, "a ledger is saved again");
+    want(before.length == after.length && memcmp(before.bytes, after.bytes, after.length) == 0, "questions change nothing");
+    memcpy(record, stream + FIRST, length - FIRST);
+    for (unsigned nth = 2; nth <= 30; ++nth) {
+        record[SENDER + 15] = (uint8_t)nth;
+        want(moveledger_apply(&ledger, record, length - FIRST, &answered, &report) == MOVELEDGER_DONE, "a mint is answered");
+    }
+    for (size_t most = 1; most <= 31; ++most)
+        try_pages(&ledger, most, 30);
+    moveledger_bytes_free(&before);
+    moveledger_bytes_free(&after);
+    moveledger_bytes_free(&report);
+    moveledger_free(&ledger);
+}
+
 /* Wrong arguments change nothing: what is saved before and after is the same. */
 static void try_arguments(void)
 {
@@ -222,8 +426,12 @@ static void *share(void *given)
     for (unsigned nth = 0; nth < SHARED_CALLS; ++nth) {
         moveledger_bytes bytes = {NULL, 0, NULL};
         uint64_t answered = 1;
+        uint8_t from[16] = {0}, is_more;
         const int32_t status = told->is_writing ? moveledger_apply(told->ledger, stream + FIRST, length - FIRST, &answered, &bytes)
-                               : nth % 2        ? moveledger_show(told->ledger, MOVELEDGER_TEXT, &bytes)
+                               : nth % 5 == 0   ? moveledger_show(told->ledger, MOVELEDGER_TEXT, &bytes)
+                               : nth % 5 == 1   ? moveledger_show_value(told->ledger, ONE, &COIN, MOVELEDGER_JSON, &bytes)
+                               : nth % 5 == 2   ? moveledger_show_page(told->ledger, &COIN, from, 9, MOVELEDGER_TEXT, &bytes, &is_more)
+                               : nth % 5 == 3   ? moveledger_modules(told->ledger, &bytes)
                                                 : moveledger_save(told->ledger, &bytes);
         *(status == MOVELEDGER_DONE ? &told->done : status == MOVELEDGER_BUSY ? &told->busy : &told->other) += 1;
         moveledger_bytes_free(&bytes);
@@ -316,6 +524,7 @@ int main(int words, char **word)
     length = fread(stream, 1, sizeof stream, file);
     fclose(file);
     try_arguments();
+    try_questions();
     try_threads();
     const unsigned long often = words > 2 ? strtoul(word[2], NULL, 10) : FIRST_COUNT;
     try_sharing(0);

@@ -205,7 +205,53 @@ static int32_t ask_saved(moveledger *ledger, moveledger_bytes *saved)
     return moveledger_save(ledger, saved);
 }
 
-static question *const QUESTIONS[] = {ask_saved, ask_text, ask_json, ask_audit, ask_loaded, ask_migrated};
+/* A struct and an address that the examples have; where they aren't, the answers are of nothing. */
+static const moveledger_struct COIN = {{[15] = 1}, "M", "Coin"};
+static const uint8_t ONE[16] = {[15] = 1};
+
+static int32_t ask_at(moveledger *ledger, moveledger_bytes *lines)
+{
+    return moveledger_show_at(ledger, ONE, MOVELEDGER_TEXT, lines);
+}
+
+static int32_t ask_at_json(moveledger *ledger, moveledger_bytes *lines)
+{
+    return moveledger_show_at(ledger, ONE, MOVELEDGER_JSON, lines);
+}
+
+/* A page, or nothing; where memory runs out nothing else is told. */
+static int32_t ask_page(moveledger *ledger, moveledger_bytes *lines)
+{
+    uint8_t start[16] = {0}, is_more = 1;
+    const int32_t status = moveledger_show_page(ledger, &COIN, start, 100, MOVELEDGER_JSON, lines, &is_more);
+    want(status == MOVELEDGER_DONE || (is_more == 0 && memcmp(start, (uint8_t[16]){0}, 16) == 0), "a page without memory");
+    return status == MOVELEDGER_ABSENT ? (int32_t)MOVELEDGER_DONE : status;
+}
+
+/* A value, or nothing. */
+static int32_t ask_value(moveledger *ledger, moveledger_bytes *lines)
+{
+    const int32_t status = moveledger_show_value(ledger, ONE, &COIN, MOVELEDGER_TEXT, lines);
+    return status == MOVELEDGER_ABSENT ? (int32_t)MOVELEDGER_DONE : status;
+}
+
+static int32_t ask_names(moveledger *ledger, moveledger_bytes *names)
+{
+    return moveledger_modules(ledger, names);
+}
+
+/* A module's certificate; its bytes are given with it, or neither is. */
+static int32_t ask_module(moveledger *ledger, moveledger_bytes *certificate)
+{
+    moveledger_bytes text = {NULL, 0, NULL};
+    const int32_t status = moveledger_module(ledger, ONE, "M", &text, certificate);
+    want(status == MOVELEDGER_DONE ? text.length > 0 : text.bytes == NULL && certificate->bytes == NULL, "both texts, or neither");
+    moveledger_bytes_free(&text);
+    return status == MOVELEDGER_ABSENT ? (int32_t)MOVELEDGER_DONE : status;
+}
+
+static question *const QUESTIONS[] = {ask_saved,   ask_text, ask_json, ask_audit, ask_loaded, ask_migrated, ask_at,
+                                      ask_at_json, ask_page, ask_value, ask_names, ask_module};
 static question *asked;
 static moveledger *asked_ledger;
 

@@ -9,7 +9,7 @@ TOP = Path(__file__).resolve().parents[2]
 CRATES = TOP / "crates"
 EXAMPLES = TOP / "examples"
 # What a call answers, as tests/session.c names it.
-DONE, REFUSED, LOAD_REFUSED, TOO_COMPLEX = "done", "refused", "load_refused", "too_complex"
+DONE, REFUSED, LOAD_REFUSED, TOO_COMPLEX, ABSENT = "done", "refused", "load_refused", "too_complex", "absent"
 
 
 class Row(NamedTuple):
@@ -127,6 +127,60 @@ def of_questions() -> Iterator[Call]:
         lines = [line for line in bare if line.startswith(begins)]
         end = b"end %d\n" % len(lines) if form == "00" else b""
         yield Call(f"{call} {form}", f"{call} {form}", answer(DONE, 0, last_number(wanted), b"".join(lines) + end))
+    bare = [line.split(b" ", 1)[1] for line in report.splitlines(True)]
+    yield from of_values(last_number(wanted), [line for line in bare if line.startswith(b"at")])
+    yield from of_counts(last_number(wanted), [line for line in bare if line.startswith(b"count")])
+
+
+def of_counts(answered: int, audit: List[bytes]) -> Iterator[Call]:
+    """Each tally by its struct's name, by the lines of a whole audit."""
+    for line in audit:
+        struct, *words = line.decode("ascii").split()[1:]
+        packed, unpacked = (int(words[at]).to_bytes(8, "little") for at in (3, 5))
+        names = Stored(line, "", struct).names()
+        yield Call(f"tally of {struct}", f"tally {names}", answer(DONE, 0, answered, packed + unpacked))
+        yield Call("tally of no struct", f"tally {names}ff", answer(ABSENT, 0, answered, bytes(16)))
+
+
+class Stored(NamedTuple):
+    """A line of a show: of a value, by its address and its struct's name."""
+
+    line: bytes
+    address: str
+    struct: str
+
+    def names(self) -> str:
+        """The struct's name as a call takes it."""
+        home, module, name = self.struct.split("::")
+        return f"{home} {hexadecimal(module.encode('ascii'))} {hexadecimal(name.encode('ascii'))}"
+
+
+def shown(lines: List[bytes]) -> bytes:
+    """The text of a show of these lines alone."""
+    return b"".join(lines) + b"end %d\n" % len(lines)
+
+
+def of_values(answered: int, show: List[bytes]) -> Iterator[Call]:
+    """Each value of a ledger by its name, all of each address, and all of each struct in pages, by the lines of a whole show."""
+    values = [Stored(line, *line.decode("ascii").split(" ")[1:3]) for line in show]
+    for value in values:
+        yield Call(f"value {value.struct}", f"show_value {value.address} {value.names()} 00", answer(DONE, 0, answered, shown([value.line])))
+        missing = answer(ABSENT, 0, answered)
+        yield Call("a value at no address", f"show_value {'f' * 32} {value.names()} 00", missing)
+        yield Call("a value of no struct", f"show_value {value.address} {value.names()}ff 00", missing)
+        yield Call("a value of a nameless struct", f"show_value {value.address} {value.names().rsplit(' ', 1)[0]} - 00", missing)
+        here = [other.line for other in values if other.address == value.address]
+        yield Call(f"values at {value.address}", f"show_at {value.address} 00", answer(DONE, 0, answered, shown(here)))
+    for struct in {value.struct: value for value in values}.values():
+        yield from of_pages(answered, values, struct)
+    yield Call("values at no address", f"show_at {'f' * 32} 00", answer(DONE, 0, answered, shown([])))
+
+
+def of_pages(answered: int, values: List[Stored], struct: Stored) -> Iterator[Call]:
+    """The first page and the page from each address, which are whole: the last page of each."""
+    for begins in ["0" * 32, *(value.address for value in values), "f" * 32]:
+        lines = [value.line for value in values if value.struct == struct.struct and value.address >= begins]
+        yield Call(f"page of {struct.struct}", f"show_page {begins} {struct.names()} ff 00", answer(DONE, 0, answered, shown(lines)))
 
 
 def said_of_module(line: str) -> Tuple[str, int]:

@@ -47,6 +47,10 @@ class TooComplex(LedgerError):
         super().__init__("the module is too complex for a certificate")
 
 
+class NoBlock(LedgerError):
+    """No block of the ledger is open. Nothing has changed."""
+
+
 class OutOfMemory(LedgerError, MemoryError):
     """There was no memory for an answer. Nothing has changed."""
 

@@ -4,14 +4,15 @@ import ctypes
 import os
 from ctypes import POINTER, byref, c_char_p, c_int32, c_size_t, c_uint8, c_uint32, c_uint64, c_void_p
 from pathlib import Path
-from typing import Any, Callable, List, NoReturn, Tuple
+from typing import Any, Callable, List, NoReturn, Optional, Tuple
 
-from .errors import LedgerError, LoadRefused, NoLibrary, OutOfMemory, Refused, TooComplex
+from .errors import LedgerError, LoadRefused, NoBlock, NoLibrary, OutOfMemory, Refused, TooComplex
 
 FILE = "libmoveledger.so"
 HERE = Path(__file__).resolve().parent
 # What a call answers.
 DONE, REFUSED, LOAD_REFUSED, TOO_COMPLEX, MEMORY, ARGUMENTS = range(6)
+NO_BLOCK, ABSENT = 7, 8
 
 
 class Holder(ctypes.Structure):
@@ -26,16 +27,29 @@ class Bytes(ctypes.Structure):
     _fields_ = [("bytes", c_void_p), ("length", c_size_t), ("own", c_void_p)]
 
 
-# The types of each call's arguments. A text is a pointer and a length.
+# A place for an address.
+Place = c_uint8 * 16
+# The types of each call's arguments. A text is a pointer and a length, and a struct's name an address and two texts.
 TEXT: List[Any] = [c_char_p, c_size_t]
+STRUCT: List[Any] = [c_char_p, *TEXT, *TEXT]
 CALLS = {
     "new": [POINTER(Holder)],
     "load": [*TEXT, POINTER(Holder), POINTER(c_uint8)],
     "free": [POINTER(Holder)],
     "apply": [POINTER(Holder), *TEXT, POINTER(c_uint64), POINTER(Bytes)],
+    "begin": [POINTER(Holder)],
+    "rollback": [POINTER(Holder)],
+    "commit": [POINTER(Holder)],
     "save": [POINTER(Holder), POINTER(Bytes)],
     "show": [POINTER(Holder), c_uint32, POINTER(Bytes)],
     "audit": [POINTER(Holder), c_uint32, POINTER(Bytes)],
+    "show_value": [POINTER(Holder), c_char_p, *STRUCT, c_uint32, POINTER(Bytes)],
+    "show_at": [POINTER(Holder), c_char_p, c_uint32, POINTER(Bytes)],
+    "show_page": [POINTER(Holder), *STRUCT, POINTER(Place), c_size_t, c_uint32, POINTER(Bytes), POINTER(c_uint8)],
+    "modules": [POINTER(Holder), POINTER(Bytes)],
+    "module": [POINTER(Holder), c_char_p, *TEXT, POINTER(Bytes), POINTER(Bytes)],
+    "runs": [POINTER(Holder), POINTER(c_uint64)],
+    "tally": [POINTER(Holder), *STRUCT, POINTER(c_uint64), POINTER(c_uint64)],
     "prove": [*TEXT, POINTER(Bytes), POINTER(c_uint8)],
     "check": [*TEXT, *TEXT, POINTER(c_uint8)],
     "migrate": [*TEXT, POINTER(Bytes), POINTER(c_uint8)],
@@ -84,6 +98,13 @@ class Library:
         data = self.taken(given)
         return data if status == DONE else fail(status, 0)
 
+    def found(self, name: str, *words: Any) -> Optional[bytes]:
+        """The same of a question by a name; None where nothing is there."""
+        given = Bytes()
+        status = getattr(self, name)(*words, byref(given))
+        data = self.taken(given)
+        return data if is_found(status) else None
+
     def judged(self, name: str, *words: Any) -> bytes:
         """The bytes that a call with a reason gives: its last arguments are places for both."""
         given, why = Bytes(), c_uint8()
@@ -102,9 +123,18 @@ def fail(status: int, why: int) -> NoReturn:
         raise TooComplex()
     if status == MEMORY:
         raise OutOfMemory("there is no memory left")
+    if status == NO_BLOCK:
+        raise NoBlock("no block is open")
     if status == ARGUMENTS:
         raise ValueError("the library was given wrong arguments")
     raise LedgerError(f"the library answered the status {status}")
+
+
+def is_found(status: int) -> bool:
+    """Whether what was asked for by its name is there. The exception of a status that says neither."""
+    if status not in (DONE, ABSENT):
+        fail(status, 0)
+    return status == DONE
 
 
 def text(data: bytes) -> Tuple[bytes, int]:

@@ -7,7 +7,7 @@ import pickle
 import threading
 import unittest
 from pathlib import Path
-from typing import Dict
+from typing import Callable, Dict, List, Optional, Union
 
 import moveledger
 from moveledger.report import read_line
@@ -50,6 +50,74 @@ class Answers(unittest.TestCase):
 
     def test_an_old_ledger_is_migrated(self) -> None:
         self.assertEqual(moveledger.migrate((EXAMPLES / "old.ledger").read_bytes()), (EXAMPLES / "kept.ledger").read_bytes())
+
+
+COIN, COIN_LINE = "0x1::M::Coin", "00000000000000000000000000000001::M::Coin"
+# One address, as it may be told.
+ADDRESSES: List[Union[int, str]] = [1, "1", "0x1", f"{1:032x}"]
+
+
+class Questions(unittest.TestCase):
+    def test_a_value_is_asked_for(self) -> None:
+        with moveledger.Ledger() as ledger:
+            ledger.apply(FIRST)
+            for struct in COIN, COIN_LINE:
+                self.assertEqual([ledger.value(address, struct) for address in ADDRESSES], ["{7}"] * len(ADDRESSES))
+            self.assertEqual(ledger.value_json(1, COIN), {"address": f"{1:032x}", "struct": COIN_LINE, "value": "{7}"})
+            self.assertEqual(ledger.show_value(1, COIN), f"at {1:032x} {COIN_LINE} {{7}}\nend 1\n")
+            self.assertEqual(ledger.values_at(1), ledger.show())
+            self.assertEqual(ledger.show_at(1, json=True), ledger.show_text(json=True))
+            self.assertEqual((ledger.show_at(2), ledger.values_at(2)), ("end 0\n", []))
+
+    def test_what_is_not_there_is_none(self) -> None:
+        with moveledger.Ledger() as ledger:
+            ledger.apply(FIRST)
+            self.assertIsNone(ledger.value(2, COIN))
+            for struct in "0x2::M::Coin", "0x1::N::Coin", "0x1::M::Coins", "0x1::M::", "0x1::::Coin":
+                self.assertIsNone(ledger.value(1, struct))
+                self.assertIsNone(ledger.value_json(1, struct))
+                self.assertIsNone(ledger.tally(struct))
+                self.assertEqual((ledger.show_page(struct, 0, 1), list(ledger.values(struct))), (None, []))
+            for module in "0x2::M", "0x1::N", "0x1::":
+                self.assertIsNone(ledger.module(module))
+
+    def test_what_is_no_name_is_refused(self) -> None:
+        with moveledger.Ledger() as ledger:
+            for struct in "Coin", "0x1::M", "0x1::M::Coin::u64", "x::M::Coin", f"{1 << 128:x}::M::Coin":
+                self.assertRaises(ValueError, ledger.value, 1, struct)
+            for address in -1, 1 << 128, "", "0xg":
+                self.assertRaises(ValueError, ledger.value, address, COIN)
+                self.assertRaises(ValueError, ledger.values_at, address)
+            self.assertRaises(ValueError, ledger.module, COIN)
+            self.assertRaises(ValueError, ledger.show_page, COIN, 0, 0)
+
+    def test_values_of_a_struct_come_in_pages(self) -> None:
+        with moveledger.Ledger() as ledger:
+            ledger.apply(PUBLISH + b"".join(map(mint, range(1, 41))))
+            shown = ledger.show()
+            self.assertEqual((len(shown), list(ledger.values(COIN))), (40, shown))
+            self.assertEqual(list(ledger.values(COIN, 31)), shown[30:])
+            for most in 1, 7, 40, 41:
+                found, pages = "", 0
+                start: Optional[int] = 0
+                while start is not None:
+                    page = ledger.show_page(COIN, start, most)
+                    assert page is not None
+                    text, after = page
+                    found += "".join(text.splitlines(True)[:-1])
+                    self.assertTrue(after is None or after > start)
+                    start, pages = after, pages + 1
+                self.assertEqual(found, "".join(ledger.show_text().splitlines(True)[:-1]))
+                self.assertGreaterEqual(pages, 40 // most)
+
+    def test_modules_runs_and_tallies(self) -> None:
+        with moveledger.Ledger() as ledger:
+            self.assertEqual((ledger.modules(), ledger.runs(), ledger.tally(COIN)), ([], 0, None))
+            ledger.apply(FIRST + mint(2))
+            self.assertEqual((ledger.modules(), ledger.runs()), ([f"{1:032x}::M"], 2))
+            self.assertEqual([ledger.tally(COIN)], ledger.audit())
+            found = ledger.module(ledger.modules()[0])
+            self.assertEqual(found, moveledger.Module(MODULE, moveledger.prove(MODULE)))
 
 
 class Misuse(unittest.TestCase):
@@ -99,7 +167,11 @@ class Refusals(unittest.TestCase):
         ledger = moveledger.Ledger()
         ledger.close()
         ledger.close()
-        for call in (lambda: ledger.apply(b""), ledger.save, ledger.show):
+        calls: List[Callable[[], object]] = [
+            lambda: ledger.apply(b""), ledger.save, ledger.show, ledger.modules, ledger.runs, lambda: ledger.value(1, COIN),
+            lambda: ledger.values_at(1), lambda: list(ledger.values(COIN)), lambda: ledger.module("0x1::M"),
+            lambda: ledger.tally(COIN)]
+        for call in calls:
             self.assertRaises(ValueError, call)
 
 

@@ -5,7 +5,7 @@
 //!
 //! MODULE is the file of a module that tools/moveasm made; examples/first-coin.stream has the coin's, which is taken if none is given.
 
-use moveledger::{prove, record, Address, Error, Form, Ledger};
+use moveledger::{prove, record, Address, Error, Form, Ledger, Struct};
 use std::error::Error as Cause;
 use std::{env, fs};
 
@@ -46,6 +46,11 @@ fn main() -> Result<(), Box<dyn Cause>> {
     let mut next = Ledger::load(&saved)?;
     next.go_on_after(ledger.answered());
     print!("{}", next.apply(&mint(2, 9))?);
+    // One value, which is found by its address and its struct: the others cost nothing.
+    let coin = Struct { address: Address::from(1), module: "M", name: "Coin" };
+    if let Some(entries) = next.show_value(Address::from(2), &coin, Form::Text)? {
+        print!("{entries}");
+    }
     print!("{}", next.audit(Form::Json)?);
 
     // Bytes that aren't a saved ledger's are refused, and nothing else happens.

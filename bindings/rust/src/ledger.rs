@@ -6,7 +6,8 @@ use crate::sys;
 use crate::text::{Owned, Saved};
 use std::ptr::null_mut;
 
-/// A ledger in memory. It may be moved to another thread, and threads may read one at once: `save`, `show` and `audit` take `&self`.
+/// A ledger in memory. It may be moved to another thread, and threads may read one at once: all that
+/// only asks takes `&self`.
 /// Ledgers in different threads know nothing of each other.
 pub struct Ledger {
     raw: sys::RawLedger,
@@ -134,8 +135,13 @@ impl Ledger {
         Ok(Entries(lines))
     }
 
+    /// The ledger for a call that changes it.
+    pub(crate) fn raw(&mut self) -> &mut sys::RawLedger {
+        &mut self.raw
+    }
+
     /// A holder for a call that reads the ledger, and gives it back as it was.
-    fn holder(&self) -> sys::RawLedger {
+    pub(crate) fn holder(&self) -> sys::RawLedger {
         sys::RawLedger { own: self.raw.own }
     }
 }
@@ -154,7 +160,7 @@ impl std::fmt::Debug for Ledger {
 }
 
 /// What a status of a call without a reason says.
-fn done(status: i32) -> Result<(), Error> {
+pub(crate) fn done(status: i32) -> Result<(), Error> {
     match status {
         sys::DONE => Ok(()),
         other => Err(Error::of(other, 0)),

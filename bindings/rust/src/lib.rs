@@ -3,7 +3,7 @@
 //! `moveledger.h`, and is tested, not proved. docs/EMBEDDING.md says what is promised at this border.
 //!
 //! ```
-//! use moveledger::{prove, record, Address, Entry, Form, Ledger, Line};
+//! use moveledger::{prove, record, Address, Entry, Form, Ledger, Line, Struct};
 //!
 //! # fn main() -> Result<(), Box<dyn std::error::Error>> {
 //! # let first = std::fs::read(concat!(env!("CARGO_MANIFEST_DIR"), "/../../examples/first-coin.stream"))?;
@@ -28,22 +28,33 @@
 //! let again = Ledger::load(&ledger.save()?)?;
 //! let entries = again.show(Form::Text)?;
 //! assert!(matches!(entries.parsed().next(), Some(Ok(Entry::At { value: "{7}", .. }))));
+//!
+//! // One value is found by its address and its struct, whatever else is stored.
+//! let coin = Struct { address: Address::from(1), module: "M", name: "Coin" };
+//! assert_eq!(again.value(Address::from(1), &coin)?.as_deref(), Some("{7}"));
+//! assert_eq!(again.value(Address::from(2), &coin)?, None);
+//! assert_eq!(again.values(coin).count(), 1);
 //! # Ok(())
 //! # }
 //! ```
 
 mod address;
+mod asked;
 mod author;
+mod block;
 mod error;
 mod ledger;
 mod line;
+mod questions;
 pub mod record;
 mod report;
 mod sys;
 mod text;
 
 pub use address::{Address, NoAddress};
+pub use asked::{Module, ModuleName, Modules, Page, Tally, Value, Values};
 pub use author::{check, migrate, prove};
+pub use block::Block;
 pub use error::Error;
 pub use ledger::{Form, Ledger};
 pub use line::{Abort, Entry, Exhausted, Line, Struct, UnknownLine};

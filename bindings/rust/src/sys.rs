@@ -22,6 +22,7 @@ pub const REFUSED: i32 = 1;
 pub const LOAD_REFUSED: i32 = 2;
 pub const TOO_COMPLEX: i32 = 3;
 pub const MEMORY: i32 = 4;
+pub const ABSENT: i32 = 8;
 
 extern "C" {
     pub fn moveledger_new(ledger: *mut RawLedger) -> i32;
@@ -34,9 +35,62 @@ extern "C" {
         answered: *mut u64,
         report: *mut RawBytes,
     ) -> i32;
+    pub fn moveledger_begin(ledger: *mut RawLedger) -> i32;
+    pub fn moveledger_rollback(ledger: *mut RawLedger) -> i32;
+    pub fn moveledger_commit(ledger: *mut RawLedger) -> i32;
     pub fn moveledger_save(ledger: *mut RawLedger, saved: *mut RawBytes) -> i32;
     pub fn moveledger_show(ledger: *mut RawLedger, form: u32, lines: *mut RawBytes) -> i32;
     pub fn moveledger_audit(ledger: *mut RawLedger, form: u32, lines: *mut RawBytes) -> i32;
+    pub fn moveledger_show_value(
+        ledger: *mut RawLedger,
+        address: *const [u8; 16],
+        home: *const [u8; 16],
+        module: *const u8,
+        module_length: usize,
+        name: *const u8,
+        name_length: usize,
+        form: u32,
+        lines: *mut RawBytes,
+    ) -> i32;
+    pub fn moveledger_show_at(
+        ledger: *mut RawLedger,
+        address: *const [u8; 16],
+        form: u32,
+        lines: *mut RawBytes,
+    ) -> i32;
+    pub fn moveledger_show_page(
+        ledger: *mut RawLedger,
+        home: *const [u8; 16],
+        module: *const u8,
+        module_length: usize,
+        name: *const u8,
+        name_length: usize,
+        from: *mut [u8; 16],
+        most: usize,
+        form: u32,
+        lines: *mut RawBytes,
+        is_more: *mut u8,
+    ) -> i32;
+    pub fn moveledger_modules(ledger: *mut RawLedger, names: *mut RawBytes) -> i32;
+    pub fn moveledger_module(
+        ledger: *mut RawLedger,
+        address: *const [u8; 16],
+        name: *const u8,
+        name_length: usize,
+        module: *mut RawBytes,
+        certificate: *mut RawBytes,
+    ) -> i32;
+    pub fn moveledger_runs(ledger: *mut RawLedger, runs: *mut u64) -> i32;
+    pub fn moveledger_tally(
+        ledger: *mut RawLedger,
+        home: *const [u8; 16],
+        module: *const u8,
+        module_length: usize,
+        name: *const u8,
+        name_length: usize,
+        packed: *mut u64,
+        unpacked: *mut u64,
+    ) -> i32;
     pub fn moveledger_prove(
         module: *const u8,
         length: usize,

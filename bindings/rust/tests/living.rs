@@ -2,7 +2,7 @@
 
 mod rows;
 
-use moveledger::{prove, record, Address, Error, Form, Ledger};
+use moveledger::{prove, record, Address, Error, Form, Ledger, Struct};
 use rows::{of_repository, rows};
 use std::fs;
 use std::thread;
@@ -62,6 +62,9 @@ fn threads_read_one_ledger_at_once() {
     let told = || {
         let saved = ledger.save().expect("there is memory").to_vec();
         let shown = ledger.show(Form::Text).expect("there is memory").as_str().to_string();
+        let coin = Struct { address: Address::from(1), module: "M", name: "Coin" };
+        assert_eq!(ledger.values(coin).filter_map(Result::ok).count(), 1);
+        assert_eq!(ledger.tally(&coin).map(|tally| tally.stored()), Some(1));
         (saved, shown, ledger.audit(Form::Json).expect("there is memory").as_str().to_string())
     };
     let alone = told();
@@ -101,6 +104,13 @@ fn nothing_is_answered_to_nothing() {
     assert_eq!(ledger.apply(&[]).expect("there is memory").as_str(), "");
     assert_eq!(ledger.answered(), 0);
     assert_eq!(ledger.show(Form::Text).expect("there is memory").as_str(), "end 0\n");
+    let nothing = Struct { address: Address::default(), module: "", name: "" };
+    assert_eq!(
+        (ledger.value(Address::default(), &nothing).ok(), ledger.values(nothing).count()),
+        (Some(None), 0)
+    );
+    assert_eq!((ledger.modules().expect("there is memory").iter().count(), ledger.runs()), (0, 0));
+    assert_eq!(ledger.tally(&nothing), None);
     assert!(matches!(Ledger::load(&[]), Err(Error::LoadRefused(1))));
     assert!(matches!(prove(&[]), Err(Error::Refused(2))));
 }

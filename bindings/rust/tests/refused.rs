@@ -3,7 +3,7 @@
 
 mod rows;
 
-use moveledger::{check, migrate, prove, Error, Form, Ledger, Report};
+use moveledger::{check, migrate, prove, Address, Entries, Error, Form, Ledger, Report, Struct, Tally};
 use rows::{decoded, of_repository, rows, split};
 use std::cell::Cell;
 use std::ffi::c_void;
@@ -202,7 +202,7 @@ fn want_of_memory_is_told_of_everything_else() {
         },
     );
     for form in [Form::Text, Form::Json] {
-        for ask in [Ledger::show, Ledger::audit] {
+        for ask in [Ledger::show, Ledger::audit, shown_at, shown_page] {
             let whole = ask(&ledger, form).expect("there is memory").to_string();
             refused += refuse_each(
                 |a, b| with_refused(a, b, || ask(&ledger, form)),
@@ -213,6 +213,45 @@ fn want_of_memory_is_told_of_everything_else() {
             );
         }
     }
+    refused += refuse_each(
+        |a, b| with_refused(a, b, || ledger.show_value(ONE, &COIN, Form::Json)),
+        |made| match made {
+            Ok(made) => made.is_some_and(|made| made.as_str().contains("\"{7}\"")),
+            Err(error) => is_memory(Some(error)) && saved(&ledger) == text,
+        },
+    );
+    refused += refuse_each(
+        |a, b| with_refused(a, b, || ledger.module(ONE, "M")),
+        |made| match made {
+            Ok(made) => {
+                made.is_some_and(|made| made.as_bytes() == module && made.certificate() == [1, 1, 1, 0])
+            }
+            Err(error) => is_memory(Some(error)) && saved(&ledger) == text,
+        },
+    );
+    refused += refuse_each(
+        |a, b| with_refused(a, b, || ledger.modules()),
+        |made| match made {
+            Ok(made) => made.iter().map(|name| name.name).eq(["M"]),
+            Err(error) => is_memory(Some(error)) && saved(&ledger) == text,
+        },
+    );
+    // A question whose answer is a number takes no memory.
+    let (counts, met) = with_refused(1, u64::MAX, || (ledger.runs(), ledger.tally(&COIN)));
+    assert_eq!((counts, met), ((1, Some(Tally { packed: 1, unpacked: 0 })), 0));
     println!("{refused} requests refused");
     assert!(refused > 10);
+}
+
+/// The address of the example's coin, and the coin's name.
+const ONE: Address = Address([0, 0, 0, 0, 0, 0, 0, 0, 0, 0, 0, 0, 0, 0, 0, 1]);
+const COIN: Struct<'_> = Struct { address: ONE, module: "M", name: "Coin" };
+
+fn shown_at(ledger: &Ledger, form: Form) -> Result<Entries, Error> {
+    ledger.show_at(ONE, form)
+}
+
+fn shown_page(ledger: &Ledger, form: Form) -> Result<Entries, Error> {
+    let page = ledger.page(&COIN, Address::default(), 100, form)?;
+    Ok(page.expect("it is published").entries)
 }

@@ -2,7 +2,7 @@
 
 mod rows;
 
-use moveledger::{check, migrate, prove, Entry, Error, Form, Ledger, Line, Report};
+use moveledger::{check, migrate, prove, Address, Entry, Error, Form, Ledger, Line, Report, Struct};
 use rows::{decoded, of_repository, rows, Row};
 use std::fs;
 
@@ -45,6 +45,105 @@ fn is_asked_as_told(ledger: &mut Ledger) {
             assert!(lines.parsed().all(|entry| entry.is_ok()));
         }
     }
+    is_asked_by_names(ledger);
+}
+
+/// Questions by names and addresses tell what a show and an audit do, and nothing else.
+fn is_asked_by_names(ledger: &Ledger) {
+    let nobody = Address([255; 16]);
+    let (show, audit) = (ledger.show(Form::Text), ledger.audit(Form::Text));
+    let (show, audit) = (show.expect("there is memory"), audit.expect("there is memory"));
+    for entry in show.parsed() {
+        if let Ok(Entry::At { address, structure, value }) = entry {
+            assert_eq!(value_of(ledger, address, structure).as_deref(), Some(value));
+            assert_eq!(value_of(ledger, nobody, structure), None);
+            let others = [("", structure.name), (structure.module, ""), (structure.name, structure.module)];
+            for (module, name) in others {
+                assert_eq!(value_of(ledger, address, Struct { module, name, ..structure }), None);
+            }
+            has_values_at(ledger, address, &show);
+            has_pages(ledger, structure, &show);
+        }
+    }
+    for entry in audit.parsed() {
+        if let Ok(Entry::Count { structure, stored, packed, unpacked }) = entry {
+            let tally = ledger.tally(&structure).expect("it is there");
+            assert_eq!((tally.stored(), tally.packed, tally.unpacked), (stored, packed, unpacked));
+            assert_eq!(ledger.tally(&Struct { name: "", ..structure }), None);
+        }
+    }
+    assert_eq!(ledger.show_at(nobody, Form::Text).expect("there is memory").as_str(), "end 0\n");
+    let nothing = Struct { address: nobody, module: "M", name: "Coin" };
+    assert!(ledger.page(&nothing, nobody, 1, Form::Text).expect("there is memory").is_none());
+    assert_eq!(ledger.values(nothing).count(), 0);
+    has_modules(ledger);
+}
+
+fn value_of(ledger: &Ledger, address: Address, structure: Struct<'_>) -> Option<String> {
+    ledger.value(address, &structure).expect("there is memory")
+}
+
+/// What is shown at an address are the lines of a show with that address.
+fn has_values_at(ledger: &Ledger, address: Address, show: &moveledger::Entries) {
+    let begins = format!("at {address} ");
+    let wanted: Vec<&str> = show.as_str().lines().filter(|line| line.starts_with(&begins)).collect();
+    let found = ledger.show_at(address, Form::Text).expect("there is memory");
+    assert_eq!(found.as_str(), format!("{}\nend {}\n", wanted.join("\n"), wanted.len()));
+    let json = ledger.show_at(address, Form::Json).expect("there is memory").to_string();
+    assert!(json.starts_with("json {\"show\":[{\"address\":\"") && json.ends_with("}]}\n"));
+    assert_eq!(json.matches("\"value\"").count(), wanted.len());
+}
+
+/// The pages of a struct's values, of one key and of many, are what a show has of it.
+fn has_pages(ledger: &Ledger, structure: Struct<'_>, show: &moveledger::Entries) {
+    let wanted: Vec<(Address, String)> = show
+        .parsed()
+        .filter_map(|entry| match entry {
+            Ok(Entry::At { address, structure: found, value }) if found == structure => {
+                Some((address, value.to_owned()))
+            }
+            _ => None,
+        })
+        .collect();
+    let all = ledger.values(structure).map(|value| value.expect("there is memory"));
+    assert_eq!(all.map(|value| (value.address, value.text)).collect::<Vec<_>>(), wanted);
+    for most in [1, 2, 3] {
+        let (mut from, mut found) = (Some(Address::default()), Vec::new());
+        while let Some(begin) = from {
+            let page = ledger.page(&structure, begin, most, Form::Text).expect("there is memory");
+            let page = page.expect("it is published");
+            let told: Vec<_> = page.values().map(|value| (value.address, value.text)).collect();
+            assert!(told.len() <= most);
+            assert!(page.next.iter().all(|next| *next > begin), "a page goes on behind where it began");
+            found.extend(told);
+            from = page.next;
+        }
+        assert_eq!(found, wanted);
+    }
+}
+
+/// A number in seven bits a byte, the lowest first, and what follows it.
+fn read_number(bytes: &[u8]) -> (u64, &[u8]) {
+    let length = 1 + bytes.iter().take_while(|byte| **byte >= 128).count();
+    let digits = bytes[..length].iter().rev();
+    (digits.fold(0, |number, byte| number << 7 | u64::from(byte & 127)), &bytes[length..])
+}
+
+/// Each module that is named has its bytes, with which it passes.
+fn has_modules(ledger: &Ledger) {
+    let modules = ledger.modules().expect("there is memory");
+    for name in modules.iter() {
+        let module = ledger.module(name.address, name.name).expect("there is memory").expect("it is there");
+        let digits: String = module.certificate().iter().map(|byte| format!("{byte:02x}")).collect();
+        check(module.as_bytes(), &digits).expect("it passed");
+        for other in ["", "it has no such name"] {
+            assert!(ledger.module(name.address, other).expect("there is memory").is_none());
+        }
+    }
+    // A saved ledger begins with its mark, the number of runs and that of modules.
+    let saved = ledger.save().expect("there is memory");
+    let (runs, behind) = read_number(&saved[4..]);
+    assert_eq!((ledger.runs(), modules.iter().count() as u64), (runs, read_number(behind).0));
 }
 
 fn empty() -> Ledger {

@@ -8,6 +8,7 @@ pub mod One
 pub mod OneRequest
 pub mod OneRefusal
 pub mod OneReport
+pub mod Blocks
 pub mod Writing
 pub mod HeadlineLemmas
 pub mod Lines

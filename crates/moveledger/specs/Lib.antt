@@ -1,6 +1,7 @@
 pub mod Records
 pub mod Headline
 pub mod OneReport
+pub mod Blocks
 pub mod Outcome
 pub mod Reading
 pub mod Progress

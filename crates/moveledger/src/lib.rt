@@ -15,6 +15,7 @@
 
 mod answering;
 mod authoring;
+mod blocks;
 mod checking;
 mod continuing;
 mod ending;
@@ -29,6 +30,7 @@ mod saved;
 mod streaming;
 
 pub use authoring::{check_module, prove_module};
+pub use blocks::{each_block_comes_back, each_report_keeps_marks, each_stop_keeps_marks};
 pub use checking::check_text;
 pub use continuing::answer_on;
 pub use ending::{
@@ -40,7 +42,7 @@ pub use mv_commands::{
     Found, Hold, KeepError, LineError, Looks, Notice, Place, Seen, Sort, Stand, Task, Tell,
     claim_place, command, is_one, keep, not_text, release,
 };
-pub use mv_ledger::{Ledger, LoadError};
+pub use mv_ledger::{Entries, Format, Ledger, Lines, LoadError, Modules, Page, StructName, Tally};
 pub use pacing::{AfterRecord, Gathering, Prompt};
 pub use proving::prove_text;
 pub use reporting::report;

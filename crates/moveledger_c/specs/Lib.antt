@@ -1,4 +1,6 @@
 pub mod Owning
 pub mod Statuses
 pub mod Calls
+pub mod Blocks
 pub mod Giving
+pub mod Questions

@@ -1,6 +1,8 @@
 -- The statuses that C reads, by their numbers.
 --   done, refused, load_refused, too_complex   0 to 3: what was asked for is done, or isn't and why
 --   memory, arguments                          4 and 5: an allocation failed, or an argument isn't as it has to be
+--   no_block                                   7: no block is open. The header's own functions answer 6, where another call has the ledger
+--   absent                                     8: nothing is there by this name
 use Rattle.std.specs.Prelude.{ℤ, pos}
 
 -- the call did what it was asked for
@@ -26,3 +28,11 @@ memory = pos 4
 -- an argument is not as it has to be
 abbrev pub arguments : ℤ
 arguments = pos 5
+
+-- no block is open
+abbrev pub no_block : ℤ
+no_block = pos 7
+
+-- nothing is there by this name
+abbrev pub absent : ℤ
+absent = pos 8

@@ -143,10 +143,10 @@ pub extern "C" fn moveledger_save(alloc: Global, ledger: &mut Holder, saved: &mu
 }
 
 /// The lines of a report one by one.
-const TEXT: u32 = 0;
+pub(crate) const TEXT: u32 = 0;
 
 /// A report as one line of JSON.
-const JSON: u32 = 1;
+pub(crate) const JSON: u32 = 1;
 
 /// The payload of a show or an audit record in this form.
 fn payload_of(form: u32) -> Option<&'static [u8]>

@@ -4,11 +4,14 @@
 //! memory goes to C as a pointer in a struct of C's own: a ledger in a `Holder`, bytes in a `Bytes`.
 #![tactic(auto)]
 
+mod blocks;
 mod bytes;
 mod holder;
 mod ledgers;
 mod modules;
 mod parts;
+mod questions;
+mod shows;
 mod status;
 mod texts;
 

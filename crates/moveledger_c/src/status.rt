@@ -17,3 +17,9 @@ pub const MEMORY: i32 = 4;
 
 /// An argument is invalid, and no ledger, count or report changed.
 pub const ARGUMENTS: i32 = 5;
+
+/// No block is open, and nothing changed.
+pub const NO_BLOCK: i32 = 7;
+
+/// No value, module or tally is there by this name.
+pub const ABSENT: i32 = 8;

@@ -5,6 +5,8 @@ use Rattle.mv_ledger_state.proofs.Bundles.Joining.{added-small}
 use Rattle.mv_ledger_state.proofs.Bundles.Sized.{sized_published}
 use Rattle.mv_ledger_state.proofs.Bundles.Staying.{stays-fine, stored-stays}
 use Rattle.mv_ledger_state.proofs.Accepted.Sound.{empty_sound}
+use Rattle.mv_ledger_state.specs.View.{HeldView}
+use Rattle.mv_ledger.specs.Marks.{marked}
 use Rattle.mv_ledger.proofs.Replying.{sound_with}
 
 -- nothing published, stored or run
@@ -47,8 +49,8 @@ ledger-kept old modules stored new before after runs p q r is = rw (p, q, r) is
 -- ---- what a ledger holds, by the fields of its modules with their tallies
 
 module _ (p q : PublishedView) (stored : List FlatEntry) (runs : ℕ) (same : p ≡ q) where
-  pub held-is : (v : LedgerView) → view_of q.modules stored (all_of q.tallies) runs ≡ v → view_of p.modules stored (all_of p.tallies) runs ≡ v
-  held-is v is = rw same is
+  pub held-is : (marks : List HeldView) (v : LedgerView) → marked (view_of q.modules stored (all_of q.tallies) runs) marks ≡ v → marked (view_of p.modules stored (all_of p.tallies) runs) marks ≡ v
+  held-is marks v is = rw same is
 
   pub held-sound : IsSoundLedger (state_of (view_of q.modules stored (all_of q.tallies) runs)) → IsSoundLedger (state_of (view_of p.modules stored (all_of p.tallies) runs))
   held-sound sound = rw same sound

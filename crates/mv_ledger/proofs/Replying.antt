@@ -81,7 +81,7 @@ module _ (old new : List PublishedModule) (payload : List ℕ) (stored : List Fl
       record {
         answers = answers_record 1 payload (Publish a.sender a.offers) (ToldPublished count) (state_of first) (state_of second) a.asked
             (b.0, read_as a.offers b.0 all, b.1.1 ∙ as-many a.offers b.0 all, state) (sound_with count accepted same tallies whole sound);
-        leaves = (refl, refl);
+        leaves = (refl, refl, refl);
         rightly = λ kind. (b.0, (a, b.1.1, state));
       }
 
@@ -134,7 +134,7 @@ module _ (published : List PublishedModule) (payload : List ℕ) (stored : List 
     same_had p q = rw (p, q) refl
 
     leaves_for : (t : Told) → RunsTo (Some t) stored new tallies after → Leaves t held holds
-    leaves_for (RanToEnd steps) h = tt
+    leaves_for (RanToEnd steps) h = refl
     leaves_for (RanToAbort kind n steps) h = same_had h.0 h.1
     leaves_for (RanOut stop steps) h = same_had h.0 h.1
     leaves_for _ h = absurd h

@@ -10,12 +10,12 @@ abbrev pub with_run_had : LedgerView → LedgerView
 with_run_had v = record v { runs = v.runs + 1 }
 
 -- what a reply leaves as it was: a refusal and a rejection leave everything, a bundle what is stored and the runs, and a run
--- that didn't return all but the number of runs
+-- that didn't return all but the number of runs; each leaves what was held where open blocks were begun
 abbrev pub Leaves : Reply → LedgerView → LedgerView → Type 0
-Leaves (Published n) old new = (new.stored ≡ old.stored) × (new.runs ≡ old.runs)
+Leaves (Published n) old new = (new.stored ≡ old.stored) × (new.runs ≡ old.runs) × (new.marks ≡ old.marks)
 Leaves (Refused phase) old new = new ≡ old
 Leaves (Rejected reason) old new = new ≡ old
-Leaves (RanToEnd steps) old new = ⊤
+Leaves (RanToEnd steps) old new = new.marks ≡ old.marks
 Leaves (RanToAbort kind n steps) old new = new ≡ with_run_had old
 Leaves (RanOut stop steps) old new = new ≡ with_run_had old
 Leaves (Told lines) old new = new ≡ old

@@ -3,3 +3,5 @@ pub mod Answering
 pub mod Changes
 pub mod Formats
 pub mod ParameterTypes
+pub mod Marks
+pub mod Questions

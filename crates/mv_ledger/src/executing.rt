@@ -1,7 +1,7 @@
 // Runs: which are begun, and what they change.
 ghost use Rattle.std.specs.Prelude.{◌≡◌, ◌<◌, ◌≤◌, ◌+◌, ℕ, All, IsTrue, length, map, IfOk, OnOk, OnErr};
 ghost use Rattle.std.specs.List.{list_all};
-ghost use Rattle.mv_move_types.specs.Limits.{most_modules, most_runs, most_steps};
+ghost use Rattle.mv_move_types.specs.Limits.{most_runs, most_steps};
 ghost use Rattle.mv_machine.specs.Ledger.{is_argument, are_arguments, with_signer as with_sender};
 ghost use Rattle.mv_link_rules.specs.Link.{tables_in};
 ghost use Rattle.mv_machine.specs.declared.Arg.{Arg as Argument};
@@ -15,7 +15,7 @@ ghost use Rattle.mv_ledger_state.specs.Asking.{request_of};
 ghost use Rattle.mv_ledger.specs.ParameterTypes.{asked_type};
 ghost use Rattle.mv_ledger.specs.Running.{IsAdmitted, IsSettled, left_by, run_of};
 ghost use Rattle.mv_ledger_state.specs.Tallying.{HasRoomLeft};
-ghost use Rattle.mv_ledger_state.specs.View.{IsSmall};
+ghost use Rattle.mv_ledger_state.specs.View.{CanCount, IsSmall};
 ghost use Rattle.mv_machine.specs.Tallies.{all_of};
 
 use crate::Reply;
@@ -150,6 +150,7 @@ pub fn admitted(store: &Store, runs: u64, asked: RunRecord<'_>) -> Result<Call, 
 /// Keeps what a run has made of the storage, if it ended by a return.
 fn keep_returned(overlay: &mut Overlay<'_>, ending: Ending) -> Result<(), AllocError>
     ensures left { OnOk result (overlay.new.storage.now.committed ≡ left_by ending overlay.old.storage.now) }
+    ensures marks { overlay.new.storage.now.marks ≡ overlay.old.storage.now.marks }
     ensures loan { overlay.new.storage.ghost_name ≡ overlay.old.storage.ghost_name }
     ensures err { OnErr result (overlay.new.storage.now.committed ≡ overlay.old.storage.now.committed) }
 {
@@ -160,26 +161,37 @@ fn keep_returned(overlay: &mut Overlay<'_>, ending: Ending) -> Result<(), AllocE
 }
 
 /// Runs a call over the storage, which keeps what a run that returns has made of it; any other run leaves it, and so does an
-/// error.
-fn run_over(store: &Store, storage: &mut Storage, call: &Call) -> Result<(Outcome, Tally), RunError>
-    requires call { IsCall (tables_in store.now) call.now.function call.now.arguments.items }
-    requires few { length store.now ≤ most_modules }
-    requires stored { All (IsFineWords (tables_in store.now)) storage.old.committed }
-    ensures machine { IfOk result (λ r. Agrees (tables_in store.now) (run_of store.now storage.old.committed call.now) r.0 r.1.items
+/// error. After a run that returns there is room for its tally.
+fn run_over(
+    published: &mut Published,
+    storage: &mut Storage,
+    call: &Call,
+) -> Result<(Outcome, Tally), RunError>
+    requires call { IsCall (tables_in published.old.modules) call.now.function call.now.arguments.items }
+    requires stored { All (IsFineWords (tables_in published.old.modules)) storage.old.committed }
+    ensures modules { published.new.modules ≡ published.old.modules }
+    ensures tallies { published.new.tallies ≡ published.old.tallies }
+    ensures published_marks { published.new.marks ≡ published.old.marks }
+    ensures storage_marks { storage.new.marks ≡ storage.old.marks }
+    ensures machine { IfOk result (λ r. Agrees (tables_in published.old.modules) (run_of published.old.modules storage.old.committed call.now) r.0 r.1.items
         (record { committed = storage.old.committed; current = storage.new.committed; marks = storage.old.marks })) }
-    ensures fine { IfOk result (λ r. All (IsFineWords (tables_in store.now)) storage.new.committed) }
+    ensures fine { IfOk result (λ r. All (IsFineWords (tables_in published.old.modules)) storage.new.committed) }
     ensures few { IfOk result (λ r. AtMost call.now.budget r.1.items) }
     ensures other { IfOk result (λ r. (HasEnded r.0 → ⊥) → storage.new.committed ≡ storage.old.committed) }
+    ensures room { IfOk result (λ r. HasEnded r.0 → CanCount (length r.1.items) published.new) }
     ensures err { OnErr result (storage.new.committed ≡ storage.old.committed) }
 {
     let mut overlay = storage.overlay();
     let ended = run(
-        store,
+        &published.store,
         &mut overlay,
         call.function,
         &call.arguments,
         call.budget,
     )?;
+    if ended.0.ending == Ending::Returned {
+        published.make_room(&ended.1)?;
+    }
     keep_returned(&mut overlay, ended.0.ending)?;
     Ok(ended)
 }
@@ -191,12 +203,14 @@ pub fn execute(published: &mut Published, storage: &mut Storage, call: &Call) ->
     requires room { All HasRoomLeft (all_of published.old.tallies) }
     requires budget { call.now.budget ≤ most_steps }
     ensures modules { published.new.modules ≡ published.old.modules }
+    ensures published_marks { published.new.marks ≡ published.old.marks }
+    ensures storage_marks { storage.new.marks ≡ storage.old.marks }
     ensures stored { All (IsFineWords (tables_in published.old.modules)) storage.new.committed }
     ensures small { (runs : ℕ) → All (IsSmall runs) (all_of published.old.tallies) → All (IsSmall (runs + 1)) (all_of published.new.tallies) }
     ensures settled { IsSettled published.old.modules call.now (told result) storage.old.committed storage.new.committed (all_of published.old.tallies) (all_of published.new.tallies) }
     ensures kept { RunsTo (told result) storage.old.committed storage.new.committed (all_of published.old.tallies) (all_of published.new.tallies) }
 {
-    match run_over(&published.store, storage, call) {
+    match run_over(published, storage, call) {
         Ok((outcome, tally)) => {
             if outcome.ending == Ending::Returned {
                 published.add_run(&tally);

@@ -15,10 +15,13 @@
 //! ```
 #![tactic(auto)]
 
+mod blocks;
 mod executing;
 mod format;
 mod laws;
 mod loading;
+mod modules;
+mod questions;
 
 ghost use Rattle.std.specs.Prelude.{◌≡◌, is_some, IfOk};
 ghost use Rattle.mv_ledger_state.specs.View.{empty_view, state_of};
@@ -29,7 +32,8 @@ ghost use Rattle.mv_ledger_state.specs.SavedLaws.{IsSavable};
 ghost use Rattle.mv_ledger_state.specs.SavedText.{IsSavedText, Second};
 
 use executing::{Barred, admitted};
-use format::{Format, read_format};
+pub use format::Format;
+use format::read_format;
 pub use laws::{
     each_ledger_has_one_text, each_load_is_one, each_load_is_saved, each_load_is_sound,
     each_record_is_well, each_save_is_loaded, each_second_form_comes_back, each_tally_is_scarce,
@@ -37,12 +41,16 @@ pub use laws::{
     no_load_fails, no_save_is_refused, no_text_is_escaped,
 };
 pub use loading::migrate;
+pub use modules::Modules;
+pub use mv_interface::StructName;
 pub use mv_ledger_state::LoadError;
 use mv_ledger_state::{Published, read_run, text_of};
 pub use mv_lines::{Lines, Piece};
 use mv_machine::Outcome;
+pub use mv_machine::Tally;
 use mv_move_types::Refusal;
 use mv_storage::Storage;
+pub use mv_storage::{Entries, Page};
 use std::alloc::{AllocError, Global};
 use std::marker::Model;
 
@@ -79,17 +87,22 @@ pub struct Ledger {
     published: Published,
     storage: Storage,
     runs: u64,
+    // How many runs there were where each open block was begun, the oldest first.
+    run_marks: Vec<u64>,
 }
 
 impl Model for Ledger {
     ghost use Rattle.mv_ledger_state.specs.View.{LedgerView, view_of, IsLedger};
+    ghost use Rattle.mv_ledger.specs.Marks.{AreLedgers, held_marks, marked};
     ghost use Rattle.mv_machine.specs.Tallies.{all_of};
 
     ghost Value = { LedgerView };
 
-    ghost view = { λ l. view_of l.published.modules l.storage.committed (all_of l.published.tallies) l.runs };
+    ghost view = { λ l. marked (view_of l.published.modules l.storage.committed (all_of l.published.tallies) l.runs)
+        (held_marks l.published.marks l.storage.marks l.run_marks.items) };
 
-    ghost invariant = { λ l. IsLedger l.published.modules l.storage.committed (all_of l.published.tallies) l.runs };
+    ghost invariant = { λ l. IsLedger l.published.modules l.storage.committed (all_of l.published.tallies) l.runs
+        × AreLedgers l.published.marks l.storage.marks l.run_marks.items };
 }
 
 impl Ledger {
@@ -102,6 +115,7 @@ impl Ledger {
             published: Published::new(alloc),
             storage: Storage::new(alloc),
             runs: 0,
+            run_marks: Vec::new(alloc),
         }
     }
 

@@ -1,5 +1,5 @@
 // Loading a saved ledger, and giving it the second form.
-ghost use Rattle.std.specs.Prelude.{ℕ, List, IfOk, IfErr};
+ghost use Rattle.std.specs.Prelude.{◌≡◌, [], ℕ, List, IfOk, IfErr};
 ghost use Rattle.mv_machine.specs.Ledger.{LedgerState};
 ghost use Rattle.mv_ledger_state.specs.Loading.{IsLoaded, IsLoadRefusal};
 ghost use Rattle.mv_ledger_state.specs.SavedText.{IsSavedText, Second};
@@ -17,6 +17,7 @@ impl Ledger {
     /// The first reason against the bytes, `Head` to `Tally`; `Memory` if an allocation failed.
     pub fn load(alloc: Global, bytes: &[u8]) -> Result<Ledger, LoadError>
         ensures loaded { IfOk result (λ l. IsLoaded bytes.now (state_of l)) }
+        ensures closed { IfOk result (λ l. l.marks ≡ []) }
         ensures refused { IfErr result (IsLoadRefusal bytes.now) }
     {
         let loaded = mv_ledger_state::load(alloc, bytes)?;
@@ -25,6 +26,7 @@ impl Ledger {
             published: loaded.published,
             storage: loaded.storage,
             runs: loaded.runs,
+            run_marks: Vec::new(alloc),
         })
     }
 }

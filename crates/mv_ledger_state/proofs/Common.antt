@@ -8,7 +8,7 @@ pub use Rattle.std.proofs.lemmas.Bool.{and_from, and_parts, both_ways, cases_eq,
 pub use Rattle.std.proofs.lemmas.Bool.{ltb-true, true≢false}
 pub use Rattle.std.proofs.lemmas.Bool.Decides.{nat_tests, same_from_decides}
 pub use Rattle.std.proofs.lemmas.Grind.{common_steps}
-pub use Rattle.std.proofs.lemmas.List.{drop-set-lt, drop_all, drop_more, ext_get_or, flat_map_more, get_or-map, get_or-replicate, get_or-set_other, get_or-set_same}
+pub use Rattle.std.proofs.lemmas.List.{drop-set-lt, drop_all, drop_more, ext_get_or, flat_map_more, get_or-map, set_past, get_or-replicate, get_or-set_other, get_or-set_same}
 pub use Rattle.std.proofs.lemmas.List.{length-map, length-replicate, length-set, length-take-le, map-append, map-set, map_more, reverse-append}
 pub use Rattle.std.proofs.lemmas.List.{reverse-reverse, take-append-drop, take_all, take_more, take_more_set, with_items_is}
 pub use Rattle.std.proofs.lemmas.List.Concat.{flat_map-append}
@@ -179,8 +179,9 @@ pub use Rattle.mv_ledger_state.specs.SavedLaws.{NoLoadFails}
 pub use Rattle.mv_ledger_state.specs.SavedText.{First, Form, HeadFits, IsSavedText, Second, addressed_text, body_text, form_byte, greatest_count, head_text, is_under, keyed_from, keyed_indices}
 pub use Rattle.mv_ledger_state.specs.SavedText.{leaves_of_fields, leaves_text, saved_text, storage_text, stored_text, struct_text, tally_fits, tally_text}
 pub use Rattle.mv_ledger_state.specs.Tallying.{AddsTallies, AreInOrder, ArePlacedFor, HasRoomFor, HasRoomLeft, IsRoomFor, fresh_tally, is_published, place_for, tallies_at, tally_after}
-pub use Rattle.mv_ledger_state.proofs.TallyWords.{AreWithin, IsNamed, with_placed}
-pub use Rattle.mv_ledger_state.specs.View.{ArePlaced, AreScarce, AreSized, IsLedger, IsSmall, IsTalliedStore, LedgerView, PublishedView, scarce_indices, state_of, view_of}
+pub use Rattle.mv_ledger_state.proofs.TallyWords.{IsNamed}
+pub use Rattle.mv_ledger_state.specs.Parts.Joining.{AreWithin, with_placed}
+pub use Rattle.mv_ledger_state.specs.View.{ArePlaced, AreScarce, AreSized, CanCount, HeldModules, IsLedger, IsSmall, IsTalliedStore, LedgerView, PublishedView, held_now, scarce_indices, state_of, view_of}
 pub use Rattle.mv_machine.specs.Tallies.{all_of, lists_of, tallied}
 pub use Rattle.mv_ledger_state.specs.declared.saved.loading.LoadError.TheVariants.{Body, Head, Link, Link as NoLink, Module as BadModule, Module as NoModule}
 pub use Rattle.mv_ledger_state.specs.declared.payload.Offered.{Offered}

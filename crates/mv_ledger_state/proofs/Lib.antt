@@ -4,6 +4,7 @@
 --   TalliedStores                         what a store with its tallies has, and what keeps it one
 --   Phases                                which phase is answered
 --   SavedOnce, SavedFails, NeverRefused   one ledger to a text, one reason where there is none, and none against what is saved
+--   Marks                                 what is held at the marks of open blocks, and what leaves it
 pub mod TallyWords
 pub mod Common
 pub mod Lists
@@ -21,3 +22,4 @@ pub mod Runs
 pub mod Saves
 pub mod NeverRefused
 pub mod Loads
+pub mod Marks

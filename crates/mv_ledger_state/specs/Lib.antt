@@ -15,3 +15,4 @@ pub mod Layouts
 pub mod Inside
 pub mod Parts
 pub mod Unread
+pub mod Blocks

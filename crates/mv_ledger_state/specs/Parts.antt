@@ -4,8 +4,10 @@
 --   LoadedParts  The parts of which the loading of a ledger is made, and how they stand to its text.
 --   CountRows    Counts of the values of structs, module by module.
 --   Saving       How the values that are stored are written struct by struct.
+--   Joining      How the tallies of a bundle's modules come to their places.
 pub mod LayoutParts
 pub mod BodyParts
 pub mod LoadedParts
 pub mod CountRows
 pub mod Saving
+pub mod Joining

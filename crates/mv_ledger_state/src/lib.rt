@@ -1,5 +1,5 @@
-//! What a ledger holds: its published modules, with the tallies of their structs, which bundles join; what a record's payload asks; and
-//! the text that a ledger is saved as.
+//! What a ledger holds: its published modules, with the tallies of their structs, which bundles join, and blocks of both, which can be
+//! taken back; what a record's payload asks; and the text that a ledger is saved as.
 //!
 //! ```
 //! use mv_ledger_state::Published;
@@ -15,11 +15,13 @@
 //! ```
 #![tactic(auto)]
 
+mod blocks;
 mod payload;
 mod published;
 mod publishing;
 mod saved;
 mod tallies;
+mod undoing;
 mod unread;
 
 pub use mv_linker::Store;

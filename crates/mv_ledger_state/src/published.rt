@@ -10,10 +10,11 @@ ghost use Rattle.mv_frames.specs.Counters.{AtMost};
 ghost use Rattle.mv_ledger_state.specs.declared.tallies.Placed.{Placed as Standing};
 ghost use Rattle.mv_ledger_state.specs.Judging.{IsKeptOut, MayFollow};
 ghost use Rattle.mv_ledger_state.specs.Tallying.{tally_after, AddsTallies, ArePlacedFor, HasRoomLeft};
-ghost use Rattle.mv_ledger_state.specs.View.{none_published, ArePlaced, IsTalliedStore};
+ghost use Rattle.mv_ledger_state.specs.View.{none_published, ArePlaced, CanCount, IsTalliedStore};
 ghost use Rattle.mv_machine.specs.Tallies.{all_of};
 
-use crate::tallies::{Placed, Tallies, put, scarce_structs};
+use crate::blocks::Blocks;
+use crate::tallies::{Placed, Tallies, put_all, scarce_structs};
 use mv_binary_format::Module;
 use mv_frames::StructTally;
 use mv_linker::{New, Store, add, link, name_of};
@@ -77,21 +78,24 @@ fn is_too_much(placed: &[Placed], count: usize) -> bool
     count + count_behind(placed, count) > MOST_MODULES
 }
 
-/// The published modules, and the tallies of each one's structs with neither copy nor drop.
+/// The published modules, and the tallies of each one's structs with neither copy nor drop; and what takes back what was published
+/// and tallied since the first open block was begun.
 #[derive(Drop)]
 pub struct Published {
     pub store: Store,
     pub tallies: Tallies,
+    pub(crate) blocks: Blocks,
 }
 
 impl Model for Published {
+    ghost use Rattle.mv_ledger_state.specs.Blocks.{held_in, AreHeld};
     ghost use Rattle.mv_ledger_state.specs.View.{PublishedView, IsTalliedStore};
 
     ghost Value = { PublishedView };
 
-    ghost view = { λ p. record { modules = p.store; tallies = p.tallies } };
+    ghost view = { λ p. record { modules = p.store; tallies = p.tallies; marks = held_in p.blocks p.store p.tallies; room = p.blocks.room } };
 
-    ghost invariant = { λ p. IsTalliedStore p.store p.tallies };
+    ghost invariant = { λ p. IsTalliedStore p.store p.tallies × AreHeld p.blocks p.store p.tallies };
 }
 
 impl Published {
@@ -102,6 +106,7 @@ impl Published {
         Published {
             store: Store::new(alloc),
             tallies: Tallies::new(alloc),
+            blocks: Blocks::new(alloc),
         }
     }
 
@@ -131,6 +136,7 @@ impl Published {
         ensures modules { OnOk result (self.new.modules ≡ with_modules self.old.modules (published_of news.entry.items)) }
         ensures tallied { OnOk result (AddsTallies self.old.modules self.new.modules (all_of self.old.tallies) (all_of self.new.tallies)) }
         ensures held { OnOk result (IsTalliedStore self.new.modules self.new.tallies) }
+        ensures marks { self.new.marks ≡ self.old.marks }
         ensures kept { OnErr result (self.new ≡ self.old) }
         ensures refused { IfErr result (IsKeptOut sender self.old.modules (published_of news.entry.items)) }
     {
@@ -140,21 +146,25 @@ impl Published {
             return Err(Refusal::Phase(14));
         }
         let tallies = &mut self.tallies;
+        let blocks = &mut self.blocks;
         tallies.modules.reserve(placed.len())?;
+        blocks.prepare(placed.len(), &self.store)?;
         add(&mut self.store, linked)?;
-        for one in placed {
-            put(&mut tallies.modules, one);
-        }
+        put_all(&mut tallies.modules, blocks, placed);
+        blocks.room = 0;
         Ok(())
     }
 
-    /// Adds what a run did to each tally.
+    /// Adds what a run did to each tally. While a block is open there has to be room for it, which `make_room` takes.
     pub fn add_run(&mut self, run: &[StructTally])
         requires room { All HasRoomLeft (all_of self.old.tallies) }
         requires few { AtMost (2 ^ 64 - 1) run.now }
+        requires notes { CanCount (length run.now) self.old }
         ensures modules { self.new.modules ≡ self.old.modules }
         ensures tallies { self.new.tallies ≡ map (map (tally_after run.now)) self.old.tallies }
+        ensures marks { self.new.marks ≡ self.old.marks }
     {
-        self.tallies.add_run(run);
+        self.tallies.add_run(run, &mut self.blocks);
+        self.blocks.room = 0;
     }
 }

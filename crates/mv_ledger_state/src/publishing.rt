@@ -126,6 +126,7 @@ impl Published {
         ensures accepted { IfOk result (λ n. IsAcceptedBy n self.old.modules payload.now self.new.modules) }
         ensures tallied { OnOk result (AddsTallies self.old.modules self.new.modules (all_of self.old.tallies) (all_of self.new.tallies)) }
         ensures whole { OnOk result (IsStore self.new.modules) }
+        ensures marks { self.new.marks ≡ self.old.marks }
         ensures kept { OnErr result (self.new ≡ self.old) }
         ensures refused { IfErr result (IsRefusedBy self.old.modules payload.now) }
     {

@@ -1,38 +1,41 @@
 // The stored values that a report has yet to tell.
 ghost use Rattle.std.specs.Prelude.{◌≡◌, ◌∷◌, [], drop, MatchOption};
 
+use crate::source::Source;
 use mv_move_types::Key;
-use mv_storage::Entries;
 use std::marker::Model;
 
 /// The stored values that are not shown yet, of which the next one is at hand. Its model is the list of them.
 #[derive(Drop)]
 pub struct Ahead<'a> {
     first: Option<(Key, &'a [u128])>,
-    rest: Entries<'a>,
+    rest: Source<'a>,
 }
 
 impl<'a> Model for Ahead<'a> {
     ghost use Rattle.std.specs.Prelude.{◌≡◌, List, [], None};
     ghost use Rattle.mv_machine.specs.Flat.{FlatEntry};
     ghost use Rattle.mv_lines.specs.Showing.{with_first};
+    ghost use Rattle.mv_lines.specs.Sources.{values_in};
 
     ghost Value = { List FlatEntry };
 
-    ghost view = { λ a. with_first a.first a.rest };
+    ghost view = { λ a. with_first a.first (values_in a.rest) };
 
-    ghost invariant = { λ a. a.first ≡ None → a.rest ≡ [] };
+    ghost invariant = { λ a. a.first ≡ None → values_in a.rest ≡ [] };
 }
 
 impl<'a> Ahead<'a> {
+    ghost use Rattle.mv_lines.specs.Sources.{values_in};
+
     /// All of these.
-    pub fn new(mut entries: Entries<'a>) -> Self
-        ensures { result ≡ entries.entry }
+    pub fn new(mut source: Source<'a>) -> Self
+        ensures { result ≡ values_in source.entry }
     {
-        let first = entries.next();
+        let first = source.next();
         Ahead {
             first,
-            rest: entries,
+            rest: source,
         }
     }
 

@@ -14,10 +14,10 @@ use crate::audit::{Counted, Counts};
 use crate::json_counts::{NO_MEMORY, send_counts};
 use crate::json_entries::{parted, put_texts};
 use crate::pieces::Piece;
+use crate::source::Source;
 use mv_linker::Store;
 use mv_machine::Tally;
 use mv_move_types::Key;
-use mv_storage::Entries;
 use serde::{Described, Serialize, Serializer};
 use std::alloc::{AllocError, Global};
 
@@ -153,14 +153,15 @@ pub struct StoredJson<'a> {
 
 impl<'a> StoredJson<'a> {
     ghost use Rattle.mv_lines.specs.JsonLeft.{show_left};
+    ghost use Rattle.mv_lines.specs.Sources.{values_in};
 
     /// The whole line.
-    pub fn new(alloc: Global, store: &'a Store, entries: Entries<'a>) -> Self
-        ensures { show_left result ≡ show_json (tables_in store.entry.now) (storage_of (tables_in store.entry.now) entries.entry) ∷ [] }
+    pub fn new(alloc: Global, store: &'a Store, source: Source<'a>) -> Self
+        ensures { show_left result ≡ show_json (tables_in store.entry.now) (storage_of (tables_in store.entry.now) (values_in source.entry)) ∷ [] }
     {
         StoredJson {
             store,
-            entries: Ahead::new(entries),
+            entries: Ahead::new(source),
             place: Place::Opening,
             room: Vec::new(alloc),
         }

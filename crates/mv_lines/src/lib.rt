@@ -21,8 +21,10 @@ mod json_entries;
 mod json_pieces;
 mod lines;
 mod pieces;
+mod source;
 mod texts;
 mod values;
 
 pub use lines::Lines;
 pub use pieces::Piece;
+pub use texts::put_address;

@@ -13,12 +13,13 @@ use crate::ahead::Ahead;
 use crate::audit::{Counts, count_text};
 use crate::json_pieces::{CountedJson, StoredJson};
 use crate::pieces::Piece;
+use crate::source::Source;
 use crate::texts::{definition_of, put_address, put_key, put_labelled, struct_at};
 use crate::values::put_value;
 use mv_linker::Store;
 use mv_machine::Tally;
 use mv_move_types::Key;
-use mv_storage::{Entries, Storage};
+use mv_storage::{Entries, Page, Storage};
 use std::alloc::{AllocError, Global};
 use std::marker::Model;
 
@@ -172,6 +173,8 @@ impl<'a> Model for Lines<'a> {
 }
 
 impl<'a> Lines<'a> {
+    ghost use Rattle.mv_lines.specs.Sources.{values_in};
+
     /// The lines of a show of all that is stored.
     pub fn of_storage(alloc: Global, store: &'a Store, storage: &'a Storage) -> Self
         ensures { result ≡ record { format = AsText; left = show_lines (tables_in store.entry.now) (storage_of (tables_in store.entry.now) storage.entry.now.committed) } }
@@ -184,11 +187,27 @@ impl<'a> Lines<'a> {
         requires { length entries < 2 ^ 63 }
         ensures { result ≡ record { format = AsText; left = show_lines (tables_in store.entry.now) (storage_of (tables_in store.entry.now) entries.entry) } }
     {
+        Lines::of_source(alloc, store, Source::Range(entries))
+    }
+
+    /// The same of the values of a page.
+    pub fn of_page(alloc: Global, store: &'a Store, page: Page<'a>) -> Self
+        requires { length page.values < 2 ^ 63 }
+        ensures { result ≡ record { format = AsText; left = show_lines (tables_in store.entry.now) (storage_of (tables_in store.entry.now) page.entry.values) } }
+    {
+        Lines::of_source(alloc, store, Source::Page(page))
+    }
+
+    /// The same of what is left of a range or of a page.
+    fn of_source(alloc: Global, store: &'a Store, source: Source<'a>) -> Self
+        requires { length (values_in source) < 2 ^ 63 }
+        ensures { result ≡ record { format = AsText; left = show_lines (tables_in store.entry.now) (storage_of (tables_in store.entry.now) (values_in source.entry)) } }
+    {
         Lines {
             alloc,
             left: Left::Stored(Stored {
                 store,
-                entries: Ahead::new(entries),
+                entries: Ahead::new(source),
                 told: 0,
                 is_ended: false,
             }),
@@ -224,7 +243,17 @@ impl<'a> Lines<'a> {
     {
         Lines {
             alloc,
-            left: Left::StoredJson(StoredJson::new(alloc, store, entries)),
+            left: Left::StoredJson(StoredJson::new(alloc, store, Source::Range(entries))),
+        }
+    }
+
+    /// The same of the values of a page, as JSON.
+    pub fn json_of_page(alloc: Global, store: &'a Store, page: Page<'a>) -> Self
+        ensures { result ≡ record { format = AsJson; left = show_json (tables_in store.entry.now) (storage_of (tables_in store.entry.now) page.entry.values) ∷ [] } }
+    {
+        Lines {
+            alloc,
+            left: Left::StoredJson(StoredJson::new(alloc, store, Source::Page(page))),
         }
     }
 

@@ -1,5 +1,5 @@
 // Loading a saved ledger.
-ghost use Rattle.std.specs.Prelude.{◌≡◌, ℕ, List, IfOk, IfErr};
+ghost use Rattle.std.specs.Prelude.{◌≡◌, ℕ, List, [], IfOk, IfErr};
 ghost use Rattle.mv_ledger_state.specs.Asking.{offers_of};
 ghost use Rattle.mv_ledger_state.specs.Loading.{IsLoaded, load_number, IsLoadRefusal};
 ghost use Rattle.mv_ledger_state.specs.Parts.LoadedParts.{head_of, reason_of, BeginsWith};
@@ -109,10 +109,13 @@ fn read_stored(
 ) -> Result<Storage, LoadError>
     requires begun { (bytes : List ℕ) × BeginsWith bytes (head_of head.now) reader.old }
     requires passed { AllPass (offers_of head.now.offers.items) joined.old.modules }
+    requires marks { joined.old.marks ≡ [] }
+    ensures marks { joined.new.marks ≡ [] }
     ensures whole { IfOk result (λ s. IsLedger joined.new.modules s.committed (all_of joined.new.tallies) head.now.runs) }
     ensures loaded { (bytes : List ℕ) → BeginsWith bytes (head_of head.now) reader.old
         → IfOk result (λ s. IsLoaded bytes (state_of (view_of joined.new.modules s.committed (all_of joined.new.tallies) head.now.runs))) }
     ensures refused { (bytes : List ℕ) → BeginsWith bytes (head_of head.now) reader.old → IfErr result (IsLoadRefusal bytes) }
+    ensures closed { IfOk result (λ s. s.marks ≡ []) }
 {
     let storage = match read_body(alloc, reader, head.form, &joined.store, &mut joined.tallies) {
         Ok(storage) => storage,
@@ -135,10 +138,12 @@ pub struct Loaded {
 /// What the ledger of a text holds that begins with this head; the reader has what follows.
 fn load_after(alloc: Global, reader: &mut Reader<'_>, head: &Head<'_>) -> Result<Loaded, LoadError>
     requires { (bytes : List ℕ) × BeginsWith bytes (head_of head.now) reader.old }
+    ensures marks { IfOk result (λ l. l.published.marks ≡ []) }
     ensures whole { IfOk result (λ l. IsLedger l.published.modules l.storage.committed (all_of l.published.tallies) l.runs) }
     ensures loaded { (bytes : List ℕ) → BeginsWith bytes (head_of head.now) reader.old
         → IfOk result (λ l. IsLoaded bytes (state_of (view_of l.published.modules l.storage.committed (all_of l.published.tallies) l.runs))) }
     ensures refused { (bytes : List ℕ) → BeginsWith bytes (head_of head.now) reader.old → IfErr result (IsLoadRefusal bytes) }
+    ensures closed { IfOk result (λ l. l.storage.marks ≡ []) }
 {
     let mut published = Published::of_offers(alloc, &head.offers)?;
     let storage = read_stored(alloc, reader, head, &mut published)?;
@@ -155,9 +160,11 @@ fn load_after(alloc: Global, reader: &mut Reader<'_>, head: &Head<'_>) -> Result
 ///
 /// The first reason against the bytes, `Head` to `Tally`; `Memory` if an allocation failed.
 pub fn load(alloc: Global, bytes: &[u8]) -> Result<Loaded, LoadError>
+    ensures marks { IfOk result (λ l. l.published.marks ≡ []) }
     ensures whole { IfOk result (λ l. IsLedger l.published.modules l.storage.committed (all_of l.published.tallies) l.runs) }
     ensures loaded { IfOk result (λ l. IsLoaded bytes.now (state_of (view_of l.published.modules l.storage.committed (all_of l.published.tallies) l.runs))) }
     ensures refused { IfErr result (IsLoadRefusal bytes.now) }
+    ensures closed { IfOk result (λ l. l.storage.marks ≡ []) }
 {
     let mut reader = Reader::new(bytes);
     match read_head(alloc, &mut reader) {

@@ -4,7 +4,7 @@ ghost use Rattle.mv_storage.specs.FlatStorage.{with_words};
 
 use mv_move_types::{Definition, Key};
 use mv_storage::{Entries, Overlay, Storage, Value};
-use std::alloc::AllocError;
+use std::alloc::{AllocError, Global};
 use std::test::Fail;
 
 // Keys that differ in the address, the place or the index alone.
@@ -291,17 +291,17 @@ fn are(mut entries: Entries<'_>, wanted: &[(Key, u128)]) -> bool {
     entries.next().is_none()
 }
 
-// A storage with values under these keys, and one that was taken between them.
-fn with_values(rt: &HostRuntime) -> Result<Storage, Fail> {
-    let mut storage = Storage::new(rt.alloc());
-    for (key, value) in VALUES {
-        assert!(rt; run(&mut storage, key, Value::leaf(value))?);
-    }
-    assert!(rt; run(&mut storage, LAST, Value::leaf(4))?);
+// A storage with values under these keys, from which one was taken.
+fn with_values(alloc: Global) -> Result<Storage, AllocError> {
+    let mut storage = Storage::new(alloc);
     let taken = Key { index: 2, ..FIRST };
-    assert!(rt; run(&mut storage, taken, Value::leaf(9))?);
+    for (key, value) in VALUES {
+        run(&mut storage, key, Value::leaf(value))?;
+    }
+    run(&mut storage, LAST, Value::leaf(4))?;
+    run(&mut storage, taken, Value::leaf(9))?;
     let mut overlay = storage.overlay();
-    assert!(rt; overlay.take(&taken)?.is_some());
+    overlay.take(&taken)?;
     overlay.commit()?;
     overlay.discard();
     Ok(storage)
@@ -309,7 +309,7 @@ fn with_values(rt: &HostRuntime) -> Result<Storage, Fail> {
 
 #[test]
 fn values_are_found_by_address(rt: HostRuntime) -> Result<(), Fail> {
-    let storage = with_values(&rt)?;
+    let storage = with_values(rt.alloc())?;
     let all = [VALUES[0], VALUES[1], VALUES[2], VALUES[3], (LAST, 4)];
     assert!(rt; are(storage.iter(), &all));
     assert!(rt; are(storage.iter_from(THIRD), all.get(2..).unwrap_or(&[])));
@@ -328,7 +328,7 @@ fn values_are_found_by_address(rt: HostRuntime) -> Result<(), Fail> {
 
 #[test]
 fn values_of_a_struct_come_in_pages(rt: HostRuntime) -> Result<(), Fail> {
-    let storage = with_values(&rt)?;
+    let storage = with_values(rt.alloc())?;
     let first = Definition { place: 0, index: 0 };
     let mut page = storage.page(first, 0, 1);
     assert_eq!(rt; page.next_address(), Some(8));

@@ -6,4 +6,4 @@ pub returns : goal.returns
 returns c =
     subst (λ (v : LedgerView). IsSavable (state_of v)) c.self.view_is
     (ledger-savable c.modules_are_read_by_text.ensures c.self.inside.published.modules c.self.inside.storage.committed (all_of c.self.inside.published.tallies) c.self.inside.runs
-    c.is_tallied.ensures.few c.iter-entries.ensures.few c.self.invariant)
+    c.is_tallied.ensures.few c.iter-entries.ensures.few c.self.invariant.0)

@@ -33,6 +33,7 @@ pub fn read_body(
     ensures refused { IfErr result (IsUnreadBody (form_of form) (tables_in store.now) (length (all_of tallies.old)) reader.old) }
     ensures kept { map (map struct_of) tallies.new ≡ map (map struct_of) tallies.old }
     ensures few { IfOk result (λ s. length s.committed < 2 ^ 64) }
+    ensures closed { IfOk result (λ s. s.marks ≡ []) }
 {
     tallies.read(reader, form)?;
     let layouts = Layouts::new(alloc, store)?;

@@ -1,5 +1,5 @@
 // Why each text that is longer than these bytes and begins with them is refused, where they tell it.
-ghost use Rattle.std.specs.Prelude.{◌≡◌, List, ℕ, IfOk, IfSome};
+ghost use Rattle.std.specs.Prelude.{◌≡◌, List, [], ℕ, IfOk, IfSome};
 ghost use Rattle.mv_ledger_state.specs.Asking.{offers_of};
 ghost use Rattle.mv_ledger_state.specs.Loading.{LongerFail};
 ghost use Rattle.mv_ledger_state.specs.Parts.LoadedParts.{head_of, BeginsWith};
@@ -37,7 +37,8 @@ fn refusal_by_body(
     head: &Head<'_>,
     joined: &mut Published,
 ) -> Result<Option<u8>, AllocError>
-    requires { AllPass (offers_of head.now.offers.items) joined.old.modules }
+    requires passed { AllPass (offers_of head.now.offers.items) joined.old.modules }
+    requires marks { joined.old.marks ≡ [] }
     ensures { (bytes : List ℕ) → BeginsWith bytes (head_of head.now) reader.old → IfOk result (λ found. IfSome found (LongerFail bytes)) }
 {
     let unread = match read_body(alloc, reader, head.form, &joined.store, &mut joined.tallies) {

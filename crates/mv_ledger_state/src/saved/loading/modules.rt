@@ -1,5 +1,5 @@
 // The modules of a saved ledger: they pass every phase, are linked, and have empty tallies.
-ghost use Rattle.std.specs.Prelude.{◌≤◌, length, IfErr, IfOk};
+ghost use Rattle.std.specs.Prelude.{◌≡◌, ◌≤◌, [], length, IfErr, IfOk};
 ghost use Rattle.mv_move_types.specs.Limits.{most_modules};
 ghost use Rattle.mv_ledger_state.specs.Asking.{offers_of};
 ghost use Rattle.mv_ledger_state.specs.Parts.LoadedParts.{AreNotJoined};
@@ -20,6 +20,7 @@ impl Published {
     /// growth was refused.
     fn of_offers_together(alloc: Global, offers: &[Offered<'_>]) -> Result<Self, LoadError>
         requires { length offers.now ≤ most_modules }
+        ensures marks { IfOk result (λ p. p.marks ≡ []) }
         ensures passed { IfOk result (λ p. AllPass (offers_of offers.now) p.modules) }
         ensures refused { IfErr result (AreNotJoined (offers_of offers.now)) }
     {
@@ -42,6 +43,7 @@ impl Published {
     /// was refused.
     pub(crate) fn of_offers(alloc: Global, offers: &[Offered<'_>]) -> Result<Self, LoadError>
         requires { length offers.now ≤ most_modules }
+        ensures marks { IfOk result (λ p. p.marks ≡ []) }
         ensures passed { IfOk result (λ p. AllPass (offers_of offers.now) p.modules) }
         ensures refused { IfErr result (AreNotJoined (offers_of offers.now)) }
     {

@@ -1,7 +1,7 @@
 // The modules of a saved ledger join one by one, in their order, with a stub in place of each that names one which isn't there yet;
 // then each such module takes the place of its stub, and short ones do so together. So few are held decoded at once: no more than
 // 64, and all but the last of them have fewer than 65,536 bytes together.
-ghost use Rattle.std.specs.Prelude.{◌≡◌, ◌<◌, ◌≤◌, true, length, slice_get, IfOk, IfErr, IfSome, OnOk};
+ghost use Rattle.std.specs.Prelude.{◌≡◌, ◌<◌, ◌≤◌, [], true, length, slice_get, IfOk, IfErr, IfSome, OnOk};
 ghost use Rattle.std.specs.Str.{bytes_eq};
 ghost use Rattle.mv_move_types.specs.Limits.{most_modules};
 ghost use Rattle.mv_linker.specs.News.{AreTexts, HasItsTexts};
@@ -91,6 +91,7 @@ impl Published {
     /// where there are too many.
     fn publish_some(&mut self, alloc: Global, news: Vec<New<'_>>) -> Result<bool, AllocError>
         requires { AreTexts news.items }
+        ensures { self.new.marks ≡ self.old.marks }
     {
         if news.len() > MOST_TOGETHER {
             return Ok(false);
@@ -105,6 +106,7 @@ impl Published {
     /// Publishes a module, and says whether it could be.
     fn publish_one(&mut self, alloc: Global, new: New<'_>) -> Result<bool, AllocError>
         requires { HasItsTexts new }
+        ensures { self.new.marks ≡ self.old.marks }
     {
         let news = vec![in alloc; new]?;
         self.publish_some(alloc, news)
@@ -116,7 +118,9 @@ impl Published {
         alloc: Global,
         address: u128,
         name: &[u8],
-    ) -> Result<bool, AllocError> {
+    ) -> Result<bool, AllocError>
+        ensures { self.new.marks ≡ self.old.marks }
+    {
         let stub = Stub::new(alloc, address, name)?;
         let offer = stub.offer();
         match verified(alloc, &offer) {
@@ -140,6 +144,7 @@ impl Published {
     ) -> Result<bool, Refusal>
         ensures passed { OnOk result (IsPassed (offer_of offer.now)) }
         ensures refused { IfErr result (IsRefusedOffer (offer_of offer.now)) }
+        ensures marks { self.new.marks ≡ self.old.marks }
     {
         let new = verified(alloc, offer)?;
         let stub = stubs.needed_for(&self.store, new.module.module());
@@ -165,7 +170,8 @@ impl Published {
         offers: &[Offered<'_>],
         stubs: &mut Stubs,
     ) -> Result<bool, Refusal>
-        ensures { IfErr result (IsRefusedAmong (offers_of offers.now)) }
+        ensures refused { IfErr result (IsRefusedAmong (offers_of offers.now)) }
+        ensures marks { self.new.marks ≡ self.old.marks }
     {
         'each: for offer in offers {
             if !self.publish_next(alloc, offer, stubs)? {
@@ -183,6 +189,7 @@ impl Published {
         stubs: &Stubs,
     ) -> Result<bool, AllocError>
         requires { length offers.now ≤ most_modules }
+        ensures { self.new.marks ≡ self.old.marks }
     {
         let order = match order(alloc, &self.store, stubs, offers) {
             Ok(order) => order,
@@ -217,6 +224,7 @@ impl Published {
         offers: &[Offered<'_>],
     ) -> Result<Option<Self>, LoadError>
         requires { length offers.now ≤ most_modules }
+        ensures marks { IfOk result (λ found. IfSome found (λ p. p.marks ≡ [])) }
         ensures passed { IfOk result (λ found. IfSome found (λ p. AllPass (offers_of offers.now) p.modules)) }
         ensures refused { IfErr result (AreNotJoined (offers_of offers.now)) }
     {

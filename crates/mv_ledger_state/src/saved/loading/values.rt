@@ -136,6 +136,7 @@ fn follows(last: Option<Key>, key: &Key) -> bool
 fn put(overlay: &mut Overlay<'_>, number: u64, next: Stored) -> Result<bool, AllocError>
     ensures done { IfOk result (λ done. done ≡ not (is_some (words_under overlay.old.storage.now.current next.key))) }
     ensures current { IfOk result (λ done. overlay.new.storage.now.current ≡ cond done (with_words overlay.old.storage.now.current next.key next.value) overlay.old.storage.now.current) }
+    ensures marks { overlay.new.storage.now.marks ≡ overlay.old.storage.now.marks }
     ensures loan { overlay.new.storage.ghost_name ≡ overlay.old.storage.ghost_name }
 {
     let done = overlay.put_new(next.key, next.value)?;
@@ -155,6 +156,7 @@ fn group(
 ) -> Result<(), Unread>
     ensures ok { OnOk result (group_into (entry_from layouts.now known) overlay.old.storage.now.current reader.old ≡ Some (overlay.new.storage.now.current, reader.new)) }
     ensures refused { IfErr result (IsUnread (group_into (entry_from layouts.now known) overlay.old.storage.now.current) reader.old) }
+    ensures marks { overlay.new.storage.now.marks ≡ overlay.old.storage.now.marks }
     ensures loan { overlay.new.storage.ghost_name ≡ overlay.old.storage.ghost_name }
 {
     let count = number(reader, u64::MAX)?;
@@ -180,6 +182,7 @@ fn groups(
 ) -> Result<(), Unread>
     ensures ok { OnOk result (groups_into layouts.now structs.now overlay.old.storage.now.current reader.old ≡ Some (overlay.new.storage.now.current, reader.new)) }
     ensures refused { IfErr result (IsUnread (groups_into layouts.now structs.now overlay.old.storage.now.current) reader.old) }
+    ensures marks { overlay.new.storage.now.marks ≡ overlay.old.storage.now.marks }
     ensures loan { overlay.new.storage.ghost_name ≡ overlay.old.storage.ghost_name }
 {
     'each: for at in structs {
@@ -201,6 +204,7 @@ pub fn read_storage(
 ) -> Result<Storage, Unread>
     ensures ok { IfOk result (λ s. storage_into layouts.now (form_of form) [] reader.old ≡ Some (s.committed, reader.new)) }
     ensures refused { IfErr result (IsUnread (storage_into layouts.now (form_of form) []) reader.old) }
+    ensures closed { IfOk result (λ s. s.marks ≡ []) }
 {
     let mut storage = Storage::new(alloc);
     fill(alloc, layouts, reader, form, &mut storage)?;
@@ -217,6 +221,7 @@ fn fill(
 ) -> Result<(), Unread>
     ensures ok { OnOk result (storage_into layouts.now (form_of form) storage.old.committed reader.old ≡ Some (storage.new.committed, reader.new)) }
     ensures refused { IfErr result (IsUnread (storage_into layouts.now (form_of form) storage.old.committed) reader.old) }
+    ensures marks { storage.new.marks ≡ storage.old.marks }
 {
     let mut overlay = storage.overlay();
     match form {

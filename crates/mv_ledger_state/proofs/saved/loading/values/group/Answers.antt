@@ -7,6 +7,7 @@ use Rattle.mv_ledger_state.proofs.saved.loading.values.group.Goals as goal
 
 pub each-init : goal.each-init
 each-init c = record {
+  marks = refl;
   loan = refl;
   rising = RisingOn-start (entry_from c.args.layouts.now c.args.known) c.in_ok-count.count c.args.overlay.now.storage.now.current c.number.new.reader;
   onward = group-onward (entry_from c.args.layouts.now c.args.known) c.in_ok-count.count c.args.overlay.now.storage.now.current c.args.reader.now c.number.new.reader c.in_ok-count.ensures.reads;
@@ -30,6 +31,7 @@ returns-then-not-follows-clause-refused c =
 
 pub each-preserved : goal.each-preserved
 each-preserved c = record {
+  marks = c.in_ok-put.ensures.marks ∙ c.each.invariant.marks;
   loan = c.in_ok-put.ensures.loan ∙ c.each.invariant.loan;
   rising = RisingOn-next _ _ _ _ _ _ _ _ _ _ c.in_ok-put.field-0 _ (omega arith) c.in_ok-next.ensures.ok (sym c.follows.ensures ∙ c.if-not-follows.false) c.in_ok-put.ensures.done c.in_ok-put.ensures.current
       c.each.invariant.rising;

@@ -13,6 +13,7 @@ returns-in_err-group-clause-refused c =
 
 pub each-preserved : goal.each-preserved
 each-preserved c = record {
+  marks = c.in_ok-group.ensures.marks ∙ c.each.invariant.marks;
   loan = c.in_ok-group.ensures.loan ∙ c.each.invariant.loan;
   put = GroupsOn-next c.args.layouts.now c.args.structs.now c.each.at-index c.args.overlay.now.storage.now.current c.args.reader.now c.each.overlay.storage.now.current _ c.each.reader c.group.new.reader _
       (omega arith) (search rules) c.in_ok-group.ensures.ok c.each.invariant.put;

@@ -1,0 +1,108 @@
+"""What questions by names and addresses cost through the library's C calls: a value by its address and its struct's name among
+1,200,000 coins, a show of an address with 3 values among them, and all coins in pages; and a mint in a call of its own beside one in a
+call with many others. Times are the processor's, the least of several tries, and each is printed with its aim.
+
+usage: python3 bench/library.py FOLDER [LIBRARY]    FOLDER is kept; LIBRARY is the folder of libmoveledger.a, that where
+bindings/library puts it if none is given. It needs cc, and counts machine instructions where there is a valgrind."""
+
+import argparse
+import subprocess
+from pathlib import Path
+from typing import List, NamedTuple, Tuple
+
+import beside
+import embedding
+from beside import Side
+from embedding import BUILT, mints
+from inputs import ASSET, Module, publish, record, run, u64
+from process import difference
+
+COINS, THREES, CALLS = 1_200_000, 1_000, 200_000
+TRIES = 3
+# What the number of a coin is multiplied by, as library.c does it: so that addresses come in no order.
+SCATTERED = 0x9E3779B97F4A7C15
+# Where a record that runs a function has its sender: behind its kind and its length.
+SENDER = slice(2, 18)
+MOST_OF_VALUE, MOST_AT, MOST_OF_MINT = 2.0, 5.0, 1.2
+
+
+class Asked(NamedTuple):
+    """The seconds of calls, how many they were, and how many values they told."""
+
+    seconds: float
+    calls: int
+    values: int
+
+
+def coins() -> Tuple[bytes, bytes]:
+    """The module whose structs are stored, and its certificate: what is known where its functions begin."""
+    m = Module()
+    for struct in "Coin", "Left", "Right":
+        m.struct(struct, ASSET, "v: u64")
+    m.function("mint", "signer; u64", "", "", "ImmBorrowLoc 0; MoveLoc 1; Pack Coin; MoveTo Coin; Ret")
+    two = "".join(f"ImmBorrowLoc 0; CopyLoc 1; Pack {struct}; MoveTo {struct};" for struct in ("Left", "Right"))
+    m.function("more", "signer; u64", "", "", f"{two} Ret")
+    return m.bytes(), bytes([1, 1, 1, 0] * 2)
+
+
+def runs(function: str, count: int) -> List[bytes]:
+    """Runs of a function by the owners of the first coins."""
+    made = record(2, run(function, 100, u64(7)))
+    front, behind = made[: SENDER.start], made[SENDER.stop :]
+    return [front + (nth * SCATTERED % 2**64 << 64).to_bytes(16, "big") + behind for nth in range(count)]
+
+
+def asked(folder: Path, measuring: Path, many: int, threes: int, calls: int) -> List[Asked]:
+    """What the measuring program prints, the least seconds of several tries."""
+    (folder / "asked.stream").write_bytes(b"".join([record(1, publish(coins())), *runs("mint", many), *runs("more", threes)]))
+    tries = []
+    for _ in range(TRIES):
+        words = [str(word) for word in (measuring, folder / "asked.stream", many, threes, calls)]
+        lines = subprocess.run(words, check=True, stdout=subprocess.PIPE, universal_newlines=True).stdout.splitlines()
+        tries.append([Asked(float(line.split()[0]), *map(int, line.split()[1:])) for line in lines])
+    best = [min(column) for column in zip(*tries)]
+    told = [answer.values for answer in best]
+    assert told == [calls, 3 * calls, many], f"{told} values are told, not {[calls, 3 * calls, many]}"
+    return best
+
+
+def tell_asked(best: List[Asked], many: int) -> None:
+    """Prints a line for each kind of question."""
+    one, at, pages = best
+    of_one, of_three, of_many = (answer.seconds / answer.calls * 1e6 for answer in (one, at, pages))
+    print(f"library: a value by its address and struct among {many:,} coins: {of_one:.2f} microseconds (aim: {MOST_OF_VALUE} or less)")
+    print(f"library: a show of an address with 3 values among them: {of_three:.2f} microseconds (aim: {MOST_AT} or less)")
+    print(f"library: all of them in {pages.calls:,} pages: {of_many:.0f} microseconds a page, "
+          f"{pages.seconds / pages.values * 1e6:.2f} a value (no aim)", flush=True)
+
+
+def tell_mints(folder: Path, measuring: Path) -> None:
+    """Prints how many times a mint in a long call one in a call of its own takes."""
+    count = beside.MINTS * 2
+    (folder / "mints.stream").write_bytes(b"".join(mints(count)))
+    (folder / "nothing.stream").write_bytes(b"")
+    once, each = (embedding.spent(Side(folder, measuring, way), "mints.stream") for way in ("once", "each"))
+    going = Side(folder, measuring, "nothing").instructions("mints.stream")
+    line = f"{each[1] / count * 1e6:.2f} microseconds by the clock, in one call with the others {once[1] / count * 1e6:.2f}"
+    ours = difference(each[0], difference(going, Side(folder, measuring, "nothing").instructions("nothing.stream")))
+    if ours is not None and once[0] is not None:
+        line += f"; {ours / count:,.0f} machine instructions and {once[0] / count:,.0f}, {ours / once[0]:.2f} times as many"
+    print(f"library: a mint in a call of its own: {line} (aim: {MOST_OF_MINT} times or less)", flush=True)
+
+
+def main() -> None:
+    words = argparse.ArgumentParser(description=__doc__, formatter_class=argparse.RawDescriptionHelpFormatter)
+    words.add_argument("folder", type=Path)
+    words.add_argument("library", type=Path, nargs="?", default=BUILT)
+    words.add_argument("--coins", type=int, default=COINS, metavar="N", help="how many coins are stored")
+    words.add_argument("--calls", type=int, default=CALLS, metavar="N", help="how often each question is asked")
+    told = words.parse_args()
+    told.folder.mkdir(parents=True, exist_ok=True)
+    folder, library = told.folder.resolve(), told.library.resolve()
+    threes = min(THREES, told.coins)
+    tell_asked(asked(folder, embedding.compiled(folder, library, "library"), told.coins, threes, told.calls), told.coins)
+    tell_mints(folder, embedding.compiled(folder, library))
+
+
+if __name__ == "__main__":
+    main()

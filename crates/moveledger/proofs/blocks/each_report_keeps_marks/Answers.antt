@@ -1,0 +1,5 @@
+use Rattle.moveledger.proofs.Blocks.{report-marks}
+use Rattle.moveledger.proofs.blocks.each_report_keeps_marks.Goals as goal
+
+pub returns : goal.returns
+returns c = report-marks

@@ -1,0 +1,5 @@
+use Rattle.moveledger.proofs.Blocks.{stop-marks}
+use Rattle.moveledger.proofs.blocks.each_stop_keeps_marks.Goals as goal
+
+pub returns : goal.returns
+returns c = stop-marks

@@ -1,0 +1,58 @@
+// Blocks: what is answered in one can be taken back.
+ghost use Rattle.std.specs.Prelude.{◌≡◌, ◌++◌, ◌∷◌, [], true, false, OnOk, OnErr};
+ghost use Rattle.mv_ledger_state.specs.View.{HeldView, held_of};
+ghost use Rattle.mv_ledger.specs.Marks.{marked};
+
+use crate::Ledger;
+use std::alloc::AllocError;
+
+impl Ledger {
+    /// Opens a block. Records are answered in it as ever, and `rollback` takes back what they changed. A block may be opened within
+    /// another.
+    ///
+    /// # Errors
+    ///
+    /// If an allocation failed. No block is opened then, and the ledger is as it was.
+    pub fn begin(&mut self) -> Result<(), AllocError>
+        ensures ok { OnOk result (self.new ≡ marked self.old (self.old.marks ++ held_of self.old ∷ [])) }
+        ensures err { OnErr result (self.new ≡ self.old) }
+    {
+        self.run_marks.reserve(1)?;
+        self.published.begin()?;
+        if let Err(error) = self.storage.begin() {
+            self.published.keep();
+            return Err(error);
+        }
+        self.run_marks.push_reserved(self.runs);
+        Ok(())
+    }
+
+    /// Closes the newest block, and takes back what was changed since it was opened: the ledger is as it was then. It takes no memory.
+    /// Answers false where no block is open, and does nothing then.
+    pub fn rollback(&mut self) -> bool
+        ensures back { result ≡ true → self.old.marks ≡ self.new.marks ++ held_of self.new ∷ [] }
+        ensures none { result ≡ false → (self.old.marks ≡ []) × (self.new ≡ self.old) }
+    {
+        let Some(runs) = self.run_marks.pop() else {
+            return false;
+        };
+        self.published.rollback();
+        self.storage.rollback();
+        self.runs = runs;
+        true
+    }
+
+    /// Closes the newest block, and keeps what was changed since it was opened, as a part of the block around it, if there is one. It
+    /// takes no memory. Answers false where no block is open, and does nothing then.
+    pub fn commit(&mut self) -> bool
+        ensures done { result ≡ true → (h : HeldView) × (self.old ≡ marked self.new (self.new.marks ++ h ∷ [])) }
+        ensures none { result ≡ false → (self.old.marks ≡ []) × (self.new ≡ self.old) }
+    {
+        let Some(_runs) = self.run_marks.pop() else {
+            return false;
+        };
+        self.published.keep();
+        self.storage.keep();
+        true
+    }
+}
