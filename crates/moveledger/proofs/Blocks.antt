@@ -1,8 +1,9 @@
 -- What was held where open blocks were begun stays, whatever records are answered.
-use Rattle.std.proofs.Common.{◌≡◌, ℕ, List, [], ◌∷◌, ◌++◌, Option, ap, ◌∙◌, refl, sym}
+use Rattle.std.proofs.Common.{◌≡◌, ℕ, List, [], ◌∷◌, ◌++◌, Option, ap, ◌∙◌, sym}
 use Rattle.mv_machine.specs.Lines.{Reply, Published, Refused, Rejected, RanToEnd, RanToAbort, RanOut, Told}
 use Rattle.mv_ledger_state.specs.View.{LedgerView, HeldView, held_of}
 use Rattle.mv_ledger.specs.Changes.{Leaves}
+use Rattle.mv_ledger.proofs.Marks.{ends-same}
 use Rattle.moveledger.specs.Records.{Record, Whole, Cut}
 use Rattle.moveledger.specs.Headline.{Reports, Step}
 use Rattle.moveledger.specs.Outcome.{Begun, StopsAfter, StopsAt, part_of_a_record, read_and_nothing_done, being_answered}
@@ -34,27 +35,7 @@ last-marks n took left old new part (being_answered b) = step-marks old b.0 b.1 
 pub stop-marks : EachStopKeepsMarks
 stop-marks before given gives held holds old new n s = last-marks _ s.took _ s.mid new s.part s.last ∙ report-marks (before + 1) old s.mid s.records s.text s.report
 
--- ---- lists that end alike
-
-cons-inj : (x y : HeldView) (xs ys : List HeldView) → x ∷ xs ≡ y ∷ ys → (x ≡ y) × (xs ≡ ys)
-cons-inj x y xs ys e = (cc, cc)
-
-last-same : (xs ys : List HeldView) (x y : HeldView) → xs ++ x ∷ [] ≡ ys ++ y ∷ [] → (xs ≡ ys) × (x ≡ y)
-last-same [] [] x y e = (refl, (cons-inj x y [] [] e).0)
-last-same [] (b ∷ ys) x y e = let tails : [] ≡ ys ++ y ∷ [] = (cons-inj x b [] (ys ++ y ∷ []) e).1 in absurd (none-ends ys tails)
-  where
-    none-ends : (zs : List HeldView) → [] ≡ zs ++ y ∷ [] → ⊥
-    none-ends [] h = cc
-    none-ends (z ∷ zs) h = cc
-last-same (a ∷ xs) [] x y e = let tails : xs ++ x ∷ [] ≡ [] = (cons-inj a y (xs ++ x ∷ []) [] e).1 in absurd (ends-none xs tails)
-  where
-    ends-none : (zs : List HeldView) → zs ++ x ∷ [] ≡ [] → ⊥
-    ends-none [] h = cc
-    ends-none (z ∷ zs) h = cc
-last-same (a ∷ xs) (b ∷ ys) x y e =
-    let parts = cons-inj a b (xs ++ x ∷ []) (ys ++ y ∷ []) e in
-    let rest = last-same xs ys x y parts.1 in
-    (ap (λ zs. a ∷ zs) rest.0 ∙ ap (λ z. z ∷ ys) parts.0, rest.1)
+-- ---- a block that is taken back
 
 -- a ledger is what it holds, and what it held at its marks
 holding : HeldView → List HeldView → LedgerView
@@ -65,5 +46,5 @@ same-ledger v w h m = ap (λ (x : HeldView). holding x v.marks) h ∙ ap (holdin
 
 pub block-back : EachBlockComesBack
 block-back n old mid new records text h back =
-    let same = last-same new.marks old.marks (held_of new) (held_of old) (sym back ∙ report-marks n _ mid records text h) in
+    let same = ends-same new.marks old.marks (held_of new) (held_of old) (sym back ∙ report-marks n _ mid records text h) in
     same-ledger new old same.1 same.0

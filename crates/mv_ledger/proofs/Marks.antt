@@ -1,5 +1,7 @@
 -- What was held at marks, where a block is begun and where it is taken back.
-use Rattle.mv_ledger.proofs.Common.{[], ◌++◌, ◌∷◌, ◌≡◌, List, None, Option, Some, ap, ℕ, FlatEntry, Replies, Leaves, Told, ToldPublished, ToldRefused, ToldRejected, ToldLines, RanOut, RanToAbort, RanToEnd, LedgerView, IsLedger, all_of}
+use Rattle.mv_undo.proofs.Lasts.{last-some}
+use Rattle.mv_undo.proofs.Parts.{all-begun, all-back}
+use Rattle.mv_ledger.proofs.Common.{[], ◌++◌, ◌∙◌, ◌∷◌, ◌≡◌, Bool, List, None, Option, Some, ap, false, refl, sym, true, ℕ, FlatEntry, Replies, Leaves, Told, ToldPublished, ToldRefused, ToldRejected, ToldLines, RanOut, RanToAbort, RanToEnd, LedgerView, IsLedger, all_of}
 use Rattle.mv_ledger_state.specs.View.{HeldView, HeldModules}
 use Rattle.mv_ledger.specs.Marks.{AreLedgers, held_at, held_marks, marked}
 
@@ -16,12 +18,40 @@ held-begun (x ∷ ps) (y ∷ ss) (z ∷ rs) p s r h = ap (λ hs. held_at x y z �
 -- which is a ledger, as those at the older marks are
 pub ledgers-begun : (ps : List HeldModules) (ss : List (List FlatEntry)) (rs : List ℕ) (p : HeldModules) (s : List FlatEntry) (r : ℕ) → AreLedgers ps ss rs
     → IsLedger p.modules s (all_of p.tallies) r → AreLedgers (ps ++ p ∷ []) (ss ++ s ∷ []) (rs ++ r ∷ [])
-ledgers-begun [] [] [] p s r h is = (is, tt)
-ledgers-begun [] [] (z ∷ rs) p s r h is = absurd h
-ledgers-begun [] (y ∷ ss) rs p s r h is = absurd h
-ledgers-begun (x ∷ ps) [] rs p s r h is = absurd h
-ledgers-begun (x ∷ ps) (y ∷ ss) [] p s r h is = absurd h
-ledgers-begun (x ∷ ps) (y ∷ ss) (z ∷ rs) p s r h is = (h.0, ledgers-begun ps ss rs p s r h.1 is)
+ledgers-begun = all-begun (λ (p : HeldModules) (stored : List FlatEntry) (runs : ℕ). IsLedger p.modules stored (all_of p.tallies) runs)
+
+-- a block is taken back: what was held at the newest mark is a ledger, as those at the older marks are
+pub ledgers-back : (ps : List HeldModules) (ss : List (List FlatEntry)) (rs : List ℕ) (p : HeldModules) (s : List FlatEntry) (r : ℕ) → AreLedgers (ps ++ p ∷ []) (ss ++ s ∷ []) (rs ++ r ∷ [])
+    → IsLedger p.modules s (all_of p.tallies) r × AreLedgers ps ss rs
+ledgers-back = all-back (λ (p : HeldModules) (stored : List FlatEntry) (runs : ℕ). IsLedger p.modules stored (all_of p.tallies) runs)
+
+-- where a block is open, each part has one
+pub are-open : (ps : List HeldModules) (ss : List (List FlatEntry)) (rs : List ℕ) (r : ℕ) → AreLedgers ps ss (rs ++ r ∷ []) → (ps ≡ [] → ⊥) × (ss ≡ [] → ⊥)
+are-open [] [] [] r h = absurd h
+are-open [] [] (z ∷ rs) r h = absurd h
+are-open [] (s ∷ ss) rs r h = absurd h
+are-open (p ∷ ps) [] [] r h = absurd h
+are-open (p ∷ ps) [] (z ∷ rs) r h = absurd h
+are-open (p ∷ ps) (s ∷ ss) rs r h = (λ e. let no : ⊥ = cc in no, λ e. let no : ⊥ = cc in no)
+
+-- what a call that says whether a block was open did, where one was
+pub was-open : {A B : Type 0} (said : Bool) → (said ≡ true → A) → (said ≡ false → B) → (B → ⊥) → A
+was-open true open closed no = open refl
+was-open false open closed no = absurd (no (closed refl))
+
+-- ---- lists that end alike
+
+cons-same : {X : Type 0} (x y : X) (xs ys : List X) → x ∷ xs ≡ y ∷ ys → (x ≡ y) × (xs ≡ ys)
+cons-same x y xs ys e = (cc, cc)
+
+pub ends-same : {X : Type 0} (xs ys : List X) (x y : X) → xs ++ x ∷ [] ≡ ys ++ y ∷ [] → (xs ≡ ys) × (x ≡ y)
+ends-same [] [] x y e = (refl, (cons-same x y [] [] e).0)
+ends-same [] (b ∷ ys) x y e = absurd (last-some ys y (sym (cons-same x b [] (ys ++ y ∷ []) e).1))
+ends-same (a ∷ xs) [] x y e = absurd (last-some xs x (cons-same a y (xs ++ x ∷ []) [] e).1)
+ends-same (a ∷ xs) (b ∷ ys) x y e =
+    let parts = cons-same a b (xs ++ x ∷ []) (ys ++ y ∷ []) e in
+    let rest = ends-same xs ys x y parts.1 in
+    (ap (λ zs. a ∷ zs) rest.0 ∙ ap (λ z. z ∷ ys) parts.0, rest.1)
 
 -- ---- a reply leaves what was held at marks
 

@@ -4,6 +4,7 @@
 --   held_marks modules stored runs       what was held at each mark, by the marks of the parts
 --   AreLedgers modules stored runs       the parts have as many marks, and at each of them they make a ledger
 use Rattle.std.specs.Prelude.{ℕ, List, [], ◌∷◌}
+use Rattle.mv_undo.specs.Parts.{AreAll}
 use Rattle.mv_machine.specs.Flat.{FlatEntry}
 use Rattle.mv_machine.specs.Tallies.{all_of}
 use Rattle.mv_ledger_state.specs.View.{LedgerView, HeldView, HeldModules, IsLedger, held_of, view_of}
@@ -25,9 +26,4 @@ held_marks (p ∷ ps) (s ∷ ss) (r ∷ rs) = held_at p s r ∷ held_marks ps ss
 
 -- the parts have as many marks, and at each of them they make a ledger
 abbrev pub AreLedgers : List HeldModules → List (List FlatEntry) → List ℕ → Type 0
-AreLedgers [] [] [] = Unit {0}
-AreLedgers [] [] (r ∷ rs) = ⊥
-AreLedgers [] (s ∷ ss) rs = ⊥
-AreLedgers (p ∷ ps) [] rs = ⊥
-AreLedgers (p ∷ ps) (s ∷ ss) [] = ⊥
-AreLedgers (p ∷ ps) (s ∷ ss) (r ∷ rs) = IsLedger p.modules s (all_of p.tallies) r × AreLedgers ps ss rs
+AreLedgers = AreAll (λ (p : HeldModules) (stored : List FlatEntry) (runs : ℕ). IsLedger p.modules stored (all_of p.tallies) runs)
