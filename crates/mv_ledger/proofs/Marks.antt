@@ -53,6 +53,30 @@ ends-same (a ∷ xs) (b ∷ ys) x y e =
     let rest = ends-same xs ys x y parts.1 in
     (ap (λ zs. a ∷ zs) rest.0 ∙ ap (λ z. z ∷ ys) parts.0, rest.1)
 
+-- what was stored where the newest block was begun is held at the storage's newest mark
+no-marks : (ps : List HeldModules) (ss : List (List FlatEntry)) (rs : List ℕ) → AreLedgers ps ss rs → held_marks ps ss rs ≡ [] → ss ≡ []
+no-marks [] [] [] a e = refl
+no-marks [] [] (z ∷ rs) a e = absurd a
+no-marks [] (y ∷ ss) rs a e = absurd a
+no-marks (x ∷ ps) [] rs a e = absurd a
+no-marks (x ∷ ps) (y ∷ ss) [] a e = absurd a
+no-marks (x ∷ ps) (y ∷ ss) (z ∷ rs) a e = absurd (let no : ⊥ = cc in no)
+
+pub stored-newest : (ps : List HeldModules) (ss : List (List FlatEntry)) (rs : List ℕ) (hs : List HeldView) (h : HeldView) → AreLedgers ps ss rs → held_marks ps ss rs ≡ hs ++ h ∷ []
+    → (xs : List (List FlatEntry)) × (ss ≡ xs ++ h.stored ∷ [])
+stored-newest [] [] [] hs h a e = absurd (last-some hs h (sym e))
+stored-newest [] [] (z ∷ rs) hs h a e = absurd a
+stored-newest [] (y ∷ ss) rs hs h a e = absurd a
+stored-newest (x ∷ ps) [] rs hs h a e = absurd a
+stored-newest (x ∷ ps) (y ∷ ss) [] hs h a e = absurd a
+stored-newest (x ∷ ps) (y ∷ ss) (z ∷ rs) [] h a e =
+    let parts = cons-same (held_at x y z) h (held_marks ps ss rs) [] e in
+    let alone : ss ≡ [] = no-marks ps ss rs a.1 parts.1 in
+    ([], ap (λ (ts : List (List FlatEntry)). y ∷ ts) alone ∙ ap (λ (v : HeldView). v.stored ∷ []) parts.0)
+stored-newest (x ∷ ps) (y ∷ ss) (z ∷ rs) (g ∷ gs) h a e =
+    let rest = stored-newest ps ss rs gs h a.1 (cons-same (held_at x y z) g (held_marks ps ss rs) (gs ++ h ∷ []) e).1 in
+    (y ∷ rest.0, ap (λ (ts : List (List FlatEntry)). y ∷ ts) rest.1)
+
 -- ---- a reply leaves what was held at marks
 
 leaves-marked : (reply : Told) (old new : LedgerView) (marks : List HeldView) → Leaves reply old new → Leaves reply (marked old marks) (marked new marks)

@@ -1,9 +1,11 @@
 // Blocks: what is answered in one can be taken back.
-ghost use Rattle.std.specs.Prelude.{◌≡◌, ◌++◌, ◌∷◌, [], true, false, OnOk, OnErr};
+ghost use Rattle.std.specs.Prelude.{◌≡◌, ◌++◌, ◌∷◌, [], List, true, false, IfOk, OnOk, OnErr};
 ghost use Rattle.mv_ledger_state.specs.View.{HeldView, held_of};
 ghost use Rattle.mv_ledger.specs.Marks.{marked};
+ghost use Rattle.mv_storage.specs.Difference.{IsDifference};
 
 use crate::Ledger;
+use mv_storage::Changes;
 use std::alloc::AllocError;
 
 impl Ledger {
@@ -54,5 +56,17 @@ impl Ledger {
         self.published.keep();
         self.storage.keep();
         true
+    }
+
+    /// What is stored otherwise than where the newest block was opened, by ascending key: each key with the leaves of the value that it
+    /// had and of the one that it has. Nothing where no block is open. It takes as long, and memory, as what runs changed in the block.
+    ///
+    /// # Errors
+    ///
+    /// If an allocation failed.
+    pub fn changes(&self) -> Result<Changes<'_>, AllocError>
+        ensures { IfOk result (λ told. (older : List HeldView) (old : HeldView) → self.entry.now.marks ≡ older ++ old ∷ [] → IsDifference old.stored self.entry.now.stored told) }
+    {
+        self.storage.changes()
     }
 }

@@ -50,7 +50,7 @@ use mv_machine::Outcome;
 pub use mv_machine::Tally;
 use mv_move_types::Refusal;
 use mv_storage::Storage;
-pub use mv_storage::{Entries, Page};
+pub use mv_storage::{Changes, Entries, Page};
 use std::alloc::{AllocError, Global};
 use std::marker::Model;
 
