@@ -21,12 +21,16 @@ impl Ledger {
     {
         self.run_marks.reserve(1)?;
         self.published.begin()?;
-        if let Err(error) = self.storage.begin() {
-            self.published.keep();
-            return Err(error);
+        match self.storage.begin() {
+            Ok(()) => {
+                self.run_marks.push_reserved(self.runs);
+                Ok(())
+            }
+            Err(error) => {
+                self.published.keep();
+                Err(error)
+            }
         }
-        self.run_marks.push_reserved(self.runs);
-        Ok(())
     }
 
     /// Closes the newest block, and takes back what was changed since it was opened: the ledger is as it was then. It takes no memory.
@@ -35,13 +39,15 @@ impl Ledger {
         ensures back { result ≡ true → self.old.marks ≡ self.new.marks ++ held_of self.new ∷ [] }
         ensures none { result ≡ false → (self.old.marks ≡ []) × (self.new ≡ self.old) }
     {
-        let Some(runs) = self.run_marks.pop() else {
-            return false;
-        };
-        self.published.rollback();
-        self.storage.rollback();
-        self.runs = runs;
-        true
+        match self.run_marks.pop() {
+            Some(runs) => {
+                self.published.rollback();
+                self.storage.rollback();
+                self.runs = runs;
+                true
+            }
+            None => false,
+        }
     }
 
     /// Closes the newest block, and keeps what was changed since it was opened, as a part of the block around it, if there is one. It
@@ -50,12 +56,14 @@ impl Ledger {
         ensures done { result ≡ true → (h : HeldView) × (self.old ≡ marked self.new (self.new.marks ++ h ∷ [])) }
         ensures none { result ≡ false → (self.old.marks ≡ []) × (self.new ≡ self.old) }
     {
-        let Some(_runs) = self.run_marks.pop() else {
-            return false;
-        };
-        self.published.keep();
-        self.storage.keep();
-        true
+        match self.run_marks.pop() {
+            Some(_runs) => {
+                self.published.keep();
+                self.storage.keep();
+                true
+            }
+            None => false,
+        }
     }
 
     /// What is stored otherwise than where the newest block was opened, by ascending key: each key with the leaves of the value that it
