@@ -1,7 +1,7 @@
 use Rattle.mv_ledger.proofs.Common.{◌∙◌, ap, subst, sym, LedgerView, all_of, view_of}
 use Rattle.mv_ledger.specs.Marks.{AreLedgers, held_at, held_marks, marked}
 use Rattle.mv_ledger.proofs.Marks.{are-open, was-open}
-use Rattle.mv_ledger.proofs.Blocks.{closed-holds, closed-marks, kept-holds, kept-is, no-runs}
+use Rattle.mv_ledger.proofs.BlockWise.{closed-holds, closed-marks, kept-holds, kept-is, no-runs}
 use Rattle.mv_ledger.proofs.blocks.Ledger.commit.Goals as goal
 
 pub invariant_of-self : goal.invariant_of-self

@@ -2,7 +2,7 @@ use Rattle.mv_ledger.proofs.Common.{◌∙◌, ap, subst, sym, LedgerView, all_o
 use Rattle.mv_ledger.specs.Marks.{AreLedgers, held_marks, marked}
 use Rattle.mv_ledger_state.specs.View.{held_now}
 use Rattle.mv_ledger.proofs.Marks.{are-open, was-open}
-use Rattle.mv_ledger.proofs.Blocks.{closed-holds, closed-marks, no-runs}
+use Rattle.mv_ledger.proofs.BlockWise.{closed-holds, closed-marks, no-runs}
 use Rattle.mv_ledger.proofs.blocks.Ledger.rollback.Goals as goal
 
 pub invariant_of-self : goal.invariant_of-self
