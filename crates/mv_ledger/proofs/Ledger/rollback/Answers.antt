@@ -3,7 +3,7 @@ use Rattle.mv_ledger.specs.Marks.{AreLedgers, held_marks, marked}
 use Rattle.mv_ledger_state.specs.View.{held_now}
 use Rattle.mv_ledger.proofs.Marks.{are-open, was-open}
 use Rattle.mv_ledger.proofs.BlockWise.{closed-holds, closed-marks, no-runs}
-use Rattle.mv_ledger.proofs.blocks.Ledger.rollback.Goals as goal
+use Rattle.mv_ledger.proofs.Ledger.rollback.Goals as goal
 
 pub invariant_of-self : goal.invariant_of-self
 invariant_of-self c =
@@ -12,9 +12,9 @@ invariant_of-self c =
     let rs = c.self.inside.run_marks.items in
     let us = c.pop.new.self.items in
     let open = are-open p.marks ss us c.in-Some.runs (subst (AreLedgers p.marks ss) c.in-Some.ensures.items c.self.invariant.1) in
-    closed-holds p.marks c.rollback.new.self.marks (held_now c.rollback.new.self) ss c.rollback-2.new.self.marks c.rollback-2.new.self.committed rs us c.in-Some.runs
+    closed-holds p.marks c.rollback.new.self.marks (held_now c.rollback.new.self) ss c.rollback-in-Some.new.self.marks c.rollback-in-Some.new.self.committed rs us c.in-Some.runs
     (was-open c.rollback.result c.rollback.ensures.back c.rollback.ensures.none (λ none. open.0 none.0))
-    (was-open c.rollback-2.result c.rollback-2.ensures.back c.rollback-2.ensures.none (λ none. open.1 none.0))
+    (was-open c.rollback-in-Some.result c.rollback-in-Some.ensures.back c.rollback-in-Some.ensures.none (λ none. open.1 none.0))
     c.in-Some.ensures.items c.self.invariant.1
 
 pub returns-in-Some-clause-back : goal.returns-in-Some-clause-back
@@ -25,9 +25,9 @@ returns-in-Some-clause-back c = λ done.
     let us = c.pop.new.self.items in
     let open = are-open p.marks ss us c.in-Some.runs (subst (AreLedgers p.marks ss) c.in-Some.ensures.items c.self.invariant.1) in
     sym (ap (λ (v : LedgerView). v.marks) c.self.view_is)
-    ∙ closed-marks p.marks c.rollback.new.self.marks (held_now c.rollback.new.self) ss c.rollback-2.new.self.marks c.rollback-2.new.self.committed rs us c.in-Some.runs
+    ∙ closed-marks p.marks c.rollback.new.self.marks (held_now c.rollback.new.self) ss c.rollback-in-Some.new.self.marks c.rollback-in-Some.new.self.committed rs us c.in-Some.runs
     (was-open c.rollback.result c.rollback.ensures.back c.rollback.ensures.none (λ none. open.0 none.0))
-    (was-open c.rollback-2.result c.rollback-2.ensures.back c.rollback-2.ensures.none (λ none. open.1 none.0))
+    (was-open c.rollback-in-Some.result c.rollback-in-Some.ensures.back c.rollback-in-Some.ensures.none (λ none. open.1 none.0))
     c.in-Some.ensures.items c.self.invariant.1
 
 pub returns-in-None-clause-none : goal.returns-in-None-clause-none
