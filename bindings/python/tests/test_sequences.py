@@ -24,36 +24,6 @@ ONE = (1).to_bytes(16, "big")
 Steps = List[Tuple[Callable[[], None], int]]
 
 
-def number(data: bytes, at: int) -> Tuple[int, int]:
-    """A number in seven bits a byte, the lowest first, and where it ends."""
-    value = shift = 0
-    while True:
-        value |= (data[at] & 127) << shift
-        if data[at] < 128:
-            return value, at + 1
-        at, shift = at + 1, shift + 7
-
-
-def records_of(stream: bytes) -> List[bytes]:
-    """The records of a stream, whole."""
-    found, at = [], 0
-    while at < len(stream):
-        length, begin = number(stream, at + 1)
-        found.append(stream[at:begin + length])
-        at = begin + length
-    return found
-
-
-def of_rows() -> List[List[bytes]]:
-    """The records of each worked row."""
-    return [[bytes.fromhex(record) for record in row.given.split()] for row in rows.rows("rows.rt", "ROWS") if row.given]
-
-
-def family(name: str) -> List[bytes]:
-    """The records of an example: those of one family belong together."""
-    return records_of((rows.EXAMPLES / f"{name}.stream").read_bytes())
-
-
 def at_home(record: bytes, home: int) -> bytes:
     """A record with another address in place of the address 1, wherever that stands: its sender, its module's, and in the module."""
     return record.replace(ONE, home.to_bytes(16, "big"))
@@ -63,7 +33,7 @@ def by(record: bytes, sender: int) -> bytes:
     """A record by another sender, where it has one."""
     if record[0] not in (1, 2) or len(record) < 32:
         return record
-    _, begin = number(record, 1)
+    _, begin = rows.number(record, 1)
     return record[:begin] + sender.to_bytes(16, "big") + record[begin + 16:]
 
 
@@ -85,8 +55,8 @@ class Sequence:
         self.ledger, self.model = moveledger.Ledger(), moveledger.Ledger()
         self.open: List[Kept] = []
         self.runs = 0
-        self.rows = of_rows()
-        self.families = [family(name) for name in ("upgrade", "owner", "faucet", "vault", "bundle", "references", "branches")]
+        self.rows = rows.of_rows()
+        self.families = [rows.of_example(name) for name in ("upgrade", "owner", "faucet", "vault", "bundle", "references", "branches")]
         # The names of the lines that were met outside of blocks and in them, and how the blocks ended.
         self.met: Set[Tuple[str, str]] = set()
         self.lines: List[Set[str]] = []
@@ -290,10 +260,10 @@ class Asked:
     def modules(self) -> None:
         """The modules of the saved text, in its order."""
         saved = self.ledger.save()
-        count, at = number(saved, number(saved, 4)[1])
+        count, at = rows.number(saved, rows.number(saved, 4)[1])
         wanted: List[bytes] = []
         for _ in range(2 * count):
-            length, begin = number(saved, at)
+            length, begin = rows.number(saved, at)
             wanted.append(saved[begin:begin + length])
             at = begin + length
         names = self.ledger.modules()
@@ -318,7 +288,7 @@ class Sequences(unittest.TestCase):
 
     def test_blocks_are_closed_from_within(self) -> None:
         """All ways to close three nested blocks in which a coin is minted, taken and minted again: the oldest that is taken back counts."""
-        publish, mint, burn = (family("upgrade")[at] for at in (4, 1, 5))
+        publish, mint, burn = (rows.of_example("upgrade")[at] for at in (4, 1, 5))
         for ends in range(8):
             with self.subTest(ends), moveledger.Ledger() as ledger:
                 ledger.apply(publish)
