@@ -1,6 +1,7 @@
 /* Refuses each request for memory of calls in turn: the call says so, and nothing is lost but what it says. It does so with that
  * request alone, and with all behind it; a list that asked for room to spare may ask for less and go on, and then its answer has to
- * be the right one. Behind each no block of memory is left.
+ * be the right one. Behind each no block of memory is left. In a block of the ledger, what was answered until memory ran out is taken
+ * back, without a request for memory, and the ledger is what it was where the block was opened.
  * usage: refused STREAM [LEDGER]    answers the records, of the ledger that is loaded, if one is given; then it loads and saves
  * what they leave, and makes and checks a certificate of each module that they publish. What went wrong is printed, and the status
  * is 1. */
@@ -156,6 +157,65 @@ static bool try_apply(unsigned long nth, unsigned long last)
         want_begun(&ledger, answered);
     else
         want(status == MOVELEDGER_DONE && report.length == whole.length && answered == count, "all is answered");
+    moveledger_bytes_free(&report);
+    moveledger_free(&ledger);
+    return is_over;
+}
+
+/* The ledger is as it was before all records, and no block is open. */
+static void want_first(moveledger *ledger)
+{
+    moveledger_bytes text = saved(ledger);
+    want(are_equal(&text, &states[0]), "the ledger is as it was before the block");
+    want(moveledger_rollback(ledger) == MOVELEDGER_NO_BLOCK, "no block is open");
+    moveledger_bytes_free(&text);
+}
+
+/* Calls that close a block: they ask for no memory. */
+static void want_closed(int32_t (*call)(moveledger_own *), moveledger *ledger, const char *what)
+{
+    moveledger_own own = {ledger->own};
+    refuse(1, (unsigned long)-2);
+    want(call(&own) == MOVELEDGER_DONE && met == 0, what);
+    refuse_none();
+    ledger->own = own.own;
+}
+
+/* A block is opened, or memory runs out and nothing has changed. */
+static bool try_begin(unsigned long nth, unsigned long last)
+{
+    moveledger ledger = begun();
+    refuse(nth, last);
+    int32_t status = moveledger_begin(&ledger);
+    bool is_over = met < nth;
+    refuse_none();
+    want(status == MOVELEDGER_DONE || status == MOVELEDGER_MEMORY, "a block, or no memory");
+    if (status == MOVELEDGER_DONE)
+        want_closed((moveledger_rollback), &ledger, "an empty block is taken back");
+    want_first(&ledger);
+    moveledger_free(&ledger);
+    return is_over;
+}
+
+/* All records in a block in a block: what was answered until memory ran out is taken back. */
+static bool try_block(unsigned long nth, unsigned long last)
+{
+    moveledger ledger = begun();
+    moveledger_bytes report = {NULL, 0, NULL};
+    uint64_t answered = 0;
+    want(moveledger_begin(&ledger) == MOVELEDGER_DONE && moveledger_begin(&ledger) == MOVELEDGER_DONE, "two blocks are opened");
+    refuse(nth, last);
+    int32_t status = moveledger_apply(&ledger, stream, stream_length, &answered, &report);
+    bool is_over = met < nth;
+    refuse_none();
+    want(is_beginning(&report, &whole), "the report is a beginning in a block");
+    want(status == MOVELEDGER_MEMORY || (status == MOVELEDGER_DONE && answered == count), "all is answered in a block, or no memory");
+    if (nth % 2)
+        want_closed((moveledger_commit), &ledger, "the inner block is kept");
+    else
+        want_closed((moveledger_rollback), &ledger, "the inner block is taken back");
+    want_closed((moveledger_rollback), &ledger, "the outer block is taken back");
+    want_first(&ledger);
     moveledger_bytes_free(&report);
     moveledger_free(&ledger);
     return is_over;
@@ -342,6 +402,8 @@ int main(int words, char **word)
     ledger_length = words > 2 ? read_file(word[2], first_ledger) : 0;
     note_states();
     refuse_each(try_apply);
+    refuse_each(try_begin);
+    refuse_each(try_block);
     uint8_t why = 0;
     moveledger last = {NULL, 0};
     want(moveledger_load(states[count].bytes, states[count].length, &last, &why) == MOVELEDGER_DONE, "the last ledger");

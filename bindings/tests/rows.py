@@ -74,6 +74,43 @@ def answers(shows: str, begin: Tuple[str, str], records: List[str], report: byte
     yield Call(shows, "save", "")
 
 
+def number(data: bytes, at: int) -> Tuple[int, int]:
+    """A number in seven bits a byte, the lowest first, and where it ends."""
+    value = shift = 0
+    while True:
+        value |= (data[at] & 127) << shift
+        if data[at] < 128:
+            return value, at + 1
+        at, shift = at + 1, shift + 7
+
+
+def records_of(stream: bytes) -> List[bytes]:
+    """The records of a stream, whose last one is whole."""
+    found, at = [], 0
+    while at < len(stream):
+        length, begin = number(stream, at + 1)
+        found.append(stream[at:begin + length])
+        at = begin + length
+    return found
+
+
+def of_rows() -> List[List[bytes]]:
+    """The records of each worked row that has some."""
+    return [[bytes.fromhex(record) for record in row.given.split()] for row in rows("rows.rt", "ROWS") if row.given]
+
+
+def of_example(name: str) -> List[bytes]:
+    """The records of an example."""
+    return records_of((EXAMPLES / f"{name}.stream").read_bytes())
+
+
+def fuzzed() -> str:
+    """All of them, as fuzz.c reads them. The examples are there several times: their runs change what others have stored."""
+    examples = [of_example(file.stem) for file in sorted(EXAMPLES.glob("*.stream"))]
+    known = [*of_rows(), *examples * 5]
+    return "".join("\n" + "".join(f"{record.hex()}\n" for record in records) for records in known)
+
+
 NEW = "new", answer(DONE)
 
 

@@ -57,7 +57,7 @@ class OutOfMemory(LedgerError, MemoryError):
 
 class Unfinished(OutOfMemory):
     """Memory ran out while records were answered. `report` is a beginning of the whole one. The ledger is as some records left it:
-    those up to its `answered`, and perhaps the one after them."""
+    those up to its `answered`, and perhaps the one after them. A block that is open takes back what they changed."""
 
     def __init__(self, report: "Report") -> None:
         super().__init__("memory ran out while records were answered")

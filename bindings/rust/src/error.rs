@@ -17,7 +17,8 @@ pub enum Error {
     /// There was no memory for an answer. Nothing has changed, but for [`Ledger::apply_into`](crate::Ledger::apply_into).
     Memory,
     /// Memory ran out while records were answered. The report is a beginning of the whole one. The ledger is as some records
-    /// left it: those up to [`Ledger::answered`](crate::Ledger::answered), and perhaps the one after them.
+    /// left it: those up to [`Ledger::answered`](crate::Ledger::answered), and perhaps the one after them. A
+    /// [`Block`](crate::Block) that is open takes back what they changed.
     Unfinished(Report),
     /// The library answered what this crate doesn't know.
     Unknown(i32),

@@ -11,21 +11,24 @@
 //! // `module` is the bytes of 0x1::M with a struct Coin and a function mint: tools/moveasm makes them of a text.
 //! let certificate = prove(module)?;
 //! let mut ledger = Ledger::new()?;
-//! let mut block = record::publish(Address::from(1), &[(module, &certificate.to_bytes())]);
-//! block.extend(record::run(&record::Run {
-//!     sender: Address::from(1),
-//!     address: Address::from(1),
-//!     module: "M",
-//!     function: "mint",
-//!     budget: 100,
-//!     arguments: &[record::Argument::U64(7)],
-//! }));
-//! let report = ledger.apply(&block)?;
+//! let mint = |sender: u128, value: u64| {
+//!     record::run(&record::Run {
+//!         sender: Address::from(sender),
+//!         address: Address::from(1),
+//!         module: "M",
+//!         function: "mint",
+//!         budget: 100,
+//!         arguments: &[record::Argument::U64(value)],
+//!     })
+//! };
+//! let mut records = record::publish(Address::from(1), &[(module, &certificate.to_bytes())]);
+//! records.extend(mint(1, 7));
+//! let report = ledger.apply(&records)?;
 //! assert_eq!(report.as_str(), "1 published 1\n2 returned 5\n");
 //! assert!(matches!(report.parsed().next(), Some(Ok(Line::Published { record: 1, modules: 1 }))));
 //!
 //! // What is stored is asked for without a record, and a ledger that is saved is loaded as what it was.
-//! let again = Ledger::load(&ledger.save()?)?;
+//! let mut again = Ledger::load(&ledger.save()?)?;
 //! let entries = again.show(Form::Text)?;
 //! assert!(matches!(entries.parsed().next(), Some(Ok(Entry::At { value: "{7}", .. }))));
 //!
@@ -34,6 +37,17 @@
 //! assert_eq!(again.value(Address::from(1), &coin)?.as_deref(), Some("{7}"));
 //! assert_eq!(again.value(Address::from(2), &coin)?, None);
 //! assert_eq!(again.values(coin).count(), 1);
+//!
+//! // What is answered in a block is kept, or taken back: the ledger is then as it was.
+//! let mut block = again.block()?;
+//! let report = block.apply(&mint(2, 9))?;
+//! let is_agreed = report.parsed().all(|line| matches!(line, Ok(Line::Returned { .. })));
+//! if is_agreed {
+//!     block.commit();
+//! } else {
+//!     block.rollback();
+//! }
+//! assert_eq!((again.answered(), again.values(coin).count()), (1, 2));
 //! # Ok(())
 //! # }
 //! ```
