@@ -36,8 +36,8 @@ are-open (p ∷ ps) (s ∷ ss) rs r h = (λ e. let no : ⊥ = cc in no, λ e. le
 
 -- what a call that says whether a block was open did, where one was
 pub was-open : {A B : Type 0} (said : Bool) → (said ≡ true → A) → (said ≡ false → B) → (B → ⊥) → A
-was-open true open closed no = open refl
-was-open false open closed no = absurd (no (closed refl))
+was-open true f g h = f refl
+was-open false f g h = absurd (h (g refl))
 
 -- ---- lists that end alike
 
@@ -80,7 +80,7 @@ stored-newest (x ∷ ps) (y ∷ ss) (z ∷ rs) (g ∷ gs) h a e =
 -- ---- a reply leaves what was held at marks
 
 leaves-marked : (reply : Told) (old new : LedgerView) (marks : List HeldView) → Leaves reply old new → Leaves reply (marked old marks) (marked new marks)
-leaves-marked (ToldPublished n) old new marks l = (l.0, l.1.0, refl)
+leaves-marked (ToldPublished n) old new marks l = (l.0, l.1, refl)
 leaves-marked (ToldRefused phase) old new marks l = ap (λ (v : LedgerView). marked v marks) l
 leaves-marked (ToldRejected reason) old new marks l = ap (λ (v : LedgerView). marked v marks) l
 leaves-marked (RanToEnd steps) old new marks l = refl

@@ -11,9 +11,9 @@ invariant_of-self c =
     let s = c.self.inside.storage in
     let t = c.keep-in-Some.new.self in
     let us = c.pop.new.self.items in
-    let open = are-open p.marks s.marks us c.in-Some._runs (subst (AreLedgers p.marks s.marks) c.in-Some.ensures.items c.self.invariant.1) in
-    let first = was-open c.keep.result c.keep.ensures.closed c.keep.ensures.none (λ none. open.0 none.0) in
-    let second = was-open c.keep-in-Some.result c.keep-in-Some.ensures.closed c.keep-in-Some.ensures.none (λ none. open.1 none.0) in (
+    let some = are-open p.marks s.marks us c.in-Some._runs (subst (AreLedgers p.marks s.marks) c.in-Some.ensures.items c.self.invariant.1) in
+    let first = was-open c.keep.result c.keep.ensures.closed c.keep.ensures.none (λ none. some.0 none.0) in
+    let second = was-open c.keep-in-Some.result c.keep-in-Some.ensures.closed c.keep-in-Some.ensures.none (λ none. some.1 none.0) in (
       kept-holds p q s.committed t.committed c.self.inside.runs c.keep.ensures.modules c.keep.ensures.tallies c.keep-in-Some.ensures.committed c.self.invariant.0,
       (closed-holds p.marks q.marks first.0 s.marks t.marks second.0 c.self.inside.run_marks.items us c.in-Some._runs first.1 second.1 c.in-Some.ensures.items c.self.invariant.1).1,
     )
@@ -26,9 +26,9 @@ returns-in-Some-clause-done c = λ done.
     let t = c.keep-in-Some.new.self in
     let rs = c.self.inside.run_marks.items in
     let us = c.pop.new.self.items in
-    let open = are-open p.marks s.marks us c.in-Some._runs (subst (AreLedgers p.marks s.marks) c.in-Some.ensures.items c.self.invariant.1) in
-    let first = was-open c.keep.result c.keep.ensures.closed c.keep.ensures.none (λ none. open.0 none.0) in
-    let second = was-open c.keep-in-Some.result c.keep-in-Some.ensures.closed c.keep-in-Some.ensures.none (λ none. open.1 none.0) in (
+    let some = are-open p.marks s.marks us c.in-Some._runs (subst (AreLedgers p.marks s.marks) c.in-Some.ensures.items c.self.invariant.1) in
+    let first = was-open c.keep.result c.keep.ensures.closed c.keep.ensures.none (λ none. some.0 none.0) in
+    let second = was-open c.keep-in-Some.result c.keep-in-Some.ensures.closed c.keep-in-Some.ensures.none (λ none. some.1 none.0) in (
       held_at first.0 second.0 c.in-Some._runs,
       sym c.self.view_is
           ∙ kept-is p q s.committed t.committed c.self.inside.runs c.keep.ensures.modules c.keep.ensures.tallies c.keep-in-Some.ensures.committed (held_marks p.marks s.marks rs) _
@@ -40,6 +40,6 @@ returns-in-None-clause-none c = λ done.
     let p = c.self.inside.published in
     let s = c.self.inside.storage in
     let now = view_of p.modules s.committed (all_of p.tallies) c.self.inside.runs in (
-      sym (ap (λ (v : LedgerView). v.marks) c.self.view_is) ∙ ap (held_marks p.marks s.marks) c.in-None.ensures.0 ∙ no-runs p.marks s.marks,
-      ap (λ rs. marked now (held_marks p.marks s.marks rs)) (c.in-None.ensures.1 ∙ sym c.in-None.ensures.0) ∙ c.self.view_is,
+      sym (ap (λ (v : LedgerView). v.marks) c.self.view_is) ∙ ap (held_marks p.marks s.marks) c.in-None.ensures.items.0 ∙ no-runs p.marks s.marks,
+      ap (λ rs. marked now (held_marks p.marks s.marks rs)) (c.in-None.ensures.items.1 ∙ sym c.in-None.ensures.items.0) ∙ c.self.view_is,
     )

@@ -11,10 +11,10 @@ invariant_of-self c =
     let ss = c.self.inside.storage.marks in
     let rs = c.self.inside.run_marks.items in
     let us = c.pop.new.self.items in
-    let open = are-open p.marks ss us c.in-Some.runs (subst (AreLedgers p.marks ss) c.in-Some.ensures.items c.self.invariant.1) in
+    let some = are-open p.marks ss us c.in-Some.runs (subst (AreLedgers p.marks ss) c.in-Some.ensures.items c.self.invariant.1) in
     closed-holds p.marks c.rollback.new.self.marks (held_now c.rollback.new.self) ss c.rollback-in-Some.new.self.marks c.rollback-in-Some.new.self.committed rs us c.in-Some.runs
-    (was-open c.rollback.result c.rollback.ensures.back c.rollback.ensures.none (λ none. open.0 none.0))
-    (was-open c.rollback-in-Some.result c.rollback-in-Some.ensures.back c.rollback-in-Some.ensures.none (λ none. open.1 none.0))
+    (was-open c.rollback.result c.rollback.ensures.back c.rollback.ensures.none (λ none. some.0 none.0))
+    (was-open c.rollback-in-Some.result c.rollback-in-Some.ensures.back c.rollback-in-Some.ensures.none (λ none. some.1 none.0))
     c.in-Some.ensures.items c.self.invariant.1
 
 pub returns-in-Some-clause-back : goal.returns-in-Some-clause-back
@@ -23,11 +23,11 @@ returns-in-Some-clause-back c = λ done.
     let ss = c.self.inside.storage.marks in
     let rs = c.self.inside.run_marks.items in
     let us = c.pop.new.self.items in
-    let open = are-open p.marks ss us c.in-Some.runs (subst (AreLedgers p.marks ss) c.in-Some.ensures.items c.self.invariant.1) in
+    let some = are-open p.marks ss us c.in-Some.runs (subst (AreLedgers p.marks ss) c.in-Some.ensures.items c.self.invariant.1) in
     sym (ap (λ (v : LedgerView). v.marks) c.self.view_is)
     ∙ closed-marks p.marks c.rollback.new.self.marks (held_now c.rollback.new.self) ss c.rollback-in-Some.new.self.marks c.rollback-in-Some.new.self.committed rs us c.in-Some.runs
-    (was-open c.rollback.result c.rollback.ensures.back c.rollback.ensures.none (λ none. open.0 none.0))
-    (was-open c.rollback-in-Some.result c.rollback-in-Some.ensures.back c.rollback-in-Some.ensures.none (λ none. open.1 none.0))
+    (was-open c.rollback.result c.rollback.ensures.back c.rollback.ensures.none (λ none. some.0 none.0))
+    (was-open c.rollback-in-Some.result c.rollback-in-Some.ensures.back c.rollback-in-Some.ensures.none (λ none. some.1 none.0))
     c.in-Some.ensures.items c.self.invariant.1
 
 pub returns-in-None-clause-none : goal.returns-in-None-clause-none
@@ -35,6 +35,6 @@ returns-in-None-clause-none c = λ done.
     let p = c.self.inside.published in
     let s = c.self.inside.storage in
     let now = view_of p.modules s.committed (all_of p.tallies) c.self.inside.runs in (
-      sym (ap (λ (v : LedgerView). v.marks) c.self.view_is) ∙ ap (held_marks p.marks s.marks) c.in-None.ensures.0 ∙ no-runs p.marks s.marks,
-      ap (λ rs. marked now (held_marks p.marks s.marks rs)) (c.in-None.ensures.1 ∙ sym c.in-None.ensures.0) ∙ c.self.view_is,
+      sym (ap (λ (v : LedgerView). v.marks) c.self.view_is) ∙ ap (held_marks p.marks s.marks) c.in-None.ensures.items.0 ∙ no-runs p.marks s.marks,
+      ap (λ rs. marked now (held_marks p.marks s.marks rs)) (c.in-None.ensures.items.1 ∙ sym c.in-None.ensures.items.0) ∙ c.self.view_is,
     )
