@@ -55,15 +55,13 @@ fn with_copy(had: Option<Store>, store: &Store) -> (Option<Store>, Result<(), Al
     }
 }
 
-/// Forgets what was noted. A long list gives its memory back, and a short one keeps it for the next block.
-fn forget(noted: &mut Vec<TallyBefore>)
-    ensures { noted.new.items ≡ [] }
+/// Gives back the memory for what is noted, if it is much and nothing is noted.
+pub fn give_back(noted: &mut Vec<TallyBefore>)
+    ensures { noted.new.items ≡ noted.old.items }
 {
-    if noted.len() > MOST_KEPT {
+    if noted.is_empty() && noted.capacity() > MOST_KEPT {
         let alloc = *noted.allocator();
         *noted = Vec::new(alloc);
-    } else {
-        noted.clear();
     }
 }
 
@@ -173,7 +171,10 @@ impl Blocks {
                 noted: mark.noted,
                 store: mark.store.or(store),
             }),
-            None => forget(&mut self.noted),
+            None => {
+                self.noted.clear();
+                give_back(&mut self.noted);
+            }
         }
     }
 }

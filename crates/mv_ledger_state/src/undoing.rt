@@ -2,7 +2,7 @@
 ghost use Rattle.std.specs.Prelude.{◌≡◌, ◌++◌, ◌∷◌, [], true, false, length, unwrap_or, OnOk, OnErr};
 ghost use Rattle.mv_ledger_state.specs.View.{held_now, CanCount, HeldModules};
 
-use crate::blocks::Mark;
+use crate::blocks::{Mark, give_back};
 use crate::published::Published;
 use crate::tallies::take_back;
 use mv_frames::StructTally;
@@ -49,6 +49,7 @@ impl Published {
             Some(mark) => {
                 let count = mark.noted;
                 take_back(&mut tallies.modules, &mut blocks.noted, count);
+                give_back(&mut blocks.noted);
                 put_back(&mut self.store, mark.store);
                 blocks.room = 0;
                 true

@@ -4,4 +4,4 @@ use Rattle.mv_ledger_state.proofs.published.Published.of_offers_singly.Goals as 
 
 pub returns-in-Err-clause-refused : goal.returns-in-Err-clause-refused
 returns-in-Err-clause-refused c =
-    subst (AreNotJoined (offers_of c.args.offers.now)) (sym c.because.ensures) (not-passed (offers_of c.args.offers.now) c.in-Err.refusal c.in-Err.ensures)
+    subst (AreNotJoined (offers_of c.args.offers.now)) (sym c.because.ensures) (not-passed (offers_of c.args.offers.now) c.in-Err.refusal c.in-Err.ensures.refused)

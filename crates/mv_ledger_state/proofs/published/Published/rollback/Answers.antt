@@ -21,15 +21,15 @@ invariant_of-tallies c =
 pub invariant_of-self : goal.invariant_of-self
 invariant_of-self c =
     let p = c.self.inside in
-    let b : Blocks = record { noted = c.take_back.new.noted; marks = c.pop.new.self; room = 0 } in
+    let b : Blocks = record { noted = c.give_back.new.noted; marks = c.pop.new.self; room = 0 } in
     back-held p.blocks c.pop.new.self.items c.in-Some.mark p.store p.tallies c.self.invariant.1 c.in-Some.ensures.items (lists_of c.take_back.new.modules.items) c.take_back.new.noted.items
-    c.take_back.ensures.left (λ k le. c.take_back.ensures.same k le ∙ ap (undone tally_back (drop k p.blocks.noted.items)) c.tallies.view_is) c.put_back.new.store b c.put_back.ensures refl refl
-    (omega (arith, c.take_back.new.noted.ok.1))
+    c.take_back.ensures.left (λ k le. c.take_back.ensures.same k le ∙ ap (undone tally_back (drop k p.blocks.noted.items)) c.tallies.view_is) c.put_back.new.store b c.put_back.ensures c.give_back.ensures refl
+    (omega (arith, c.give_back.new.noted.ok.1))
 
 pub returns-in-Some-clause-back : goal.returns-in-Some-clause-back
 returns-in-Some-clause-back c = λ done.
     let p = c.self.inside in
-    let b : Blocks = record { noted = c.take_back.new.noted; marks = c.pop.new.self; room = 0 } in
+    let b : Blocks = record { noted = c.give_back.new.noted; marks = c.pop.new.self; room = 0 } in
     sym (ap (λ (v : PublishedView). v.marks) c.self.view_is)
     ∙ back-marks p.blocks c.pop.new.self.items c.in-Some.mark p.store p.tallies c.self.invariant.1 c.in-Some.ensures.items (lists_of c.take_back.new.modules.items) c.take_back.new.noted.items
-    c.take_back.ensures.left (λ k le. c.take_back.ensures.same k le ∙ ap (undone tally_back (drop k p.blocks.noted.items)) c.tallies.view_is) c.put_back.new.store b c.put_back.ensures refl refl
+    c.take_back.ensures.left (λ k le. c.take_back.ensures.same k le ∙ ap (undone tally_back (drop k p.blocks.noted.items)) c.tallies.view_is) c.put_back.new.store b c.put_back.ensures c.give_back.ensures refl
