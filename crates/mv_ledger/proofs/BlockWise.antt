@@ -4,7 +4,7 @@
 --   taken-back                 a block of each part is taken back
 --   kept-holds, kept-is        or kept
 use Rattle.mv_undo.proofs.Lasts.{last-some}
-use Rattle.mv_ledger.proofs.Common.{[], ◌++◌, ◌∙◌, ◌∷◌, ◌≡◌, List, ap, refl, subst, sym, ℕ, FlatEntry, LedgerView, PublishedView, IsLedger, all_of, view_of}
+use Rattle.mv_ledger.proofs.Common.{[], ◌++◌, ◌∙◌, ◌∷◌, ◌≡◌, List, ap, arith, length, refl, subst, sym, ℕ, FlatEntry, LedgerView, PublishedView, IsLedger, all_of, view_of}
 use Rattle.mv_ledger_state.specs.View.{HeldView, HeldModules, held_of, held_now}
 use Rattle.mv_ledger.specs.Marks.{AreLedgers, held_at, held_marks, marked}
 use Rattle.mv_ledger.proofs.Marks.{ends-same, held-begun, ledgers-begun, ledgers-back}
@@ -65,8 +65,12 @@ module _ (p q : PublishedView) (s t : List FlatEntry) (runs : ℕ) (modules : q.
   pub kept-is : (ms ns : List HeldView) → ms ≡ ns → marked (view_of p.modules s (all_of p.tallies) runs) ms ≡ marked (view_of q.modules t (all_of q.tallies) runs) ns
   kept-is ms ns is = rw (modules, tallies, same) (ap (marked (view_of p.modules s (all_of p.tallies) runs)) is)
 
--- no block is open
+-- no block is open: nothing is held at a mark
 pub no-runs : (ps : List HeldModules) (ss : List (List FlatEntry)) → held_marks ps ss [] ≡ []
 no-runs [] ss = refl
 no-runs (p ∷ ps) [] = refl
 no-runs (p ∷ ps) (s ∷ ss) = refl
+
+pub no-items : (xs : List ℕ) → length xs ≡ 0 → xs ≡ []
+no-items [] e = refl
+no-items (x ∷ xs) e = absurd (omega (arith, e))

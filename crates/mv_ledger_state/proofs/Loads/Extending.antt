@@ -1,9 +1,9 @@
 -- What is read at the front of bytes is read there whatever follows.
-use Rattle.std.proofs.Common.{[], ◌++◌, ◌+◌, ◌*◌, ◌-◌, ◌<◌, ◌^◌, ◌∙◌, ◌∷◌, ◌≡◌, ◌≤◌, ◌⊎◌, Bool, List, None, Option, Some, ap, append_assoc, arith, drop, false, inl, inr, length, length-append}
-use Rattle.std.proofs.Common.{eq-eqb, lt-ltb, ◌/◌, nat_le, nat_lt, ne_eqb, option_and_then, refl, subst, suc, sym, take, true, zero, ℕ}
+use Rattle.std.proofs.Common.{[], ◌++◌, ◌+◌, ◌*◌, ◌-◌, ◌∙◌, ◌∷◌, ◌≡◌, ◌≤◌, Bool, List, None, Option, Some, ap, arith, drop, false, inl, inr, length, length-append}
+use Rattle.std.proofs.Common.{nat_le, nat_lt, ne_eqb, option_and_then, refl, subst, suc, sym, take, true, zero, ℕ}
 use Rattle.std.specs.Bool.{then_some}
-use Rattle.std.proofs.lemmas.Bool.{cases_eq, cases_lt, lt-leb, leb-true, le-leb}
-use Rattle.std.proofs.lemmas.Option.{some_pair_parts, none-some, same_Some}
+use Rattle.std.proofs.lemmas.Bool.{cases_lt, leb-true, le-leb}
+use Rattle.std.proofs.lemmas.Option.{some_pair_parts, none-some}
 use Rattle.mv_uleb.specs.Parsing.{number_from, spelled, with_low}
 use Rattle.mv_uleb.proofs.Spelled.{spelled-last, spelled-further, with_low-parts, then_some-parts}
 use Rattle.mv_move_types.specs.declared.token.Width.{Width}

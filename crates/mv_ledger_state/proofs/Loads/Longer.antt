@@ -1,5 +1,5 @@
 -- What is known of each text that begins with some bytes and has more.
-use Rattle.mv_ledger_state.proofs.Common.{[], ◌++◌, ◌∙◌, ◌∷◌, ◌≡◌, Err, List, None, Ok, Option, Result, Some, ap, append_assoc, length, subst, sym, ℕ, IfOk, FlatStorage, body_from, IfSome, AreBytes, Offer, FailsLoad, HasHead, no_links, no_module, AreNotJoined, EachBodyIsRead, IsNoBody}
+use Rattle.mv_ledger_state.proofs.Common.{[], ◌++◌, ◌∙◌, ◌∷◌, ◌≡◌, Err, List, None, Ok, Option, Result, Some, ap, append_assoc, length, subst, sym, ℕ, IfOk, FlatStorage, body_from, IfSome, AreBytes, Offer, HasHead, no_links, no_module, AreNotJoined, EachBodyIsRead, IsNoBody}
 use Rattle.mv_ledger_state.proofs.Common.{SavedHead, head_from, PublishedModule, AllPass, Form, head_text, IsTalliedStore, Tally, all_of, tables_in, Link, BadModule}
 use Rattle.mv_ledger_state.specs.Loading.{LongerFail, load_number}
 use Rattle.mv_ledger_state.specs.declared.saved.loading.LoadError.{LoadError}

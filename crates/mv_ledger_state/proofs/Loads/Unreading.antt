@@ -1,7 +1,7 @@
 -- What is not read at the front of bytes, nor at that of longer ones where they are malformed: from the parts to the whole.
-use Rattle.mv_ledger_state.proofs.Common.{[], ◌++◌, ◌+◌, ◌*◌, ◌-◌, ◌/◌, ◌<◌, ◌∙◌, ◌∷◌, ◌≡◌, ◌≤◌, ◌⊎◌, Bool, List, None, Option, Some, ap, append-nil, arith, drop, eq-eqb, false, get_or, inl, inr, le-leb}
+use Rattle.mv_ledger_state.proofs.Common.{[], ◌++◌, ◌+◌, ◌*◌, ◌-◌, ◌/◌, ◌<◌, ◌∙◌, ◌∷◌, ◌≡◌, ◌≤◌, Bool, List, None, Option, Some, ap, append-nil, arith, drop, eq-eqb, false, get_or, inl, inr, le-leb}
 use Rattle.mv_ledger_state.proofs.Common.{cond, is_some, not, with_words, words_under, length, lt-ltb, map, option_map, refl, subst, suc, sym, true, ℕ, cases_eq, drop-set-lt, drop_more, none-some, some_pair_parts, then_some, nat_le, option_and_then, slice_set, Module}
-use Rattle.mv_ledger_state.proofs.Common.{◌>>=◌, Definition, FlatEntry, FlatStorage, Key, LeafKind, number_from, on_bind, after, Read, byte_from, entries_from, entry_from, group_into, groups_into, is_after}
+use Rattle.mv_ledger_state.proofs.Common.{◌>>=◌, Definition, FlatEntry, FlatStorage, Key, LeafKind, number_from, after, Read, byte_from, entries_from, entry_from, group_into, groups_into, is_after}
 use Rattle.mv_ledger_state.proofs.Common.{leaf_from, leaves_from, rising_into, with_entry, Form, body_from, IsNoBody, Tally, all_of, lists_of, struct_of, with_items, Global, Vec, address_from, count_from, tally_from}
 use Rattle.mv_ledger_state.specs.Layouts.{kinds_under}
 use Rattle.mv_ledger_state.specs.Parts.BodyParts.{storage_into, struct_from}

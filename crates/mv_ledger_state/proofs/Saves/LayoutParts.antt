@@ -1,13 +1,11 @@
 -- Of what the fields of structs are made, and the kinds of their leaves.
 use Rattle.mv_ledger_state.proofs.Common.{[], ◌++◌, ◌+◌, ◌-◌, ◌<◌, ◌∙◌, ◌∷◌, ◌≡◌, ◌≢◌, ◌≤◌, Bool, List, None, Option, Some, add-one, ap, append-nil, append_assoc, ap₂, arith, cond, drop, false, get_or}
 use Rattle.mv_ledger_state.proofs.Common.{length, refl, subst, suc, sym, take, true, zero, ℕ, drop-cons, drop_all, length-take-le, take_more, get_or_from_slice_get, none-some, slice_get_within, list_all}
-use Rattle.mv_ledger_state.proofs.Common.{option_map_or, is_some, nat_le, slice_get, leaves_within, Module, StructDefinition, name_at, name_of_struct, struct_abilities, struct_name, definition_of}
-use Rattle.mv_ledger_state.proofs.Common.{is_struct, StructName, same_struct, ◌>>=◌, find_index, PublishedModule, Definition, Field, Abilities, LeafKind, Token, Plain, OfLeaf, OfStruct, IsSound, on_bind}
-use Rattle.mv_ledger_state.proofs.Common.{map-is, abilities_at, all_at, then_found, name-found, own-definition, IsStore, tables_in, AreFieldsAt, AreParts, IsMadeOf, IsPart, keyed_in, is_of_value}
+use Rattle.mv_ledger_state.proofs.Common.{option_map_or, is_some, nat_le, slice_get, leaves_within, Module, StructDefinition, name_at, name_of_struct, struct_abilities, struct_name}
+use Rattle.mv_ledger_state.proofs.Common.{StructName, same_struct, ◌>>=◌, PublishedModule, Definition, Field, Abilities, LeafKind, Token, Plain, OfLeaf, OfStruct, on_bind}
+use Rattle.mv_ledger_state.proofs.Common.{map-is, abilities_at, all_at, name-found, IsStore, tables_in, AreFieldsAt, AreParts, IsMadeOf, IsPart, keyed_in, is_of_value}
 use Rattle.mv_ledger_state.proofs.Common.{struct_is_small, Part, Nothing, on_found, structs_in_fields, structs_in_part, structs_in_parts, structs_in_token, structs_within, is_keyed, kinds_of_fields}
 use Rattle.mv_ledger_state.proofs.Common.{kinds_of_token, kinds_within, leaf_kinds, IsOfStore, PutsKinds, keyed_at, kinds_at, kinds_of_part, kinds_of_parts, keyed_from}
-use Rattle.mv_linker.proofs.Joining.Assembling.{passed-among}
-use Rattle.mv_linker.proofs.Members.{among-at}
 use Rattle.mv_interface.specs.Handles.{IsStructAt}
 use Rattle.mv_interface.specs.Shapes.{has_key}
 use Rattle.mv_interface.specs.declared.shapes.Part.TheVariants.{Leaf, Struct}

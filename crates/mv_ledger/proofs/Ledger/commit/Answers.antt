@@ -1,7 +1,7 @@
-use Rattle.mv_ledger.proofs.Common.{◌∙◌, ap, subst, sym, LedgerView, all_of, view_of}
+use Rattle.mv_ledger.proofs.Common.{◌∙◌, ap, subst, sym, List, ℕ, LedgerView, all_of, view_of}
 use Rattle.mv_ledger.specs.Marks.{AreLedgers, held_at, held_marks, marked}
 use Rattle.mv_ledger.proofs.Marks.{are-open, was-open}
-use Rattle.mv_ledger.proofs.BlockWise.{closed-holds, closed-marks, kept-holds, kept-is, no-runs}
+use Rattle.mv_ledger.proofs.BlockWise.{closed-holds, closed-marks, kept-holds, kept-is, no-items, no-runs}
 use Rattle.mv_ledger.proofs.Ledger.commit.Goals as goal
 
 pub invariant_of-self : goal.invariant_of-self
@@ -39,7 +39,9 @@ pub returns-in-None-clause-none : goal.returns-in-None-clause-none
 returns-in-None-clause-none c = λ done.
     let p = c.self.inside.published in
     let s = c.self.inside.storage in
-    let now = view_of p.modules s.committed (all_of p.tallies) c.self.inside.runs in (
-      sym (ap (λ (v : LedgerView). v.marks) c.self.view_is) ∙ ap (held_marks p.marks s.marks) c.in-None.ensures.items.0 ∙ no-runs p.marks s.marks,
-      ap (λ rs. marked now (held_marks p.marks s.marks rs)) (c.in-None.ensures.items.1 ∙ sym c.in-None.ensures.items.0) ∙ c.self.view_is,
+    let now = view_of p.modules s.committed (all_of p.tallies) c.self.inside.runs in
+    let was = no-items c.self.inside.run_marks.items (sym c.self.inside.run_marks.ok.0 ∙ c.in-None.ensures.cases.0) in
+    let is = no-items c.pop.new.self.items (sym c.pop.new.self.ok.0 ∙ c.in-None.ensures.cases.1) in (
+      sym (ap (λ (v : LedgerView). v.marks) c.self.view_is) ∙ ap (held_marks p.marks s.marks) was ∙ no-runs p.marks s.marks,
+      ap (λ (rs : List ℕ). marked now (held_marks p.marks s.marks rs)) (is ∙ sym was) ∙ c.self.view_is,
     )

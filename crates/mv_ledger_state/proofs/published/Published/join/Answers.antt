@@ -1,4 +1,4 @@
-use Rattle.mv_ledger_state.proofs.Common.{◌∙◌, ◌≡◌, ◌≤◌, List, ap, ap₂, arith, inr, length, refl, subst, sym, length-map, err_from_is_err_and, PublishedModule, with_modules, IsStore, tables_in, published_of, published_one, lists_of}
+use Rattle.mv_ledger_state.proofs.Common.{◌∙◌, ◌≡◌, ◌≤◌, List, ap, arith, inr, length, refl, subst, sym, length-map, err_from_is_err_and, PublishedModule, with_modules, IsStore, tables_in, published_of, published_one, lists_of}
 use Rattle.mv_ledger_state.proofs.Common.{New, Phase, AddsTallies, ArePlacedFor, AreWithin, IsKeptOut, MayFollow, with_placed, ArePlaced, PublishedView, all_of, Tally}
 use Rattle.mv_ledger_state.proofs.Bundles.Joining.{IsPlacedBundle, joined-within, placed-length, room-for, no-room-for, after-held, after-tallied, unlinked}
 use Rattle.mv_ledger_state.proofs.Marks.{held-after}

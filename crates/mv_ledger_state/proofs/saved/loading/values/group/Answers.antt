@@ -1,4 +1,4 @@
-use Rattle.mv_ledger_state.proofs.Common.{◌-◌, ◌∙◌, ◌≡◌, arith, refl, sym, err_from_is_err_and, entry_from, group_into, rising_into, with_entry}
+use Rattle.mv_ledger_state.proofs.Common.{◌-◌, ◌∙◌, arith, refl, sym, err_from_is_err_and, entry_from, group_into, rising_into}
 use Rattle.mv_ledger_state.specs.declared.unread.Unread.TheVariants.{Malformed}
 use Rattle.mv_ledger_state.proofs.Loads.BodyReading.{RisingOn-start, RisingOn-next}
 use Rattle.mv_ledger_state.proofs.Loads.Extending.{entry-extends}
