@@ -6,46 +6,38 @@
 --   none-left, one-left        the module at a place has a name, and is the next one
 --   one-under                  the values under a key are one, where there is one
 --   published-is, tallies-are  what a ledger holds, by its parts
---   words-here, entry-here     the value of a struct at an address
---   shows-over                 what is shown of some values, by the ledger's modules
-use Rattle.mv_ledger.proofs.Common.{[], ◌++◌, ◌+◌, ◌<◌, ◌∙◌, ◌∷◌, ◌≡◌, ◌≤◌, Bool, Err, List, None, Ok, Option, Some, ap, arith, false, inl, inr, length, map, option_map, refl, subst, sym, true, ℕ}
-use Rattle.mv_ledger.proofs.Common.{nat_tests, length-map, AllByRecursion, All, ◌&&◌, nat_lt, slice_get, unwrap_or, Definition, Module, StructName, PublishedModule, name_at, tables_in, IsNamed, IsTalliedStore, all_of, tallied, nameless}
-use Rattle.mv_ledger.proofs.Common.{Tally, Tallied}
+--   entry-here                 the value of a struct at an address
+use Rattle.mv_ledger.proofs.Common.{[], ◌++◌, ◌+◌, ◌<◌, ◌∙◌, ◌∷◌, ◌≡◌, ◌≤◌, Bool, Err, List, None, Ok, Option, Some, ap, arith, false, length, map, option_map, refl, subst, sym, true, ℕ, nat_tests, length-map, AllByRecursion, ◌&&◌, nat_lt, slice_get, unwrap_or, Definition}
+use Rattle.mv_ledger.proofs.Common.{Module, StructName, PublishedModule, name_at, tables_in, IsNamed, IsTalliedStore, all_of, tallied, nameless, Tally, Tallied, Global, Vec, FlatEntry, LedgerView, PublishedView, filter, storage_of, view_of}
 use Rattle.std.proofs.Common.{suc, zero, ⊎_elim, ap₂, cond, drop, get_or}
-use Rattle.std.proofs.lemmas.Bool.{cases_Bool, and_parts, cases_eq}
+use Rattle.std.proofs.lemmas.Bool.{cases_Bool, and_parts}
 use Rattle.std.proofs.lemmas.List.Elements.{recursion_from_All}
 use Rattle.std.proofs.lemmas.List.Kept.{AllPairs-from_increasing}
-use Rattle.std.proofs.lemmas.Option.{same_Some, slice_get_within}
+use Rattle.std.proofs.lemmas.Option.{same_Some, slice_get_within, slice_get-map}
 use Rattle.std.specs.Option.{option_and_then}
 use Rattle.std.proofs.lemmas.Cmp.{ranked}
 use Rattle.std.specs.Prelude.{◌==◌, find, IsSome}
 use Rattle.std.specs.Ordering.{nat_cmp}
-use Rattle.mv_ledger_state.proofs.Common.{AreInOrder, ArePlaced, IsBinarySearchResult, IsNonDecreasingBy, IsNonDecreasingBy-from_default, ordering_index, get_or-map, ltb-true, ltb-false, and_from, eq-eqb, eqb-true}
-use Rattle.mv_ledger_state.proofs.TalliedStores.{tallied-named}
-use Rattle.mv_bound_rules.proofs.NameLemmas.{same_struct-is, same_struct-same}
-use Rattle.mv_move_types.specs.Names.{same_struct}
-use Rattle.mv_linker.proofs.StructPlaces.{place-of-struct, struct-of-place}
-use Rattle.mv_linker.specs.Questions.{struct_place}
-use Rattle.mv_bound_rules.proofs.Entries.{got, mapped-at, missed}
-use Rattle.std.proofs.lemmas.Option.{slice_get-map}
 use Rattle.std.specs.Borrow.{Bor}
 use Rattle.std.specs.Slice.{IsItemAt}
-use Rattle.mv_ledger.proofs.Common.{Global, Vec}
+use Rattle.mv_move_types.specs.Names.{same_struct, ModuleName}
+use Rattle.mv_move_types.specs.Module.{own_name}
+use Rattle.mv_move_types.specs.declared.tables.Key.{Key}
 use Rattle.mv_machine.specs.Tallies.{lists_of}
+use Rattle.mv_machine.specs.State.{same_key}
 use Rattle.mv_interface.proofs.OwnDefinitions.{own_name-some}
 use Rattle.mv_link_rules.specs.Link.{IsPublishable, IsStore}
-use Rattle.mv_ledger_state.proofs.Common.{All-at}
-use Rattle.mv_move_types.specs.Module.{own_name}
-use Rattle.mv_move_types.specs.Names.{ModuleName}
-use Rattle.mv_move_types.specs.declared.tables.Key.{Key}
-use Rattle.mv_machine.specs.State.{same_key}
-use Rattle.mv_ledger.proofs.Common.{FlatEntry, Format, LedgerView, PublishedView, filter, storage_of, view_of}
-use Rattle.mv_ledger.specs.Marks.{marked}
-use Rattle.mv_ledger.specs.Questions.{entry_of, key_in, key_of, shows, tally_named, words_of}
-use Rattle.mv_ledger_state.specs.View.{HeldView}
-use Rattle.mv_ledger_state.proofs.Common.{AreAbove, IsAscending, before-apart, same_key-to}
+use Rattle.mv_bound_rules.proofs.NameLemmas.{same_struct-is, same_struct-same}
+use Rattle.mv_bound_rules.proofs.Entries.{got, mapped-at, missed}
+use Rattle.mv_linker.proofs.StructPlaces.{place-of-struct, struct-of-place}
+use Rattle.mv_linker.specs.Questions.{struct_place}
 use Rattle.mv_storage.proofs.Keys.{same_key-symm}
 use Rattle.mv_storage.specs.FlatStorage.{words_under}
+use Rattle.mv_ledger_state.proofs.Common.{AreInOrder, ArePlaced, IsBinarySearchResult, IsNonDecreasingBy, IsNonDecreasingBy-from_default, ordering_index, get_or-map, ltb-true, ltb-false, and_from, eq-eqb, eqb-true, All-at, AreAbove, IsAscending, before-apart, same_key-to}
+use Rattle.mv_ledger_state.proofs.TalliedStores.{tallied-named}
+use Rattle.mv_ledger_state.specs.View.{HeldView}
+use Rattle.mv_ledger.specs.Marks.{marked}
+use Rattle.mv_ledger.specs.Questions.{entry_of, key_in, key_of, tally_named}
 
 -- ---- the first that passes
 
@@ -344,26 +336,12 @@ module _ (p q : PublishedView) (stored : List FlatEntry) (runs : ℕ) (marks : L
 -- ---- the value of a struct at an address
 
 module _ (v : LedgerView) (ps : List PublishedModule) (stored : List FlatEntry) (published : v.published ≡ ps) (held : v.stored ≡ stored) (address : ℕ) (name : StructName) where
-  keyed : (o : Option Definition) → struct_place (tables_in ps) name ≡ o → key_of v address name ≡ option_map (key_in address) o
-  keyed o at = ap (λ (xs : List PublishedModule). option_map (key_in address) (struct_place (tables_in xs) name)) published ∙ ap (option_map (key_in address)) at
-
-  pub words-here : (d : Definition) → struct_place (tables_in ps) name ≡ Some d → words_of v address name ≡ words_under stored (key_in address d)
-  words-here d at = ap (option_and_then (words_under v.stored)) (keyed (Some d) at) ∙ ap (λ (es : List FlatEntry). words_under es (key_in address d)) held
-
-  pub no-words : struct_place (tables_in ps) name ≡ None → words_of v address name ≡ None
-  no-words none = ap (option_and_then (words_under v.stored)) (keyed None none)
+  keyed : (d : Definition) → struct_place (tables_in ps) name ≡ Some d → key_of v address name ≡ Some (key_in address d)
+  keyed d at = ap (λ (xs : List PublishedModule). option_map (key_in address) (struct_place (tables_in xs) name)) published ∙ ap (option_map (key_in address)) at
 
   pub entry-here : (d : Definition) → struct_place (tables_in ps) name ≡ Some d → (o : Option (List ℕ)) → words_under stored (key_in address d) ≡ o
       → entry_of v address name ≡ option_map (entry (key_in address d)) o
   entry-here d at o found =
-      ap (option_and_then (λ (key : Key). option_map (entry key) (words_under v.stored key))) (keyed (Some d) at)
+      ap (option_and_then (λ (key : Key). option_map (entry key) (words_under v.stored key))) (keyed d at)
       ∙ ap (λ (es : List FlatEntry). option_map (entry (key_in address d)) (words_under es (key_in address d))) held
       ∙ ap (option_map (entry (key_in address d))) found
-
-  pub no-entry : struct_place (tables_in ps) name ≡ None → entry_of v address name ≡ None
-  no-entry none = ap (option_and_then (λ (key : Key). option_map (entry key) (words_under v.stored key))) (keyed None none)
-
--- what is shown of some values tells of the ledger's modules alone
-pub shows-over : (v : LedgerView) (ps : List PublishedModule) (es : List FlatEntry) (format : Format) → v.published ≡ ps
-    → shows (record v { published = ps }) es format ≡ shows v es format
-shows-over v ps es format same = ap (λ (qs : List PublishedModule). shows (record v { published = qs }) es format) (sym same)

@@ -1,4 +1,4 @@
-use Rattle.mv_ledger.proofs.Common.{[], ◌∙◌, ◌≡◌, List, None, Option, Some, all_of, ap, map, refl, slice_get, subst, sym, tables_in, tallied, unwrap_or, Tally}
+use Rattle.mv_ledger.proofs.Common.{[], ◌∙◌, List, None, Option, ap, subst, sym, tables_in, unwrap_or, Tally}
 use Rattle.std.specs.Prelude.{◌==◌, find}
 use Rattle.mv_ledger.specs.Marks.{held_marks}
 use Rattle.mv_ledger_state.specs.Tallying.{AreInOrder}
