@@ -1,31 +1,43 @@
 -- What is asked of a ledger by names and addresses.
 --   tally-found, no-tally      the tally of a struct stands in its module's list, by its index
+--   tally-told, tally-untold   so this is what a ledger tells of it
+--   list-none, list-some       the tallies of the module at a place
 --   found-is, none-is          a search by index finds it there
 --   none-left, one-left        the module at a place has a name, and is the next one
-use Rattle.mv_ledger.proofs.Common.{[], ◌++◌, ◌+◌, ◌<◌, ◌∙◌, ◌∷◌, ◌≡◌, ◌≤◌, Bool, Err, List, None, Ok, Option, Some, ap, arith, false, inl, inr, length, map, option_map, refl, subst, sym, true, ℕ}
-use Rattle.mv_ledger.proofs.Common.{nat_tests, length-map, AllByRecursion, All, ◌&&◌, nat_lt, slice_get, unwrap_or, Definition, Module, StructName, PublishedModule, name_at, tables_in, IsNamed, IsTalliedStore, all_of, tallied, nameless}
-use Rattle.mv_ledger.proofs.Common.{Tally, Tallied}
+--   one-under                  the values under a key are one, where there is one
+--   published-is, tallies-are  what a ledger holds, by its parts
+--   entry-here                 the value of a struct at an address
+use Rattle.mv_ledger.proofs.Common.{[], ◌++◌, ◌+◌, ◌<◌, ◌∙◌, ◌∷◌, ◌≡◌, ◌≤◌, Bool, Err, List, None, Ok, Option, Some, ap, arith, false, length, map, option_map, refl, subst, sym, true, ℕ, nat_tests, length-map, AllByRecursion, ◌&&◌, nat_lt, slice_get, unwrap_or, Definition}
+use Rattle.mv_ledger.proofs.Common.{Module, StructName, PublishedModule, name_at, tables_in, IsNamed, IsTalliedStore, all_of, tallied, nameless, Tally, Tallied, Global, Vec, FlatEntry, LedgerView, PublishedView, filter, storage_of, view_of}
 use Rattle.std.proofs.Common.{suc, zero, ⊎_elim, ap₂, cond, drop, get_or}
-use Rattle.std.proofs.lemmas.Bool.{cases_Bool, and_parts, cases_eq}
+use Rattle.std.proofs.lemmas.Bool.{cases_Bool, and_parts}
 use Rattle.std.proofs.lemmas.List.Elements.{recursion_from_All}
 use Rattle.std.proofs.lemmas.List.Kept.{AllPairs-from_increasing}
-use Rattle.std.proofs.lemmas.Option.{same_Some, slice_get_within}
+use Rattle.std.proofs.lemmas.Option.{same_Some, slice_get_within, slice_get-map}
 use Rattle.std.specs.Option.{option_and_then}
 use Rattle.std.proofs.lemmas.Cmp.{ranked}
 use Rattle.std.specs.Prelude.{◌==◌, find, IsSome}
 use Rattle.std.specs.Ordering.{nat_cmp}
-use Rattle.mv_ledger_state.proofs.Common.{AreInOrder, ArePlaced, IsBinarySearchResult, IsNonDecreasingBy, IsNonDecreasingBy-from_default, ordering_index, get_or-map, ltb-true, ltb-false, and_from, eq-eqb, eqb-true}
-use Rattle.mv_ledger_state.proofs.TalliedStores.{tallied-named}
-use Rattle.mv_bound_rules.proofs.NameLemmas.{same_struct-is, same_struct-same}
-use Rattle.mv_move_types.specs.Names.{same_struct}
-use Rattle.mv_linker.proofs.StructPlaces.{place-of-struct, struct-of-place}
-use Rattle.mv_linker.specs.Questions.{struct_place}
-use Rattle.mv_bound_rules.proofs.Entries.{mapped-at}
+use Rattle.std.specs.Borrow.{Bor}
+use Rattle.std.specs.Slice.{IsItemAt}
+use Rattle.mv_move_types.specs.Names.{same_struct, ModuleName}
+use Rattle.mv_move_types.specs.Module.{own_name}
+use Rattle.mv_move_types.specs.declared.tables.Key.{Key}
+use Rattle.mv_machine.specs.Tallies.{lists_of}
+use Rattle.mv_machine.specs.State.{same_key}
 use Rattle.mv_interface.proofs.OwnDefinitions.{own_name-some}
 use Rattle.mv_link_rules.specs.Link.{IsPublishable, IsStore}
-use Rattle.mv_ledger_state.proofs.Common.{All-at}
-use Rattle.mv_move_types.specs.Module.{own_name}
-use Rattle.mv_move_types.specs.Names.{ModuleName}
+use Rattle.mv_bound_rules.proofs.NameLemmas.{same_struct-is, same_struct-same}
+use Rattle.mv_bound_rules.proofs.Entries.{got, mapped-at, missed}
+use Rattle.mv_linker.proofs.StructPlaces.{place-of-struct, struct-of-place}
+use Rattle.mv_linker.specs.Questions.{struct_place}
+use Rattle.mv_storage.proofs.Keys.{same_key-symm}
+use Rattle.mv_storage.specs.FlatStorage.{words_under}
+use Rattle.mv_ledger_state.proofs.Common.{AreInOrder, ArePlaced, IsBinarySearchResult, IsNonDecreasingBy, IsNonDecreasingBy-from_default, ordering_index, get_or-map, ltb-true, ltb-false, and_from, eq-eqb, eqb-true, All-at, AreAbove, IsAscending, before-apart, same_key-to}
+use Rattle.mv_ledger_state.proofs.TalliedStores.{tallied-named}
+use Rattle.mv_ledger_state.specs.View.{HeldView}
+use Rattle.mv_ledger.specs.Marks.{marked}
+use Rattle.mv_ledger.specs.Questions.{entry_of, key_in, key_of, tally_named}
 
 -- ---- the first that passes
 
@@ -126,7 +138,7 @@ module _ (published : List PublishedModule) (tss : List (List Tally)) (held : Is
   named t is = by (name_at modules t.place t.index) refl is
     where
       by : (o : Option StructName) → name_at modules t.place t.index ≡ o → IsSome o → o ≡ Some (unwrap_or o nameless)
-      by None e s = absurd s
+      by None e s = let none : false ≡ true = s in cc
       by (Some n) e s = refl
 
   -- so the struct of the name is where its tally says
@@ -180,6 +192,29 @@ module _ (published : List PublishedModule) (tss : List (List Tally)) (held : Is
         ∙ (let same : d.place ≡ 0 + d.place = omega arith in ap (λ (n : ℕ). find (is_at n d.index) (all_of tss)) same)
         ∙ placed-find 0 d.place d.index tss held.placed)
 
+    -- so this is what the ledger tells of it
+    pub tally-told : (v : LedgerView) → v.published ≡ published → v.tallies ≡ map (tallied modules) (all_of tss) → (o : Option Tally)
+        → o ≡ find (λ (t : Tally). t.index == d.index) (unwrap_or (slice_get tss d.place) []) → option_map (tallied (tables_in v.published)) o ≡ tally_named v.tallies name
+    tally-told v same tallies o o_is =
+        ap₂ (λ (ps : List PublishedModule) (x : Option Tally). option_map (tallied (tables_in ps)) x) same o_is
+        ∙ sym tally-found ∙ ap (λ (ts : List Tallied). tally_named ts name) (sym tallies)
+
+  -- nor does the ledger tell one of a struct that isn't published
+  pub tally-untold : (v : LedgerView) → v.tallies ≡ map (tallied modules) (all_of tss) → struct_place modules name ≡ None → None ≡ tally_named v.tallies name
+  tally-untold v tallies none = sym (no-tally none) ∙ ap (λ (ts : List Tallied). tally_named ts name) (sym tallies)
+
+-- the tallies of the module at a place, as they were asked for
+module _ (ls : List (Vec Tally Global)) (tss : List (List Tally)) (place : ℕ) (is : lists_of ls ≡ tss) where
+  pub list-none : IsItemAt ls place None → slice_get tss place ≡ None
+  list-none none =
+      ap (λ (x : List (List Tally)). slice_get x place) (sym is) ∙ slice_get-map (λ (w : Vec Tally Global). w.items) ls place
+      ∙ ap (option_map (λ (w : Vec Tally Global). w.items)) (missed ls ls place place refl refl none)
+
+  pub list-some : (x : Bor (Vec Tally Global)) → IsItemAt ls place (Some x) → slice_get tss place ≡ Some x.now.items
+  list-some x item =
+      ap (λ (y : List (List Tally)). slice_get y place) (sym is) ∙ slice_get-map (λ (w : Vec Tally Global). w.items) ls place
+      ∙ ap (option_map (λ (w : Vec Tally Global). w.items)) (got ls ls place place x refl refl item)
+
 -- ---- a search by index
 
 module _ (index : ℕ) (ts : List Tally) (ordered : AreInOrder ts) (d : Tally) where
@@ -213,7 +248,7 @@ module _ (index : ℕ) (ts : List Tally) (ordered : AreInOrder ts) (d : Tally) w
 drop-at : {X : Type 0} (xs : List X) (n : ℕ) (x : X) → slice_get xs n ≡ Some x → drop n xs ≡ x ∷ drop (n + 1) xs
 drop-at [] n x e = cc
 drop-at (y ∷ ys) zero x e = let same : y ≡ x = cc in ap (λ z. z ∷ ys) same
-drop-at (y ∷ ys) (suc n) x e = drop-at ys n x e
+drop-at (y ∷ ys) (suc n) x e = let more : suc (n + 1) ≡ suc n + 1 = omega arith in drop-at ys n x e ∙ ap (λ (k : ℕ). x ∷ drop k (y ∷ ys)) more
 
 drop-past : {X Y : Type 0} (f : X → Y) (xs : List X) (n : ℕ) → slice_get (map f xs) n ≡ None → drop n xs ≡ []
 drop-past f [] zero e = refl
@@ -254,3 +289,59 @@ module _ (store : List PublishedModule) (is : IsStore store) (place : ℕ) where
       by : (o : Option Module) → slice_get (tables_in store) place ≡ o → option_and_then own_name o ≡ Some name → place < length store
       by None at e = cc
       by (Some m) at e = let p = mapped-at (λ (p : PublishedModule). p.tables) store place m at in slice_get_within store place p.0 p.1
+
+-- ---- the value under a key
+
+-- a stored value by its key and its words
+abbrev pub entry : Key → List ℕ → FlatEntry
+entry key words = record { key = key; words = words }
+
+module _ (modules : List Module) (key : Key) where
+  -- none where all keys stand above
+  none-above : (es : List FlatEntry) → AreAbove key (storage_of modules es) → filter (λ (e : FlatEntry). same_key e.key key) es ≡ []
+  none-above [] above = refl
+  none-above (e ∷ es) above =
+      let apart : same_key e.key key ≡ false = same_key-symm e.key key ∙ before-apart key e.key above.0 in
+      rw apart (none-above es above.1)
+
+  -- one where there is one
+  pub one-under : (words : List ℕ) (es : List FlatEntry) → IsAscending (storage_of modules es) → words_under es key ≡ Some words
+      → filter (λ (e : FlatEntry). same_key e.key key) es ≡ record { key = key; words = words } ∷ []
+  one-under words [] up found = cc
+  one-under words (e ∷ es) up found = by (same_key e.key key) refl (one-under words es up.1)
+    where
+      by : (b : Bool) → same_key e.key key ≡ b → (words_under es key ≡ Some words → filter (λ (f : FlatEntry). same_key f.key key) es ≡ record { key = key; words = words } ∷ [])
+          → filter (λ (f : FlatEntry). same_key f.key key) (e ∷ es) ≡ record { key = key; words = words } ∷ []
+      by true here rest =
+          let same : e.key ≡ key = same_key-to e.key key here in
+          let held : e.words ≡ words = same_Some e.words words (sym (ap (λ b. cond b (Some e.words) (words_under es key)) here) ∙ found) in
+          ap (λ b. cond b (e ∷ filter (λ (f : FlatEntry). same_key f.key key) es) (filter (λ (f : FlatEntry). same_key f.key key) es)) here
+          ∙ ap₂ (λ (f : FlatEntry) (fs : List FlatEntry). f ∷ fs) (ap₂ (λ (k : Key) (ws : List ℕ). entry k ws) same held)
+          (none-above es (subst (λ (k : Key). AreAbove k (storage_of modules es)) same up.0))
+      by false apart rest =
+          ap (λ b. cond b (e ∷ filter (λ (f : FlatEntry). same_key f.key key) es) (filter (λ (f : FlatEntry). same_key f.key key) es)) apart
+          ∙ rest (sym (ap (λ b. cond b (Some e.words) (words_under es key)) apart) ∙ found)
+
+-- ---- what a ledger holds, by its parts
+
+module _ (p q : PublishedView) (stored : List FlatEntry) (runs : ℕ) (marks : List HeldView) (v : LedgerView) (same : p ≡ q)
+    (is : marked (view_of q.modules stored (all_of q.tallies) runs) marks ≡ v) where
+  pub published-is : v.published ≡ p.modules
+  published-is = ap (λ (w : LedgerView). w.published) (sym is) ∙ ap (λ (x : PublishedView). x.modules) (sym same)
+
+  pub tallies-are : v.tallies ≡ map (tallied (tables_in p.modules)) (all_of p.tallies)
+  tallies-are =
+      ap (λ (w : LedgerView). w.tallies) (sym is) ∙ ap (λ (x : PublishedView). map (tallied (tables_in x.modules)) (all_of x.tallies)) (sym same)
+
+-- ---- the value of a struct at an address
+
+module _ (v : LedgerView) (ps : List PublishedModule) (stored : List FlatEntry) (published : v.published ≡ ps) (held : v.stored ≡ stored) (address : ℕ) (name : StructName) where
+  keyed : (d : Definition) → struct_place (tables_in ps) name ≡ Some d → key_of v address name ≡ Some (key_in address d)
+  keyed d at = ap (λ (xs : List PublishedModule). option_map (key_in address) (struct_place (tables_in xs) name)) published ∙ ap (option_map (key_in address)) at
+
+  pub entry-here : (d : Definition) → struct_place (tables_in ps) name ≡ Some d → (o : Option (List ℕ)) → words_under stored (key_in address d) ≡ o
+      → entry_of v address name ≡ option_map (entry (key_in address d)) o
+  entry-here d at o found =
+      ap (option_and_then (λ (key : Key). option_map (entry key) (words_under v.stored key))) (keyed d at)
+      ∙ ap (λ (es : List FlatEntry). option_map (entry (key_in address d)) (words_under es (key_in address d))) held
+      ∙ ap (option_map (entry (key_in address d))) found
