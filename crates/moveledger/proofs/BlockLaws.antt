@@ -11,7 +11,7 @@ use Rattle.moveledger.specs.Blocks.{EachReportKeepsMarks, EachStopKeepsMarks, Ea
 
 -- a reply leaves it
 reply-marks : (reply : Reply) (old new : LedgerView) → Leaves reply old new → new.marks ≡ old.marks
-reply-marks (Published n) old new l = l.1.1
+reply-marks (Published n) old new l = l.2
 reply-marks (Refused phase) old new l = ap (λ (v : LedgerView). v.marks) l
 reply-marks (Rejected reason) old new l = ap (λ (v : LedgerView). v.marks) l
 reply-marks (RanToEnd steps) old new l = l
