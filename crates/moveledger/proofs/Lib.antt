@@ -8,10 +8,10 @@ pub mod One
 pub mod OneRequest
 pub mod OneRefusal
 pub mod OneReport
-pub mod Blocks
+pub mod BlockLaws
 pub mod Writing
 pub mod HeadlineLemmas
-pub mod Lines
+pub mod WrittenReplies
 pub mod Digits
 pub mod Texts
 pub mod Verdicts

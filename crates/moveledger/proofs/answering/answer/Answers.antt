@@ -2,7 +2,7 @@ use Rattle.std.proofs.Common.{Some, inl, inr, refl}
 use Rattle.mv_machine.specs.Lines.{Refused}
 use Rattle.mv_ledger.specs.Answering.{told, told_lines}
 use Rattle.moveledger.specs.declared.streaming.EngineError.TheVariants.{Read}
-use Rattle.moveledger.proofs.Lines.{written_answers, begun_answers, breaks_off, other_replied, report_answers, unwritten_answers}
+use Rattle.moveledger.proofs.WrittenReplies.{written_answers, begun_answers, breaks_off, other_replied, report_answers, unwritten_answers}
 use Rattle.moveledger.proofs.answering.answer.Goals as goal
 
 pub returns-then-kind-eq-PUBLISH-clause-ok : goal.returns-then-kind-eq-PUBLISH-clause-ok

@@ -4,7 +4,7 @@ use Rattle.std.specs.Io.{StartsWith}
 use Rattle.mv_machine.specs.Lines.{numbered}
 use Rattle.moveledger.specs.Answered.{line_of}
 use Rattle.moveledger.specs.Writing.{BreaksOff}
-use Rattle.moveledger.proofs.Lines.{reply_breaks_off, reply_is_begun}
+use Rattle.moveledger.proofs.WrittenReplies.{reply_breaks_off, reply_is_begun}
 use Rattle.moveledger.proofs.answering.write_reply.Goals as goal
 
 pub returns-clause-err : goal.returns-clause-err

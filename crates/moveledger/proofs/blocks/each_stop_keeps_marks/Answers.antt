@@ -1,4 +1,4 @@
-use Rattle.moveledger.proofs.Blocks.{stop-marks}
+use Rattle.moveledger.proofs.BlockLaws.{stop-marks}
 use Rattle.moveledger.proofs.blocks.each_stop_keeps_marks.Goals as goal
 
 pub returns : goal.returns

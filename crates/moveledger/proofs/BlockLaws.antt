@@ -1,5 +1,5 @@
 -- What was held where open blocks were begun stays, whatever records are answered.
-use Rattle.std.proofs.Common.{◌≡◌, ℕ, List, [], ◌∷◌, ◌++◌, Option, ap, ◌∙◌, sym}
+use Rattle.std.proofs.Common.{◌≡◌, ℕ, ◌+◌, List, [], ◌∷◌, ◌++◌, Option, ap, ◌∙◌, sym}
 use Rattle.mv_machine.specs.Lines.{Reply, Published, Refused, Rejected, RanToEnd, RanToAbort, RanOut, Told}
 use Rattle.mv_ledger_state.specs.View.{LedgerView, HeldView, held_of}
 use Rattle.mv_ledger.specs.Changes.{Leaves}
@@ -38,7 +38,7 @@ stop-marks before given gives held holds old new n s = last-marks _ s.took _ s.m
 -- ---- a block that is taken back
 
 -- a ledger is what it holds, and what it held at its marks
-holding : HeldView → List HeldView → LedgerView
+abbrev holding : HeldView → List HeldView → LedgerView
 holding h marks = record { published = h.published; stored = h.stored; tallies = h.tallies; runs = h.runs; marks = marks }
 
 same-ledger : (v w : LedgerView) → held_of v ≡ held_of w → v.marks ≡ w.marks → v ≡ w
