@@ -25,6 +25,10 @@ pub ledgers-back : (ps : List HeldModules) (ss : List (List FlatEntry)) (rs : Li
     → IsLedger p.modules s (all_of p.tallies) r × AreLedgers ps ss rs
 ledgers-back = all-back (λ (p : HeldModules) (stored : List FlatEntry) (runs : ℕ). IsLedger p.modules stored (all_of p.tallies) runs)
 
+-- no block is open in any part
+pub none-open : (ps : List HeldModules) (ss : List (List FlatEntry)) (rs : List ℕ) → ps ≡ [] → ss ≡ [] → rs ≡ [] → AreLedgers ps ss rs
+none-open ps ss rs p q r = rw (p, q, r) tt
+
 -- where a block is open, each part has one
 pub are-open : (ps : List HeldModules) (ss : List (List FlatEntry)) (rs : List ℕ) (r : ℕ) → AreLedgers ps ss (rs ++ r ∷ []) → (ps ≡ [] → ⊥) × (ss ≡ [] → ⊥)
 are-open [] [] [] r h = absurd h

@@ -210,6 +210,8 @@ pub fn execute(published: &mut Published, storage: &mut Storage, call: &Call) ->
     ensures settled { IsSettled published.old.modules call.now (told result) storage.old.committed storage.new.committed (all_of published.old.tallies) (all_of published.new.tallies) }
     ensures kept { RunsTo (told result) storage.old.committed storage.new.committed (all_of published.old.tallies) (all_of published.new.tallies) }
 {
+    // For the prover: the tallies are those of the modules.
+    published.is_tallied();
     match run_over(published, storage, call) {
         Ok((outcome, tally)) => {
             if outcome.ending == Ending::Returned {

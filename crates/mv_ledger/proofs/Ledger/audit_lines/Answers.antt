@@ -17,16 +17,16 @@ returns-in_default-clause-replies c =
     (unasked_replies 4 c.args.payload.now held (omega arith) c.in_default.ensures c.self.invariant.0.sound)
 
 pub of_tallies-requires-clause-aligned : goal.of_tallies-requires-clause-aligned
-of_tallies-requires-clause-aligned c = sym (length-map c.lists-tallies.result.now (λ (v : Vec Tally Global). v.items)) ∙ ap length c.lists-tallies.ensures ∙ tallied-long _ _ c.published.invariant
+of_tallies-requires-clause-aligned c = sym (length-map c.lists-tallies.result.now (λ (v : Vec Tally Global). v.items)) ∙ ap length c.lists-tallies.ensures ∙ tallied-long _ _ c.published.invariant.0
 
 pub of_tallies-requires-clause-few : goal.of_tallies-requires-clause-few
 of_tallies-requires-clause-few c =
-    let most : length (all_of c.published.inside.tallies) ≤ 65536 * length c.published.inside.store = few_tallies c.published.inside.store c.published.inside.tallies c.published.invariant.store.passed
-    c.published.invariant.scarce in
-    subst (λ (ts : List (List Tally)). length (all_of ts) < 2 ^ 63) (sym c.lists-tallies.ensures) (omega (arith, most, c.published.invariant.few))
+    let most : length (all_of c.published.inside.tallies) ≤ 65536 * length c.published.inside.store = few_tallies c.published.inside.store c.published.inside.tallies c.published.invariant.0.store.passed
+    c.published.invariant.0.scarce in
+    subst (λ (ts : List (List Tally)). length (all_of ts) < 2 ^ 63) (sym c.lists-tallies.ensures) (omega (arith, most, c.published.invariant.0.few))
 
 pub json_of_tallies-requires : goal.json_of_tallies-requires
-json_of_tallies-requires c = sym (length-map c.lists-tallies.result.now (λ (v : Vec Tally Global). v.items)) ∙ ap length c.lists-tallies.ensures ∙ tallied-long _ _ c.published.invariant
+json_of_tallies-requires c = sym (length-map c.lists-tallies.result.now (λ (v : Vec Tally Global). v.items)) ∙ ap length c.lists-tallies.ensures ∙ tallied-long _ _ c.published.invariant.0
 
 pub returns-in-Text-clause-replies : goal.returns-in-Text-clause-replies
 returns-in-Text-clause-replies c =

@@ -4,7 +4,7 @@ use Rattle.mv_ledger.specs.Marks.{marked}
 use Rattle.mv_ledger.proofs.Ledger.save.Goals as goal
 
 pub text_of-requires-clause-few : goal.text_of-requires-clause-few
-text_of-requires-clause-few c = omega (arith, c.published.invariant.few)
+text_of-requires-clause-few c = omega (arith, c.published.invariant.0.few)
 
 pub text_of-requires-clause-fine : goal.text_of-requires-clause-fine
 text_of-requires-clause-fine c = subst (λ (p : PublishedView). All (IsFineWords (tables_in p.modules)) c.self.inside.storage.committed) (sym c.published.view_is) c.self.invariant.0.fine
