@@ -25,6 +25,7 @@ use Rattle.mv_move_types.specs.Module.{own_name}
 use Rattle.mv_move_types.specs.declared.tables.Key.{Key}
 use Rattle.mv_machine.specs.Tallies.{lists_of}
 use Rattle.mv_machine.specs.State.{same_key}
+use Rattle.mv_binary_format.proofs.Taken.{find-map}
 use Rattle.mv_interface.proofs.OwnDefinitions.{own_name-some}
 use Rattle.mv_link_rules.specs.Link.{IsPublishable, IsStore}
 use Rattle.mv_bound_rules.proofs.NameLemmas.{same_struct-is, same_struct-same}
@@ -34,6 +35,7 @@ use Rattle.mv_linker.specs.Questions.{struct_place}
 use Rattle.mv_storage.proofs.Keys.{same_key-symm}
 use Rattle.mv_storage.specs.FlatStorage.{words_under}
 use Rattle.mv_ledger_state.proofs.Common.{AreInOrder, ArePlaced, IsBinarySearchResult, IsNonDecreasingBy, IsNonDecreasingBy-from_default, ordering_index, get_or-map, ltb-true, ltb-false, and_from, eq-eqb, eqb-true, All-at, AreAbove, IsAscending, before-apart, same_key-to}
+use Rattle.mv_ledger_state.proofs.Lists.{all-append, all-weaker}
 use Rattle.mv_ledger_state.proofs.TalliedStores.{tallied-named}
 use Rattle.mv_ledger_state.specs.View.{HeldView}
 use Rattle.mv_ledger.specs.Marks.{marked}
@@ -72,18 +74,6 @@ module _ {X : Type 0} (p : X → Bool) where
   find-nowhere [] d none = refl
   find-nowhere (x ∷ xs) d none = rw (none 0 (omega arith)) (find-nowhere xs d (λ j le. none (suc j) (omega (arith, le))))
 
-find-map : {X Y : Type 0} (f : X → Y) (p : Y → Bool) (xs : List X) → find p (map f xs) ≡ option_map f (find (λ x. p (f x)) xs)
-find-map f p [] = refl
-find-map f p (x ∷ xs) = ⊎_elim (λ (t : p (f x) ≡ true). rw t refl) (λ (n : p (f x) ≡ false). rw n (find-map f p xs)) (cases_Bool (p (f x)))
-
-weaker : {X : Type 0} (P Q : X → Type 0) → ((x : X) → P x → Q x) → (xs : List X) → AllByRecursion P xs → AllByRecursion Q xs
-weaker P Q f [] h = tt
-weaker P Q f (x ∷ xs) h = (f x h.0, weaker P Q f xs h.1)
-
-both : {X : Type 0} (P : X → Type 0) (xs ys : List X) → AllByRecursion P xs → AllByRecursion P ys → AllByRecursion P (xs ++ ys)
-both P [] ys h k = k
-both P (x ∷ xs) ys h k = (h.0, both P xs ys h.1 k)
-
 -- ---- tallies stand by the places of their modules
 
 -- whether a tally is that of a struct at a place and an index
@@ -101,8 +91,8 @@ elsewhere place index t off =
 later-none : (place index low : ℕ) (tss : List (List Tally)) → place < low → ArePlaced low tss → AllByRecursion (λ t. is_at place index t ≡ false) (all_of tss)
 later-none place index low [] lt placed = tt
 later-none place index low (ts ∷ tss) lt placed =
-    both (λ t. is_at place index t ≡ false) ts (all_of tss)
-    (weaker (λ t. t.place ≡ low) (λ t. is_at place index t ≡ false) (λ t at. elsewhere place index t (λ e. omega (arith, lt, at, e))) ts (recursion_from_All (λ (t : Tally). t.place ≡ low) ts placed.0))
+    all-append (λ t. is_at place index t ≡ false) ts (all_of tss)
+    (all-weaker (λ t. t.place ≡ low) (λ t. is_at place index t ≡ false) (λ t at. elsewhere place index t (λ e. omega (arith, lt, at, e))) ts (recursion_from_All (λ (t : Tally). t.place ≡ low) ts placed.0))
     (later-none place index (low + 1) tss (omega (arith, lt)) placed.1)
 
 placed-find : (low k index : ℕ) (tss : List (List Tally)) → ArePlaced low tss
@@ -116,7 +106,7 @@ placed-find low zero index (ts ∷ tss) placed =
     own t at = ap (λ (b : Bool). b && (t.index == index)) (eq-eqb t.place (low + 0) (omega (arith, at)))
 placed-find low (suc k) index (ts ∷ tss) placed =
     find-past (is_at (low + suc k) index) ts (all_of tss)
-    (weaker (λ t. t.place ≡ low) (λ t. is_at (low + suc k) index t ≡ false) (λ t at. elsewhere (low + suc k) index t (λ e. omega (arith, at, e))) ts (recursion_from_All (λ (t : Tally). t.place ≡ low) ts placed.0))
+    (all-weaker (λ t. t.place ≡ low) (λ t. is_at (low + suc k) index t ≡ false) (λ t at. elsewhere (low + suc k) index t (λ e. omega (arith, at, e))) ts (recursion_from_All (λ (t : Tally). t.place ≡ low) ts placed.0))
     ∙ (let same : low + suc k ≡ low + 1 + k = omega arith in ap (λ (n : ℕ). find (is_at n index) (all_of tss)) same)
     ∙ placed-find (low + 1) k index tss placed.1
 
@@ -150,7 +140,7 @@ module _ (published : List PublishedModule) (tss : List (List Tally)) (held : Is
   pub no-tally : struct_place modules name ≡ None → find (λ (t : Tallied). same_struct t.struct name) (map (tallied modules) (all_of tss)) ≡ None
   no-tally none =
       find-map (tallied modules) (λ (t : Tallied). same_struct t.struct name) (all_of tss)
-      ∙ ap (option_map (tallied modules)) (find-none is_own (all_of tss) (weaker (IsNamed modules) (λ t. is_own t ≡ false) other (all_of tss) all-named))
+      ∙ ap (option_map (tallied modules)) (find-none is_own (all_of tss) (all-weaker (IsNamed modules) (λ t. is_own t ≡ false) other (all_of tss) all-named))
     where
       other : (t : Tally) → IsNamed modules t → is_own t ≡ false
       other t is =
