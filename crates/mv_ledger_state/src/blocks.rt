@@ -1,9 +1,9 @@
 // Open blocks: what their marks go back to.
-ghost use Rattle.std.specs.Prelude.{◌≡◌, ◌++◌, ◌∷◌, ◌+◌, ◌<◌, ◌≤◌, [], ℕ, List, length, unwrap_or, OnOk, OnErr};
+ghost use Rattle.std.specs.Prelude.{◌≡◌, ◌+◌, ◌<◌, ◌≤◌, [], List, unwrap_or, OnOk};
 ghost use Rattle.std.specs.Vec.{vec_len, vec_capacity};
 ghost use Rattle.mv_machine.specs.declared.Tally.{Tally as Counts};
 ghost use Rattle.mv_move_types.specs.Published.{PublishedModule};
-ghost use Rattle.mv_ledger_state.specs.Blocks.{counts_at, held_in, is_open, tally_back, first_of, CanNote, Ascend};
+ghost use Rattle.mv_ledger_state.specs.Blocks.{counts_at, held_in, is_open, tally_back, CanNote, Ascend};
 
 use mv_linker::Store;
 use mv_machine::Tally;
