@@ -3,7 +3,6 @@
 --   given_up-holds, given_up-is    it is begun in a part, and given up
 --   taken-back                 a block of each part is taken back
 --   kept-holds, kept-is        or kept
-use Rattle.mv_undo.proofs.Lasts.{last-some}
 use Rattle.mv_ledger.proofs.Common.{[], ◌++◌, ◌∙◌, ◌∷◌, ◌≡◌, List, ap, arith, length, refl, subst, sym, ℕ, FlatEntry, LedgerView, PublishedView, IsLedger, all_of, view_of}
 use Rattle.mv_ledger_state.specs.View.{HeldView, HeldModules, held_of, held_now}
 use Rattle.mv_ledger.specs.Marks.{AreLedgers, held_at, held_marks, marked}

@@ -5,7 +5,7 @@
 --   Replies kind payload told old new          the same, or nothing is said and the ledger stays as it was
 --   RepliesText kind payload result held       the same of the text of a show or an audit, or of its refusal
 -- told_ending is a part of these.
-use Rattle.std.specs.Prelude.{◌≡◌, ℕ, List, [], ◌∷◌, ◌++◌, Option, Some, None, Result, Ok, Err, ⊤, string_bytes, String}
+use Rattle.std.specs.Prelude.{◌≡◌, ℕ, List, Option, Some, None, Result, Ok, Err, ⊤, string_bytes, String}
 use Rattle.std.specs.Global.{Global}
 use Rattle.mv_move_types.specs.declared.refusal.Refusal.{Refusal}
 use Rattle.mv_move_types.specs.declared.refusal.Refusal.TheVariants.{Phase, Memory as NoMemory}

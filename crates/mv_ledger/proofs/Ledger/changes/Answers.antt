@@ -1,4 +1,4 @@
-use Rattle.mv_ledger.proofs.Common.{◌++◌, ◌∙◌, ◌∷◌, ◌≡◌, [], ap, subst, sym, List, FlatEntry, LedgerView}
+use Rattle.mv_ledger.proofs.Common.{◌++◌, ◌∙◌, ◌∷◌, ◌≡◌, [], ap, subst, List, FlatEntry, LedgerView}
 use Rattle.std.proofs.lemmas.Result.{IfOk-weaker}
 use Rattle.mv_storage.specs.Difference.{Change, IsDifference}
 use Rattle.mv_ledger_state.specs.View.{HeldView}

@@ -1,4 +1,3 @@
-use Rattle.mv_ledger.proofs.Common.{err_from_is_err_and}
 use Rattle.mv_ledger.proofs.Marks.{none-open}
 use Rattle.mv_ledger.proofs.Ledger.load.Goals as goal
 

@@ -1,5 +1,5 @@
 use Rattle.mv_ledger.proofs.Common.{◌+◌, ◌-◌, ◌^◌, ◌∙◌, ◌≡◌, List, ap, map, refl, rules, subst, sym, All, StructTally, Layers, FlatEntry, tables_in, Agrees, AtMost, IsFineWords, run_of, tally_after}
-use Rattle.mv_ledger.proofs.Common.{IsSmall, IsTalliedStore, PublishedView, all_of, Tally}
+use Rattle.mv_ledger.proofs.Common.{IsSmall, PublishedView, all_of, Tally}
 use Rattle.mv_machine.specs.declared.Ending.TheVariants.{Returned}
 use Rattle.mv_ledger.proofs.Runs.StoredRuns.{tallied-after, settled-returned, settled-kept, small-kept, runs-to}
 use Rattle.mv_ledger_state.proofs.Runs.TalliesAfter.{most-after, small-after}
