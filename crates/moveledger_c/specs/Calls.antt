@@ -25,9 +25,9 @@ use Rattle.moveledger_c.specs.Statuses.{done, refused, load_refused, too_complex
 abbrev pub IsNew : ℤ → Option LedgerView → Type 0
 IsNew status held = ((status ≡ done) × (held ≡ Some empty_view)) ⊎ ((status ≡ memory) × (held ≡ None))
 
--- the ledger that bytes save is held; or they are none, for this reason; or memory ran out
+-- the ledger that bytes save is held, with no open block; or they are none, for this reason; or memory ran out
 abbrev pub IsLoadedAs : List ℕ → ℤ → ℕ → Option LedgerView → Type 0
-IsLoadedAs bytes status why held = ((status ≡ done) × (why ≡ 0) × (l : LedgerView) × (held ≡ Some l) × IsLoaded bytes (state_of l))
+IsLoadedAs bytes status why held = ((status ≡ done) × (why ≡ 0) × (l : LedgerView) × (held ≡ Some l) × (l.marks ≡ []) × IsLoaded bytes (state_of l))
     ⊎ (((status ≡ load_refused) × FailsLoad bytes why × (held ≡ None)) ⊎ ((status ≡ memory) × (why ≡ 0) × (held ≡ None)))
 
 -- Records that are numbered from before + 1 on are answered, and their lines stand behind what the report had; or memory ran out,
