@@ -1,12 +1,12 @@
 -- What was held where open blocks were begun stays, whatever records are answered.
-use Rattle.std.proofs.Common.{◌≡◌, ℕ, ◌+◌, List, [], ◌∷◌, ◌++◌, Option, ap, ◌∙◌, sym}
+use Rattle.std.proofs.Common.{◌≡◌, ℕ, ◌+◌, List, [], ◌∷◌, ap, ◌∙◌, sym}
 use Rattle.mv_machine.specs.Lines.{Reply, Published, Refused, Rejected, RanToEnd, RanToAbort, RanOut, Told}
 use Rattle.mv_ledger_state.specs.View.{LedgerView, HeldView, held_of}
 use Rattle.mv_ledger.specs.Changes.{Leaves}
 use Rattle.mv_ledger.proofs.Marks.{ends-same}
 use Rattle.moveledger.specs.Records.{Record, Whole, Cut}
-use Rattle.moveledger.specs.Headline.{Reports, Step}
-use Rattle.moveledger.specs.Outcome.{Begun, StopsAfter, StopsAt, part_of_a_record, read_and_nothing_done, being_answered}
+use Rattle.moveledger.specs.Headline.{Step}
+use Rattle.moveledger.specs.Outcome.{Begun, StopsAt, part_of_a_record, read_and_nothing_done, being_answered}
 use Rattle.moveledger.specs.Blocks.{EachReportKeepsMarks, EachStopKeepsMarks, EachBlockComesBack}
 
 -- a reply leaves it

@@ -1,8 +1,8 @@
 -- What several reads took, and what several writes gave, one after the other.
-use Rattle.std.proofs.Common.{◌≡◌, ℕ, ◌+◌, ◌-◌, ◌≤◌, List, [], ◌++◌, length, take, drop, arith, refl, sym, ap, ◌∙◌, subst, length-take-le, append-nil, Option, Some, None, take_all, length-drop}
+use Rattle.std.proofs.Common.{◌≡◌, ℕ, ◌+◌, ◌-◌, List, [], ◌++◌, length, take, drop, arith, refl, sym, subst, append-nil, Option, Some, None, take_all, length-drop}
 use Rattle.std.specs.Io.KnownBytes.{Consumes, Appends, IsAtEnd}
 use Rattle.std.proofs.KnownBytes.{Consumes-trans, Appends-nil, Appends-trans}
-use Rattle.std.proofs.Math.Seq.{take-append-add, take-append-le, take-add}
+use Rattle.std.proofs.Math.Seq.{take-add}
 use Rattle.moveledger.specs.Headline.{Tells}
 use Rattle.moveledger.specs.Outcome.{left_of}
 

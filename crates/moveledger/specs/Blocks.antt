@@ -4,7 +4,7 @@
 --   EachStopKeepsMarks       also where reading, writing or memory fails
 --   EachBlockComesBack       so a block that is taken back gives the ledger as it was
 use Rattle.std.specs.Prelude.{◌≡◌, ℕ, List, [], ◌∷◌, ◌++◌, Option}
-use Rattle.mv_ledger_state.specs.View.{LedgerView, HeldView, held_of}
+use Rattle.mv_ledger_state.specs.View.{LedgerView, held_of}
 use Rattle.mv_ledger.specs.Marks.{marked}
 use Rattle.moveledger.specs.Records.{Record}
 use Rattle.moveledger.specs.Headline.{Reports}

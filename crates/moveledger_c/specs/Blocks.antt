@@ -2,7 +2,7 @@
 --   IsBegun status old new        a block is opened
 --   IsTakenBack status old new    the newest block is taken back, and closed
 --   IsCommitted status old new    the newest block is closed, and what was changed in it is kept
-use Rattle.std.specs.Prelude.{◌≡◌, ℤ, List, [], ◌∷◌, ◌++◌, Option, Some, None, ◌⊎◌}
+use Rattle.std.specs.Prelude.{◌≡◌, ℤ, [], ◌∷◌, ◌++◌, Option, Some, None, ◌⊎◌}
 use Rattle.mv_ledger_state.specs.View.{LedgerView, HeldView, held_of}
 use Rattle.mv_ledger.specs.Marks.{marked}
 use Rattle.moveledger.specs.Blocks.{begun}

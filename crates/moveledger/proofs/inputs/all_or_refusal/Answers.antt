@@ -1,7 +1,6 @@
-use Rattle.std.proofs.Common.{◌++◌, ℕ, List, Option, length, subst, sym, take, arith}
+use Rattle.std.proofs.Common.{ℕ, List, subst, sym, take, arith}
 use Rattle.std.proofs.KnownBytes.{Consumes-trans}
-use Rattle.std.specs.Io.KnownBytes.{Consumes, IsAtEnd}
-use Rattle.mv_ledger_state.specs.Loading.{FailsLoad}
+use Rattle.std.specs.Io.KnownBytes.{Consumes}
 use Rattle.moveledger.proofs.Fronts.{whole-read, fails-read, found-fails}
 use Rattle.moveledger.proofs.inputs.all_or_refusal.Goals as goal
 

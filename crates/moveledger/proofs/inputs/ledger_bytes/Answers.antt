@@ -1,6 +1,5 @@
-use Rattle.std.proofs.Common.{◌≡◌, ℕ, List, length, take, true, arith, subst, sym}
+use Rattle.std.proofs.Common.{◌≡◌, ℕ, List, length, true, arith}
 use Rattle.std.proofs.lemmas.Grind.{common_steps}
-use Rattle.std.specs.Io.KnownBytes.{Consumes}
 use Rattle.moveledger.proofs.Marks.{unmarked-fails}
 use Rattle.moveledger.proofs.inputs.ledger_bytes.Goals as goal
 

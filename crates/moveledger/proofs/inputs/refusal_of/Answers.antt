@@ -1,4 +1,4 @@
-use Rattle.std.proofs.Common.{◌≡◌, ◌-◌, ◌<◌, ℕ, List, Option, Some, None, IfSome, length, take, arith, rules}
+use Rattle.std.proofs.Common.{arith, rules}
 use Rattle.std.proofs.lemmas.Grind.{common_steps}
 use Rattle.moveledger.proofs.Fronts.{longer-found}
 use Rattle.moveledger.proofs.inputs.refusal_of.Goals as goal
