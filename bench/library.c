@@ -1,7 +1,9 @@
 /* Asks a ledger by names and addresses, for library.py to measure.
- * usage: library FILE COINS THREES CALLS    answers the records of FILE, by which so many addresses have a coin, and the first few of them
- *        two values more. Then it asks for values by address and name, and for what stands at an address, so many times each, and for all
- *        coins in pages. It prints a line for each: the processor's seconds, how many calls, and how many values they told. */
+ * usage: library FILE COINS THREES CALLS BLOCKS BLOCK    answers the records of FILE, by which so many addresses have a coin, and the first
+ *        few of them two values more. Then it asks for values by address and name, and for what stands at an address, so many times each,
+ *        and for all coins in pages. At the end of FILE stand so many blocks of so many bytes: each is answered in a block that is taken
+ *        back, and then they are answered for good. It prints a line for each: the processor's seconds, how many calls, and how many
+ *        values they told, or bytes of a report. */
 #include "measuring.h"
 
 enum { KEYS = 1024, COMMON_LENGTH = 8 };
@@ -75,23 +77,43 @@ static void ask_for_pages(const moveledger *ledger)
     print(start, pages, told);
 }
 
+/* Blocks of records from a place on, each answered and taken back; then the same records without a block. */
+static void answer_blocks(moveledger *ledger, size_t begin, size_t block, uint64_t *answered)
+{
+    size_t taken_back = 0, kept = 0;
+    double start = seconds();
+    for (size_t at = begin; at < length; at += block) {
+        uint64_t number = *answered;
+        expect("begin", moveledger_begin(ledger));
+        apply(ledger, at, at + block, &number, &taken_back);
+        expect("rollback", moveledger_rollback(ledger));
+    }
+    print(start, (length - begin) / block, taken_back);
+    start = seconds();
+    for (size_t at = begin; at < length; at += block)
+        apply(ledger, at, at + block, answered, &kept);
+    print(start, (length - begin) / block, kept);
+}
+
 int main(int words, char **word)
 {
     moveledger ledger = {NULL, 0};
     uint64_t answered = 0;
     size_t written = 0;
-    if (words != 5) {
-        fprintf(stderr, "usage: library FILE COINS THREES CALLS\n");
+    if (words != 7) {
+        fprintf(stderr, "usage: library FILE COINS THREES CALLS BLOCKS BLOCK\n");
         return 2;
     }
     read_file(word[1]);
     const uint64_t coins = strtoull(word[2], NULL, 10), threes = strtoull(word[3], NULL, 10);
     const unsigned long calls = strtoul(word[4], NULL, 10);
+    const size_t block = strtoull(word[6], NULL, 10), begin = length - strtoull(word[5], NULL, 10) * block;
     expect("new", moveledger_new(&ledger));
-    apply(&ledger, 0, length, &answered, &written);
+    apply(&ledger, 0, begin, &answered, &written);
     ask_for_values(&ledger, coins, calls);
     ask_at(&ledger, threes, calls);
     ask_for_pages(&ledger);
+    answer_blocks(&ledger, begin, block, &answered);
     moveledger_free(&ledger);
     free(records);
     return 0;

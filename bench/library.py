@@ -1,6 +1,6 @@
 """What questions by names and addresses cost through the library's C calls: a value by its address and its struct's name among
-1,200,000 coins, a show of an address with 3 values among them, and all coins in pages; and a mint in a call of its own beside one in a
-call with many others. Times are the processor's, the least of several tries, and each is printed with its aim.
+1,200,000 coins, a show of an address with 3 values among them, and all coins in pages; a block of 1,000 mints that is taken back, beside the
+same mints without a block; and a mint in a call of its own beside one in a call with many others. Times are the processor's, the least of several tries, and each is printed with its aim.
 
 usage: python3 bench/library.py FOLDER [LIBRARY]    FOLDER is kept; LIBRARY is the folder of libmoveledger.a, that where
 bindings/library puts it if none is given. It needs cc, and counts machine instructions where there is a valgrind."""
@@ -18,16 +18,17 @@ from inputs import ASSET, Module, publish, record, run, u64
 from process import difference
 
 COINS, THREES, CALLS = 1_200_000, 1_000, 200_000
+BLOCKS, IN_BLOCK = 50, 1_000
 TRIES = 3
 # What the number of a coin is multiplied by, as library.c does it: so that addresses come in no order.
 SCATTERED = 0x9E3779B97F4A7C15
 # Where a record that runs a function has its sender: behind its kind and its length.
 SENDER = slice(2, 18)
-MOST_OF_VALUE, MOST_AT, MOST_OF_MINT = 2.0, 5.0, 1.2
+MOST_OF_VALUE, MOST_AT, MOST_OF_BLOCK, MOST_OF_MINT = 2.0, 5.0, 1.3, 1.2
 
 
 class Asked(NamedTuple):
-    """The seconds of calls, how many they were, and how many values they told."""
+    """The seconds of calls, how many they were, and how many values they told, or bytes of a report."""
 
     seconds: float
     calls: int
@@ -45,35 +46,41 @@ def coins() -> Tuple[bytes, bytes]:
     return m.bytes(), bytes([1, 1, 1, 0] * 2)
 
 
-def runs(function: str, count: int) -> List[bytes]:
-    """Runs of a function by the owners of the first coins."""
+def runs(function: str, count: int, first: int = 0) -> List[bytes]:
+    """Runs of a function by so many owners, from that of one coin on."""
     made = record(2, run(function, 100, u64(7)))
     front, behind = made[: SENDER.start], made[SENDER.stop :]
-    return [front + (nth * SCATTERED % 2**64 << 64).to_bytes(16, "big") + behind for nth in range(count)]
+    return [front + (nth * SCATTERED % 2**64 << 64).to_bytes(16, "big") + behind for nth in range(first, first + count)]
 
 
 def asked(folder: Path, measuring: Path, many: int, threes: int, calls: int) -> List[Asked]:
     """What the measuring program prints, the least seconds of several tries."""
-    (folder / "asked.stream").write_bytes(b"".join([record(1, publish(coins())), *runs("mint", many), *runs("more", threes)]))
+    blocks = runs("mint", BLOCKS * IN_BLOCK, many)
+    made = [record(1, publish(coins())), *runs("mint", many), *runs("more", threes), *blocks]
+    (folder / "asked.stream").write_bytes(b"".join(made))
+    length = IN_BLOCK * len(blocks[0])
     tries = []
     for _ in range(TRIES):
-        words = [str(word) for word in (measuring, folder / "asked.stream", many, threes, calls)]
+        words = [str(word) for word in (measuring, folder / "asked.stream", many, threes, calls, BLOCKS, length)]
         lines = subprocess.run(words, check=True, stdout=subprocess.PIPE, universal_newlines=True).stdout.splitlines()
         tries.append([Asked(float(line.split()[0]), *map(int, line.split()[1:])) for line in lines])
     best = [min(column) for column in zip(*tries)]
-    told = [answer.values for answer in best]
+    *told, taken_back, kept = [answer.values for answer in best]
     assert told == [calls, 3 * calls, many], f"{told} values are told, not {[calls, 3 * calls, many]}"
+    assert taken_back == kept, f"blocks that are taken back are answered with {taken_back} bytes, and without a block with {kept}"
     return best
 
 
 def tell_asked(best: List[Asked], many: int) -> None:
     """Prints a line for each kind of question."""
-    one, at, pages = best
-    of_one, of_three, of_many = (answer.seconds / answer.calls * 1e6 for answer in (one, at, pages))
+    pages = best[2]
+    of_one, of_three, of_many, of_block, of_kept = (answer.seconds / answer.calls * 1e6 for answer in best)
     print(f"library: a value by its address and struct among {many:,} coins: {of_one:.2f} microseconds (aim: {MOST_OF_VALUE} or less)")
     print(f"library: a show of an address with 3 values among them: {of_three:.2f} microseconds (aim: {MOST_AT} or less)")
     print(f"library: all of them in {pages.calls:,} pages: {of_many:.0f} microseconds a page, "
-          f"{pages.seconds / pages.values * 1e6:.2f} a value (no aim)", flush=True)
+          f"{pages.seconds / pages.values * 1e6:.2f} a value (no aim)")
+    print(f"library: a block of {IN_BLOCK:,} mints begun, answered and taken back beside them: {of_block:.0f} microseconds, and the mints alone "
+          f"{of_kept:.0f}, {of_block / of_kept:.2f} times (aim: {MOST_OF_BLOCK} or less)", flush=True)
 
 
 def tell_mints(folder: Path, measuring: Path) -> None:
