@@ -192,11 +192,13 @@ fn changes_are_told_by_key(rt: HostRuntime) -> Result<(), Fail> {
     assert!(rt; is_next(&mut changes, 7, Some(1), None));
     assert!(rt; is_next(&mut changes, 8, Some(2), Some(4)));
     assert!(rt; changes.next().is_none());
+    drop(changes);
     // Of the newest block alone.
     storage.begin()?;
     set(&mut storage, 8, Some(6))?;
     let mut changes = storage.changes()?;
     assert!(rt; is_next(&mut changes, 8, Some(4), Some(6)) && changes.next().is_none());
+    drop(changes);
     assert!(rt; storage.keep());
     let mut changes = storage.changes()?;
     assert!(rt; is_next(&mut changes, 6, None, Some(5)));
