@@ -1,10 +1,8 @@
 // Inputs through the engine, and the reports that come out.
 
 mod altered;
-mod blocks;
 mod fakes;
 mod faults;
-mod questions;
 mod rows;
 
 use fakes::{Pieces, Room};

@@ -132,23 +132,38 @@ fn blocks_of_many_keys_come_back(rt: HostRuntime) -> Result<(), Fail> {
     Ok(())
 }
 
+// A run that puts a value of many leaves, and is kept.
+fn put(storage: &mut Storage, value: Value) -> Result<(), AllocError> {
+    let mut overlay = storage.overlay();
+    overlay.put_new(key(7), value)?;
+    overlay.commit()
+}
+
+// A run that writes leaves into that value, and is kept. Whether the value is there.
+fn write(storage: &mut Storage, from: usize, leaves: &[u128]) -> Result<bool, AllocError> {
+    let mut overlay = storage.overlay();
+    let is_there = overlay.write(&key(7), from, leaves)?;
+    overlay.commit()?;
+    Ok(is_there)
+}
+
+// A run that goes on after it was kept, and is given up.
+fn go_on(storage: &mut Storage) -> Result<bool, AllocError> {
+    let mut overlay = storage.overlay();
+    let was_there = overlay.write(&key(7), 0, &[5])?;
+    overlay.commit()?;
+    let is_there = overlay.write(&key(7), 0, &[4])?;
+    overlay.discard();
+    Ok(was_there && is_there)
+}
+
 #[test]
 fn values_of_many_leaves_come_back(rt: HostRuntime) -> Result<(), Fail> {
     let alloc = rt.alloc();
     let mut storage = Storage::new(alloc);
-    let mut overlay = storage.overlay();
-    overlay.put_new(key(7), Value::words([1, 2, 3].to_vec(alloc)?))?;
-    overlay.commit()?;
-    overlay.discard();
+    put(&mut storage, Value::words([1, 2, 3].to_vec(alloc)?))?;
     storage.begin()?;
-    let mut overlay = storage.overlay();
-    assert!(rt; overlay.write(&key(7), 1, &[8, 9])?);
-    overlay.commit()?;
-    // The same run goes on, commits again, and is then given up.
-    assert!(rt; overlay.write(&key(7), 0, &[5])?);
-    overlay.commit()?;
-    assert!(rt; overlay.write(&key(7), 0, &[4])?);
-    overlay.discard();
+    assert!(rt; write(&mut storage, 1, &[8, 9])? && go_on(&mut storage)?);
     assert_eq!(rt; storage.get(&key(7)), Some([5, 8, 9].as_slice()));
     assert!(rt; storage.rollback());
     assert_eq!(rt; storage.get(&key(7)), Some([1, 2, 3].as_slice()));
