@@ -304,6 +304,31 @@ class Sequences(unittest.TestCase):
                     (ledger.commit if is_kept else ledger.rollback)()
                     self.assertEqual((ledger.save(), ledger.answered), wanted)
 
+    def test_rows_are_taken_back(self) -> None:
+        """Each worked row is answered in a block that is taken back. Then each of its records is tried out before it is answered, within a
+        block that is kept: the report, and what is saved, are those of a ledger without blocks."""
+        for number, records in enumerate(rows.of_rows()):
+            with self.subTest(number), moveledger.Ledger() as ledger, moveledger.Ledger() as plain:
+                wanted = plain.apply(b"".join(records)).text
+                ledger.begin()
+                self.assertEqual(ledger.apply(b"".join(records)).text, wanted)
+                ledger.rollback()
+                self.assertEqual((ledger.save(), ledger.answered), (moveledger.Ledger().save(), 0))
+                self.assertEqual("".join(self.tried(ledger, records)), wanted)
+                self.assertEqual((ledger.save(), ledger.answered), (plain.save(), plain.answered))
+
+    def tried(self, ledger: moveledger.Ledger, records: List[bytes]) -> List[str]:
+        """The lines of records, each of which is tried out and taken back before it is answered."""
+        lines = []
+        with ledger.block() as block:
+            for record in records:
+                with ledger.block() as trial:
+                    tried = trial.apply(record).text
+                    trial.rollback()
+                lines.append(block.apply(record).text)
+                self.assertEqual(tried, lines[-1])
+        return lines
+
 
 if __name__ == "__main__":
     unittest.main()
