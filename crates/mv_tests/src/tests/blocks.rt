@@ -99,12 +99,14 @@ fn nested_blocks_end_in_each_way(rt: HostRuntime) -> Result<(), Fail> {
 #[test]
 fn blocks_stand_a_thousand_deep(rt: HostRuntime) -> Result<(), Fail> {
     let mut storage = Storage::new(rt.alloc());
-    for depth in 0..1000 {
+    for depth in 0..1000_usize {
         storage.begin()?;
-        set(&mut storage, 7, Some(depth))?;
+        set(&mut storage, 7, Some(depth as u128))?;
     }
-    for depth in (0..1000).rev() {
-        assert_eq!(rt; stored(&storage, 7), Some(depth));
+    let mut newest = 1000_u128;
+    for _ in 0..1000_usize {
+        newest = newest.wrapping_sub(1);
+        assert_eq!(rt; stored(&storage, 7), Some(newest));
         assert!(rt; storage.rollback());
     }
     assert!(rt; stored(&storage, 7).is_none());
@@ -112,16 +114,21 @@ fn blocks_stand_a_thousand_deep(rt: HostRuntime) -> Result<(), Fail> {
     Ok(())
 }
 
+// Puts a leaf under each of many addresses, and takes out what one of them has.
+fn fill(storage: &mut Storage) -> Result<(), AllocError> {
+    for address in 0..5000_usize {
+        set(storage, address as u128, Some(address as u128))?;
+    }
+    set(storage, 600, None)
+}
+
 #[test]
 fn blocks_of_many_keys_come_back(rt: HostRuntime) -> Result<(), Fail> {
     let mut storage = Storage::new(rt.alloc());
     set(&mut storage, 500, Some(1))?;
-    for _ in 0..3 {
+    for _ in 0..3_usize {
         storage.begin()?;
-        for address in 0..5000 {
-            set(&mut storage, address, Some(address))?;
-        }
-        set(&mut storage, 600, None)?;
+        fill(&mut storage)?;
         assert_eq!(rt; stored(&storage, 500), Some(500));
         assert!(rt; storage.rollback());
         assert_eq!(rt; stored(&storage, 500), Some(1));
