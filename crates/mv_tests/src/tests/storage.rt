@@ -2,9 +2,9 @@
 ghost use Rattle.std.specs.Prelude.{◌≡◌, cond, OnErr, IfOk};
 ghost use Rattle.mv_storage.specs.FlatStorage.{with_words};
 
-use mv_move_types::{Definition, Key};
-use mv_storage::{Entries, Overlay, Storage, Value};
-use std::alloc::{AllocError, Global};
+use mv_move_types::Key;
+use mv_storage::{Overlay, Storage, Value};
+use std::alloc::AllocError;
 use std::test::Fail;
 
 // Keys that differ in the address, the place or the index alone.
@@ -270,93 +270,5 @@ fn keys_are_used_again(rt: HostRuntime) -> Result<(), Fail> {
     assert_eq!(rt; word(&mut overlay, &SECOND), None);
     assert_eq!(rt; word(&mut overlay, &FIRST), Some(8));
     assert_eq!(rt; word(&mut overlay, &THIRD), Some(12));
-    Ok(())
-}
-
-// The last of all keys at the last address.
-const LAST: Key = Key {
-    address: u128::MAX,
-    place: u16::MAX,
-    index: u16::MAX,
-};
-
-// Whether values of one leaf are these, under their keys, in this order.
-fn are(mut entries: Entries<'_>, wanted: &[(Key, u128)]) -> bool {
-    for (key, value) in wanted {
-        match entries.next() {
-            Some((found, [word])) if found == *key && word == value => (),
-            _ => return false,
-        }
-    }
-    entries.next().is_none()
-}
-
-// A storage with values under these keys, from which one was taken.
-fn with_values(alloc: Global) -> Result<Storage, AllocError> {
-    let mut storage = Storage::new(alloc);
-    let taken = Key { index: 2, ..FIRST };
-    for (key, value) in VALUES {
-        run(&mut storage, key, Value::leaf(value))?;
-    }
-    run(&mut storage, LAST, Value::leaf(4))?;
-    run(&mut storage, taken, Value::leaf(9))?;
-    let mut overlay = storage.overlay();
-    overlay.take(&taken)?;
-    overlay.commit()?;
-    overlay.discard();
-    Ok(storage)
-}
-
-#[test]
-fn values_are_found_by_address(rt: HostRuntime) -> Result<(), Fail> {
-    let storage = with_values(rt.alloc())?;
-    let all = [VALUES[0], VALUES[1], VALUES[2], VALUES[3], (LAST, 4)];
-    assert!(rt; are(storage.iter(), &all));
-    assert!(rt; are(storage.iter_from(THIRD), all.get(2..).unwrap_or(&[])));
-    assert!(rt; are(storage.values_at(7), all.get(..3).unwrap_or(&[])));
-    assert!(rt; are(storage.values_at(8), all.get(3..4).unwrap_or(&[])));
-    assert!(rt; are(storage.values_at(9), &[]));
-    assert!(rt; are(storage.values_at(u128::MAX), &[(LAST, 4)]));
-    assert!(rt; are(storage.value_at(SECOND), &[VALUES[1]]));
-    assert!(rt; are(storage.value_at(Key { index: 2, ..FIRST }), &[]));
-    let mut entries = storage.iter();
-    assert!(rt; entries.next().is_some());
-    assert!(rt; are(entries.copied(), all.get(1..).unwrap_or(&[])));
-    assert!(rt; are(entries, all.get(1..).unwrap_or(&[])));
-    Ok(())
-}
-
-#[test]
-fn values_of_a_struct_come_in_pages(rt: HostRuntime) -> Result<(), Fail> {
-    let storage = with_values(rt.alloc())?;
-    let first = Definition { place: 0, index: 0 };
-    let mut page = storage.page(first, 0, 1);
-    assert_eq!(rt; page.next_address(), Some(8));
-    assert!(rt;
-        page.next()
-            .is_some_and(|(key, words)| key == FIRST && words == [0].as_slice())
-    );
-    assert!(rt; page.next().is_none());
-    assert_eq!(rt; page.next_address(), Some(8));
-    let mut page = storage.page(first, 8, 1);
-    assert!(rt;
-        page.next()
-            .is_some_and(|(key, words)| key == FOURTH && words == [3].as_slice())
-    );
-    assert!(rt; page.next().is_none() && page.next_address().is_none());
-    // A page of no key stays where it is, and a long one tells all.
-    let mut page = storage.page(first, 8, 0);
-    assert!(rt; page.next().is_none());
-    assert_eq!(rt; page.next_address(), Some(8));
-    let mut page = storage.page(first, 0, 100);
-    assert!(rt; page.next_address().is_none());
-    assert!(rt; page.next().is_some() && page.next().is_some() && page.next().is_none());
-    let last = Definition {
-        place: u16::MAX,
-        index: u16::MAX,
-    };
-    let mut page = storage.page(last, 9, 1);
-    assert!(rt; page.next().is_some_and(|(key, _)| key == LAST));
-    assert!(rt; page.next_address().is_none());
     Ok(())
 }
