@@ -89,7 +89,7 @@ int32_t moveledger_apply(moveledger_own *ledger, const uint8_t *records, size_t 
 /* Blocks. begin opens a block: records are answered in it as ever. rollback closes the newest block and gives back the ledger as it was
  * when that block was opened; commit closes it and keeps what was changed, as a part of the block around it, if there is one. Blocks nest.
  * rollback and commit take no memory and can't fail; NO_BLOCK where no block is open. begin answers MEMORY where memory runs out, and
- * no block is opened then. A block notes what each change replaced, 80 bytes for a value and 48 for a count; the first bundle that is
+ * no block is opened then. A block notes what each change replaced, 96 bytes for a value and 80 for a count; the first bundle that is
  * published in a block also copies the published modules. A save, a show and the questions tell what is held now; a ledger that is loaded
  * has no open block. */
 int32_t moveledger_begin(moveledger_own *ledger);
