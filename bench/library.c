@@ -1,9 +1,9 @@
 /* Asks a ledger by names and addresses, for library.py to measure.
  * usage: library FILE COINS THREES CALLS BLOCKS BLOCK    answers the records of FILE, by which so many addresses have a coin, and the first
  *        few of them two values more. Then it asks for values by address and name, and for what stands at an address, so many times each,
- *        and for all coins in pages. At the end of FILE stand so many blocks of so many bytes: each is answered in a block that is taken
- *        back, and then they are answered for good. It prints a line for each: the processor's seconds, how many calls, and how many
- *        values they told, or bytes of a report. */
+ *        and for all coins in pages. At the end of FILE stand twice so many blocks of so many bytes: in turn, one is answered in a block that
+ *        is taken back, and one without a block. It prints a line for each: the processor's seconds, how many calls, and how many values they
+ *        told, or bytes of a report. */
 #include "measuring.h"
 
 enum { KEYS = 1024, COMMON_LENGTH = 8 };
@@ -77,22 +77,25 @@ static void ask_for_pages(const moveledger *ledger)
     print(start, pages, told);
 }
 
-/* Blocks of records from a place on, each answered and taken back; then the same records without a block. */
+/* Blocks of records from a place on: in turn one that is taken back, and one that is answered without a block. No address stands in two of
+ * them, so that neither finds in the processor's caches what the other has passed. */
 static void answer_blocks(moveledger *ledger, size_t begin, size_t block, uint64_t *answered)
 {
     size_t taken_back = 0, kept = 0;
-    double start = seconds();
-    for (size_t at = begin; at < length; at += block) {
+    double spent[2] = {0, 0};
+    for (size_t at = begin; at < length; at += 2 * block) {
+        const double start = seconds();
         uint64_t number = *answered;
         expect("begin", moveledger_begin(ledger));
         apply(ledger, at, at + block, &number, &taken_back);
         expect("rollback", moveledger_rollback(ledger));
+        const double middle = seconds();
+        apply(ledger, at + block, at + 2 * block, answered, &kept);
+        spent[0] += middle - start;
+        spent[1] += seconds() - middle;
     }
-    print(start, (length - begin) / block, taken_back);
-    start = seconds();
-    for (size_t at = begin; at < length; at += block)
-        apply(ledger, at, at + block, answered, &kept);
-    print(start, (length - begin) / block, kept);
+    printf("%f %lu %lu\n", spent[0], (length - begin) / block / 2, taken_back);
+    printf("%f %lu %lu\n", spent[1], (length - begin) / block / 2, kept);
 }
 
 int main(int words, char **word)
@@ -107,7 +110,7 @@ int main(int words, char **word)
     read_file(word[1]);
     const uint64_t coins = strtoull(word[2], NULL, 10), threes = strtoull(word[3], NULL, 10);
     const unsigned long calls = strtoul(word[4], NULL, 10);
-    const size_t block = strtoull(word[6], NULL, 10), begin = length - strtoull(word[5], NULL, 10) * block;
+    const size_t block = strtoull(word[6], NULL, 10), begin = length - 2 * strtoull(word[5], NULL, 10) * block;
     expect("new", moveledger_new(&ledger));
     apply(&ledger, 0, begin, &answered, &written);
     ask_for_values(&ledger, coins, calls);

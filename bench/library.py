@@ -1,6 +1,7 @@
 """What questions by names and addresses cost through the library's C calls: a value by its address and its struct's name among
-1,200,000 coins, a show of an address with 3 values among them, and all coins in pages; a block of 1,000 mints that is taken back, beside the
-same mints without a block; and a mint in a call of its own beside one in a call with many others. Times are the processor's, the least of several tries, and each is printed with its aim.
+1,200,000 coins, a show of an address with 3 values among them, and all coins in pages; a block of 1,000 mints that is taken back, beside
+as many mints without a block; a save in pieces, with
+the memory that it takes; and a mint in a call of its own beside one in a call with many others. Times are the processor's, the least of several tries, and each is printed with its aim.
 
 usage: python3 bench/library.py FOLDER [LIBRARY]    FOLDER is kept; LIBRARY is the folder of libmoveledger.a, that where
 bindings/library puts it if none is given. It needs cc, and counts machine instructions where there is a valgrind."""
@@ -24,7 +25,9 @@ TRIES = 3
 SCATTERED = 0x9E3779B97F4A7C15
 # Where a record that runs a function has its sender: behind its kind and its length.
 SENDER = slice(2, 18)
-MOST_OF_VALUE, MOST_AT, MOST_OF_BLOCK, MOST_OF_MINT = 2.0, 5.0, 1.3, 1.2
+MOST_OF_VALUE, MOST_AT, MOST_OF_BLOCK, MOST_OF_MINT, MOST_BESIDE = 2.0, 5.0, 1.3, 1.2, 1_024
+# So many coins are saved as 100 MB.
+SAVED = 4_166_000
 
 
 class Asked(NamedTuple):
@@ -55,7 +58,7 @@ def runs(function: str, count: int, first: int = 0) -> List[bytes]:
 
 def asked(folder: Path, measuring: Path, many: int, threes: int, calls: int) -> List[Asked]:
     """What the measuring program prints, the least seconds of several tries."""
-    blocks = runs("mint", BLOCKS * IN_BLOCK, many)
+    blocks = runs("mint", 2 * BLOCKS * IN_BLOCK, many)
     made = [record(1, publish(coins())), *runs("mint", many), *runs("more", threes), *blocks]
     (folder / "asked.stream").write_bytes(b"".join(made))
     length = IN_BLOCK * len(blocks[0])
@@ -80,7 +83,25 @@ def tell_asked(best: List[Asked], many: int) -> None:
     print(f"library: all of them in {pages.calls:,} pages: {of_many:.0f} microseconds a page, "
           f"{pages.seconds / pages.values * 1e6:.2f} a value (no aim)")
     print(f"library: a block of {IN_BLOCK:,} mints begun, answered and taken back beside them: {of_block:.0f} microseconds, and the mints alone "
-          f"{of_kept:.0f}, {of_block / of_kept:.2f} times (aim: {MOST_OF_BLOCK} or less)", flush=True)
+          f"{of_kept:.0f}, {of_block / of_kept:.2f} times by the clock, which has the caches' share (no aim)", flush=True)
+
+
+def tell_blocks(folder: Path, measuring: Path) -> None:
+    """Prints how many times the machine instructions of 1,000 mints the same take in a block that is taken back."""
+    (folder / "mints.stream").write_bytes(b"".join(mints(beside.MINTS * 2)))
+    half, parts, blocks = (Side(folder, measuring, way).instructions("mints.stream") for way in ("half", "parts", "blocks"))
+    taken_back, kept = difference(blocks, half), difference(parts, half)
+    if taken_back is not None and kept is not None:
+        print(f"library: a block of {IN_BLOCK:,} mints begun, answered and taken back: {taken_back / kept:.2f} times the machine instructions of "
+              f"the mints alone (aim: {MOST_OF_BLOCK} or less)", flush=True)
+
+
+def tell_pieces(folder: Path, measuring: Path, many: int) -> None:
+    """Prints what a save in pieces takes beside the ledger."""
+    (folder / "many.stream").write_bytes(b"".join([record(1, publish(coins())), *runs("mint", many)]))
+    seconds, size, beside_it = Side(folder, measuring, "saved").report("many.stream").split()
+    print(f"library: {many:,} coins saved in pieces: {int(size) / 1e6:.1f} MB in {float(seconds):.2f} s of the processor, and {int(beside_it):,} KB "
+          f"of memory beside the ledger (aim: {MOST_BESIDE:,} or less)", flush=True)
 
 
 def tell_mints(folder: Path, measuring: Path) -> None:
@@ -108,7 +129,10 @@ def main() -> None:
     folder, library = told.folder.resolve(), told.library.resolve()
     threes = min(THREES, told.coins)
     tell_asked(asked(folder, embedding.compiled(folder, library, "library"), told.coins, threes, told.calls), told.coins)
-    tell_mints(folder, embedding.compiled(folder, library))
+    measuring = embedding.compiled(folder, library)
+    tell_pieces(folder, measuring, min(SAVED, 4 * told.coins))
+    tell_blocks(folder, measuring)
+    tell_mints(folder, measuring)
 
 
 if __name__ == "__main__":

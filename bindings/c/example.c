@@ -4,11 +4,10 @@
  *     make run        in this folder
  */
 #include "moveledger.h"
+#include "moveledger_records.h"
 
-#include <stdbool.h>
 #include <stdio.h>
 #include <stdlib.h>
-#include <string.h>
 
 /* The bytes of the module 0x1::M, which tools/moveasm makes of examples/coin.text:
  *
@@ -25,15 +24,9 @@ static const uint8_t COIN[] = {
     0x01, 0x02, 0x03, 0x00, 0x01, 0x04, 0x00, 0x00, 0x05, 0x0e, 0x00, 0x0b, 0x01, 0x12, 0x00, 0x2d, 0x00, 0x02, 0x00,
 };
 
-/* The struct's name, by which its values are asked for, and an address. */
+/* The struct's name, by which its values are asked for, and two addresses. */
 static const moveledger_struct COIN_NAME = {{[15] = 1}, "M", "Coin"};
-static const uint8_t SECOND[16] = {[15] = 2};
-
-/* Bytes that are put together here: a record's payload, or records. */
-struct text {
-    uint8_t bytes[512];
-    size_t length;
-};
+static const uint8_t FIRST[16] = {[15] = 1}, SECOND[16] = {[15] = 2};
 
 /* Ends the program where a call didn't do what it was asked for. */
 static void expect(const char *call, int32_t status)
@@ -44,93 +37,25 @@ static void expect(const char *call, int32_t status)
     }
 }
 
-static void put(struct text *text, const void *bytes, size_t length)
+/* A record that publishes the coin's module, by the address 1, with the certificate that the library makes. */
+static void put_publish(moveledger_records *records)
 {
-    if (length > sizeof text->bytes - text->length) {
-        fprintf(stderr, "a record is longer than this example has room for\n");
-        exit(1);
-    }
-    memcpy(text->bytes + text->length, bytes, length);
-    text->length += length;
-}
-
-static void put_byte(struct text *text, uint8_t byte)
-{
-    put(text, &byte, 1);
-}
-
-/* A number in seven bits a byte, the lowest first (ULEB128), as lengths and counts are written. */
-static void put_number(struct text *text, uint64_t number)
-{
-    for (; number > 127; number >>= 7)
-        put_byte(text, (uint8_t)(number | 128));
-    put_byte(text, (uint8_t)number);
-}
-
-/* An address of 16 bytes: this number, the highest byte first. */
-static void put_address(struct text *text, uint8_t number)
-{
-    const uint8_t address[16] = {[15] = number};
-    put(text, address, sizeof address);
-}
-
-static void put_name(struct text *text, const char *name)
-{
-    put_number(text, strlen(name));
-    put(text, name, strlen(name));
-}
-
-/* A record: its kind, the length of its payload, and the payload (docs/FORMATS.md, "Records"). */
-static void put_record(struct text *records, uint8_t kind, const struct text *payload)
-{
-    put_byte(records, kind);
-    put_number(records, payload->length);
-    put(records, payload->bytes, payload->length);
-}
-
-/* The certificate's bytes from its hexadecimal. */
-static void put_decoded(struct text *text, const moveledger_bytes *hexadecimal)
-{
-    for (size_t at = 0; at + 1 < hexadecimal->length; at += 2) {
-        const char digits[3] = {(char)hexadecimal->bytes[at], (char)hexadecimal->bytes[at + 1], 0};
-        put_byte(text, (uint8_t)strtoul(digits, NULL, 16));
-    }
-}
-
-/* A record that publishes the coin's module, by the address 1. */
-static void put_publish(struct text *records)
-{
-    moveledger_bytes hexadecimal = {NULL, 0, NULL};
+    moveledger_bytes certificate = {NULL, 0, NULL};
     uint8_t why;
-    struct text certificate = {.length = 0}, payload = {.length = 0};
 
-    expect("moveledger_prove", moveledger_prove(COIN, sizeof COIN, &hexadecimal, &why));
-    put_decoded(&certificate, &hexadecimal);
-    moveledger_bytes_free(&hexadecimal);
-
-    put_address(&payload, 1);
-    put_number(&payload, 1); /* the number of modules */
-    put_number(&payload, sizeof COIN);
-    put(&payload, COIN, sizeof COIN);
-    put_number(&payload, certificate.length);
-    put(&payload, certificate.bytes, certificate.length);
-    put_record(records, 1, &payload);
+    expect("moveledger_prove", moveledger_prove(COIN, sizeof COIN, &certificate, &why));
+    moveledger_decode(&certificate);
+    const moveledger_offer offer = {COIN, sizeof COIN, certificate.bytes, certificate.length};
+    moveledger_put_publish(records, FIRST, &offer, 1);
+    moveledger_bytes_free(&certificate);
 }
 
 /* A record that runs 0x1::M::mint(value) by an address, with a budget of 100 steps. */
-static void put_mint(struct text *records, uint8_t sender, uint8_t value)
+static void put_mint(moveledger_records *records, const uint8_t *sender, uint64_t value)
 {
-    struct text payload = {.length = 0};
-    const uint8_t u64_of_value[9] = {0x03, value}; /* the type u64, and the number in 8 bytes, the lowest first */
-
-    put_address(&payload, sender);
-    put_address(&payload, 1);
-    put_name(&payload, "M");
-    put_name(&payload, "mint");
-    put_number(&payload, 100);
-    put_number(&payload, 1); /* the number of arguments */
-    put(&payload, u64_of_value, sizeof u64_of_value);
-    put_record(records, 2, &payload);
+    const moveledger_argument argument = moveledger_u64(value);
+    const moveledger_call mint = {sender, FIRST, "M", "mint", 100, &argument, 1};
+    moveledger_put_run(records, &mint);
 }
 
 /* Prints bytes that the library gave, and frees them. */
@@ -141,7 +66,7 @@ static void print(moveledger_bytes *bytes)
 }
 
 /* Answers records, and prints their lines. `answered` counts the records of all calls, by which lines are numbered. */
-static void answer(moveledger *ledger, const struct text *records, uint64_t *answered)
+static void answer(moveledger *ledger, const moveledger_records *records, uint64_t *answered)
 {
     moveledger_bytes report = {NULL, 0, NULL};
     expect("moveledger_apply", moveledger_apply(ledger, records->bytes, records->length, answered, &report));
@@ -152,13 +77,14 @@ int main(void)
 {
     moveledger ledger = {NULL, 0};
     uint64_t answered = 0;
-    struct text block = {.length = 0}, next = {.length = 0};
+    uint8_t room[512];
+    moveledger_records block = {room, sizeof room, 0}, next = {room, sizeof room, 0};
     moveledger_bytes saved = {NULL, 0, NULL}, lines = {NULL, 0, NULL};
     uint8_t why;
 
     expect("moveledger_new", moveledger_new(&ledger));
     put_publish(&block);
-    put_mint(&block, 1, 7);
+    put_mint(&block, FIRST, 7);
     answer(&ledger, &block, &answered);
     expect("moveledger_show", moveledger_show(&ledger, MOVELEDGER_TEXT, &lines));
     print(&lines);
@@ -169,7 +95,7 @@ int main(void)
 
     expect("moveledger_load", moveledger_load(saved.bytes, saved.length, &ledger, &why));
     moveledger_bytes_free(&saved);
-    put_mint(&next, 2, 9);
+    put_mint(&next, SECOND, 9);
     answer(&ledger, &next, &answered);
     /* One value, which is found by its address and its struct: the others cost nothing. */
     expect("moveledger_show_value", moveledger_show_value(&ledger, SECOND, &COIN_NAME, MOVELEDGER_TEXT, &lines));

@@ -43,7 +43,7 @@ pub use mv_commands::{
     claim_place, command, is_one, keep, not_text, release,
 };
 pub use mv_ledger::{Entries, Format, Ledger, Lines, LoadError, Modules, Page, StructName, Tally};
-pub use pacing::{AfterRecord, Gathering, Prompt};
+pub use pacing::{AfterRecord, Gathering, MOST_LINE_BYTES, Prompt, Reserving};
 pub use proving::prove_text;
 pub use reporting::report;
 pub use saved::{end_of_text, loaded, migrated, text_to_keep};
