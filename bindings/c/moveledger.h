@@ -79,6 +79,15 @@ typedef struct moveledger_struct {
     const char *name;
 } moveledger_struct;
 
+/* What a record is. */
+typedef struct moveledger_record {
+    size_t length;                      /* how many bytes it takes: the next record begins behind them */
+    uint64_t budget;                    /* the most steps of a run; otherwise 0 */
+    uint8_t sender[16];                 /* who publishes or runs; otherwise zeros */
+    uint8_t kind;                       /* 1 publish, 2 run, 3 show, 4 audit; others are answered `refused 1` */
+    uint8_t is_shaped;                  /* 1 if the payload is that of a publish or a run record; otherwise 0, and so are sender and budget */
+} moveledger_record;
+
 /* An empty ledger in *ledger. After anything but DONE *ledger holds none. What it held before is overwritten, and not freed. */
 int32_t moveledger_new(moveledger_own *ledger);
 /* The ledger that the bytes save, in *ledger, as with moveledger_new; *why is the reason after LOAD_REFUSED, otherwise 0. */
@@ -160,6 +169,10 @@ int32_t moveledger_tally(moveledger_own *ledger, const uint8_t *home, const uint
 /* Without a ledger. prove: the certificate's hexadecimal, as the command prints it, without a line end. It has no limit of time;
  * prove_within takes so many steps at most, where a step is one instruction of one visit of its block: TOO_LONG where they don't suffice.
  * check: DONE where the module passes with the certificate of that text. migrate: a saved ledger in the current form. */
+/* Through this header, read_record gives the record at the front of bytes in a moveledger_record, without answering it; ABSENT where no whole
+ * one stands there, and *record is zeros after anything but DONE. With its budget moveledger_most_bytes tells how much it may store. */
+int32_t moveledger_read_record(const uint8_t *records, size_t length, size_t *size, uint8_t *kind, uint8_t *is_shaped, uint8_t *sender,
+                               uint64_t *budget);
 int32_t moveledger_prove(const uint8_t *module, size_t length, moveledger_bytes *certificate, uint8_t *why);
 int32_t moveledger_prove_within(const uint8_t *module, size_t length, uint64_t steps, moveledger_bytes *certificate, uint8_t *why);
 int32_t moveledger_check(const uint8_t *module, size_t length, const uint8_t *certificate, size_t certificate_length, uint8_t *why);
@@ -436,6 +449,17 @@ static inline int32_t moveledger_tally_tested(const moveledger *ledger, const mo
     moveledger_ends_use(ledger);
     return status;
 }
+static inline int32_t moveledger_read_record_tested(const uint8_t *records, size_t length, moveledger_record *record) {
+    if (record) memset(record, 0, sizeof *record);
+    return moveledger_is_slice(records, length) && record
+               ? moveledger_read_record(records, length, &record->length, &record->kind, &record->is_shaped, record->sender, &record->budget)
+               : (int32_t)MOVELEDGER_ARGUMENTS;
+}
+/* The most bytes by which a run with this budget makes a ledger grow: a value of at most 4,300 bytes for each three steps. A budget above
+ * 10,000,000 is rejected, and stores nothing. */
+static inline uint64_t moveledger_most_bytes(uint64_t budget) {
+    return budget > 10000000 ? 0 : budget / 3 * 4300;
+}
 static inline int32_t moveledger_prove_tested(const uint8_t *module, size_t length, moveledger_bytes *certificate, uint8_t *why) {
     moveledger_clear_bytes(certificate);
     moveledger_clear_reason(why);
@@ -491,6 +515,7 @@ static inline void moveledger_bytes_free_tested(moveledger_bytes *bytes) {
     moveledger_module_tested(ledger, address, name, module, certificate)
 #define moveledger_runs(ledger, runs) moveledger_runs_tested(ledger, runs)
 #define moveledger_tally(ledger, name, packed, unpacked) moveledger_tally_tested(ledger, name, packed, unpacked)
+#define moveledger_read_record(records, length, record) moveledger_read_record_tested(records, length, record)
 #define moveledger_prove(module, length, certificate, why) moveledger_prove_tested(module, length, certificate, why)
 #define moveledger_prove_within(module, length, steps, certificate, why) \
     moveledger_prove_within_tested(module, length, steps, certificate, why)

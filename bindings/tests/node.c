@@ -56,6 +56,19 @@ static void try_records(void)
         for (size_t at = size; at <= sizeof wanted; ++at)
             want(room[at] == 0xee, "nothing is written beyond the room");
     }
+    moveledger_record record;
+    want(moveledger_read_record(wanted, sizeof wanted, &record) == MOVELEDGER_DONE && record.length == sizeof wanted && record.kind == 2
+         && record.is_shaped == 1 && record.budget == 300 && memcmp(record.sender, ONE, 16) == 0, "a run is read");
+    want(moveledger_most_bytes(record.budget) == 430000 && moveledger_most_bytes(10000001) == 0, "a run stores at most so much");
+    for (size_t size = 0; size < sizeof wanted; ++size)
+        want(moveledger_read_record(wanted, size, &record) == MOVELEDGER_ABSENT && record.length == 0 && record.kind == 0, "a cut record isn't read");
+    want(moveledger_read_record(stream, length, &record) == MOVELEDGER_DONE && record.length == SECOND_RECORD && record.kind == 1
+         && record.is_shaped == 1 && record.budget == 0 && memcmp(record.sender, ONE, 16) == 0, "a bundle is read");
+    want(moveledger_read_record((const uint8_t *)"\3\1\1", 3, &record) == MOVELEDGER_DONE && record.length == 3 && record.kind == 3
+         && record.is_shaped == 0, "a show is read");
+    want(moveledger_read_record((const uint8_t *)"\2\1\1", 3, &record) == MOVELEDGER_DONE && record.kind == 2 && record.is_shaped == 0, "a bad run is read");
+    want(moveledger_read_record(NULL, 3, &record) == MOVELEDGER_ARGUMENTS && moveledger_read_record(stream, 3, NULL) == MOVELEDGER_ARGUMENTS,
+         "a record wants its places");
     made.length = 0;
     moveledger_put_publish(&made, ONE, &offer, 1);
     want(made.length == SECOND_RECORD && memcmp(room, stream, SECOND_RECORD) == 0, "a bundle is as the example has it");

@@ -1,7 +1,7 @@
 """Ledgers, and what needs none."""
 
 import json as json_text
-from ctypes import byref, c_uint8, c_uint64
+from ctypes import byref, c_size_t, c_uint8, c_uint64
 from threading import Lock
 from types import TracebackType
 from typing import Any, Callable, Dict, Iterator, List, NamedTuple, NoReturn, Optional, Tuple, Type
@@ -338,6 +338,31 @@ def counted(answered: int) -> int:
     if not 0 <= answered < 1 << 64:
         raise ValueError(f"{answered} is no number of answered records: it is at least 0, and below 2^64")
     return answered
+
+
+class Record(NamedTuple):
+    """A record that isn't answered yet: its kind (1 publish, 2 run, 3 show, 4 audit), and how many bytes it takes, behind which the next one
+    begins. Of a publish or a run record, its sender; and of a run, the most steps that it may take. `sender` is None where the payload isn't
+    that of such a record."""
+
+    kind: int
+    length: int
+    sender: Optional[int]
+    budget: int
+
+    @property
+    def most_bytes(self) -> int:
+        """The most bytes by which a run makes a ledger grow: a value for each three steps. 0 for other kinds, whose bytes say it."""
+        return self.budget // 3 * 4300 if self.budget <= 10_000_000 else 0
+
+
+def first_record(records: bytes) -> Optional[Record]:
+    """The record that bytes begin with, without answering it. None where no whole one stands there."""
+    size, kind, is_shaped, sender, budget = c_size_t(), c_uint8(), c_uint8(), Place(), c_uint64()
+    words = [byref(place) for place in (size, kind, is_shaped, sender, budget)]
+    if not lib.is_found(library().read_record(*lib.text(records), *words)):
+        return None
+    return Record(kind.value, size.value, int.from_bytes(bytes(sender), "big") if is_shaped.value else None, budget.value)
 
 
 def prove(module: bytes, steps: Optional[int] = None) -> bytes:

@@ -61,6 +61,7 @@ CALLS = {
     "module": [POINTER(Holder), c_char_p, *TEXT, POINTER(Bytes), POINTER(Bytes)],
     "runs": [POINTER(Holder), POINTER(c_uint64)],
     "tally": [POINTER(Holder), *STRUCT, POINTER(c_uint64), POINTER(c_uint64)],
+    "read_record": [*TEXT, POINTER(c_size_t), POINTER(c_uint8), POINTER(c_uint8), POINTER(Place), POINTER(c_uint64)],
     "prove": [*TEXT, POINTER(Bytes), POINTER(c_uint8)],
     "prove_within": [*TEXT, c_uint64, POINTER(Bytes), POINTER(c_uint8)],
     "check": [*TEXT, *TEXT, POINTER(c_uint8)],

@@ -103,6 +103,15 @@ extern "C" {
         packed: *mut u64,
         unpacked: *mut u64,
     ) -> i32;
+    pub fn moveledger_read_record(
+        records: *const u8,
+        length: usize,
+        size: *mut usize,
+        kind: *mut u8,
+        is_shaped: *mut u8,
+        sender: *mut [u8; 16],
+        budget: *mut u64,
+    ) -> i32;
     pub fn moveledger_prove(
         module: *const u8,
         length: usize,

@@ -19,6 +19,7 @@ mod blocks;
 mod checking;
 mod continuing;
 mod ending;
+mod fronts;
 mod inputs;
 mod modules;
 mod pacing;
@@ -37,6 +38,7 @@ pub use ending::{
     End, end_of, end_of_check, end_of_keeping, end_of_proof, end_of_words, ended, fault_text,
     status,
 };
+pub use fronts::{Front, first_record};
 pub use mv_analyser::ProveError;
 pub use mv_commands::{
     Found, Hold, KeepError, LineError, Looks, Notice, Place, Seen, Sort, Stand, Task, Tell,

@@ -4,3 +4,4 @@ pub mod Calls
 pub mod Blocks
 pub mod Giving
 pub mod Questions
+pub mod Records

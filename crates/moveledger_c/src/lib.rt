@@ -11,6 +11,7 @@ mod ledgers;
 mod modules;
 mod parts;
 mod questions;
+mod records;
 mod shows;
 mod status;
 mod texts;
