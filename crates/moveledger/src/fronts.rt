@@ -1,5 +1,5 @@
 // What record stands at the front of bytes, without answering it.
-ghost use Rattle.std.specs.Prelude.{◌≡◌, ◌≤◌, length, take, MatchOption};
+ghost use Rattle.std.specs.Prelude.{◌≤◌, length, take, MatchOption};
 ghost use Rattle.mv_uleb.specs.Uleb.{IsUleb};
 ghost use Rattle.mv_move_types.specs.Limits.{most_payload_bytes};
 ghost use Rattle.moveledger.specs.Records.{IsText, NoWhole};
