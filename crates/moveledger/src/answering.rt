@@ -106,23 +106,16 @@ fn put_number(line: &mut Vec<u8>, number: u64, is_begun: bool) -> Result<(), All
     if is_begun {
         return Ok(());
     }
-    let mut digits = Buffer::new();
-    line.extend_from_slice(digits.format(number).as_bytes())?;
-    line.push(b' ')?;
-    Ok(())
+    put_number_and(line, number, b' ')
 }
 
 /// Appends the line of a word, with the blank after it, and a number.
 fn put_count(line: &mut Vec<u8>, number: u64, word: &str, n: u64) -> Result<(), AllocError>
     ensures { OnOk result (line.new.items ≡ line.old.items ++ numbered number (word.now ++ decimal n)) }
 {
-    let mut digits = Buffer::new();
-    line.extend_from_slice(digits.format(number).as_bytes())?;
-    line.push(b' ')?;
+    put_number_and(line, number, b' ')?;
     line.extend_from_slice(word.as_bytes())?;
-    line.extend_from_slice(digits.format(n).as_bytes())?;
-    line.push(b'\n')?;
-    Ok(())
+    put_number_and(line, n, b'\n')
 }
 
 /// Appends the line of a run that was had.
