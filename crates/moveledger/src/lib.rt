@@ -39,14 +39,14 @@ pub use ending::{
     status,
 };
 pub use fronts::{Front, first_record};
-pub use mv_analyser::ProveError;
+pub use mv_analyser::{LimitError, ProveError};
 pub use mv_commands::{
     Found, Hold, KeepError, LineError, Looks, Notice, Place, Seen, Sort, Stand, Task, Tell,
     claim_place, command, is_one, keep, not_text, release,
 };
 pub use mv_ledger::{Entries, Format, Ledger, Lines, LoadError, Modules, Page, StructName, Tally};
 pub use pacing::{AfterRecord, Gathering, MOST_LINE_BYTES, Prompt, Reserving};
-pub use proving::prove_text;
+pub use proving::{prove_text, prove_text_within};
 pub use reporting::report;
 pub use saved::{end_of_text, loaded, migrated, text_to_keep};
 pub use streaming::{EngineError, answer_from, engine, one_reading, one_report};
