@@ -19,13 +19,13 @@ mod blocks;
 mod checking;
 mod continuing;
 mod ending;
-mod fronts;
 mod inputs;
 mod modules;
 mod pacing;
 mod printing;
 mod proving;
 mod reading;
+mod records;
 mod reporting;
 mod saved;
 mod streaming;
@@ -38,7 +38,6 @@ pub use ending::{
     End, end_of, end_of_check, end_of_keeping, end_of_proof, end_of_words, ended, fault_text,
     status,
 };
-pub use fronts::{Front, first_record};
 pub use mv_analyser::{LimitError, ProveError};
 pub use mv_commands::{
     Found, Hold, KeepError, LineError, Looks, Notice, Place, Seen, Sort, Stand, Task, Tell,
@@ -47,6 +46,7 @@ pub use mv_commands::{
 pub use mv_ledger::{Entries, Format, Ledger, Lines, LoadError, Modules, Page, StructName, Tally};
 pub use pacing::{AfterRecord, Gathering, MOST_LINE_BYTES, Prompt, Reserving};
 pub use proving::{prove_text, prove_text_within};
+pub use records::{Front, first_record};
 pub use reporting::report;
 pub use saved::{end_of_text, loaded, migrated, text_to_keep};
 pub use streaming::{EngineError, answer_from, engine, one_reading, one_report};
