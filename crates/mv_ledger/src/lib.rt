@@ -16,6 +16,7 @@
 #![tactic(auto)]
 
 mod blocks;
+mod changed;
 mod executing;
 mod format;
 mod laws;
@@ -31,6 +32,7 @@ ghost use Rattle.mv_ledger_state.specs.Accepted.SoundLedger.{IsSoundLedger};
 ghost use Rattle.mv_ledger_state.specs.SavedLaws.{IsSavable};
 ghost use Rattle.mv_ledger_state.specs.SavedText.{IsSavedText, Second};
 
+pub use changed::ChangedModules;
 use executing::{Barred, admitted};
 pub use format::Format;
 use format::read_format;
@@ -45,7 +47,7 @@ pub use modules::Modules;
 pub use mv_interface::StructName;
 pub use mv_ledger_state::LoadError;
 use mv_ledger_state::{Published, read_run, text_of};
-pub use mv_lines::{Lines, Piece};
+pub use mv_lines::{Lines, Piece, Side};
 use mv_machine::Outcome;
 pub use mv_machine::Tally;
 use mv_move_types::Refusal;
