@@ -42,7 +42,9 @@ pub use mv_commands::{
     Found, Hold, KeepError, LineError, Looks, Notice, Place, Seen, Sort, Stand, Task, Tell,
     claim_place, command, is_one, keep, not_text, release,
 };
-pub use mv_ledger::{Entries, Format, Ledger, Lines, LoadError, Modules, Page, StructName, Tally};
+pub use mv_ledger::{
+    Entries, Format, Ledger, Lines, LoadError, Modules, Page, Saving, StructName, Tally,
+};
 pub use pacing::{AfterRecord, Gathering, Prompt};
 pub use proving::prove_text;
 pub use reporting::report;
