@@ -43,7 +43,10 @@ pub use mv_commands::{
     Found, Hold, KeepError, LineError, Looks, Notice, Place, Seen, Sort, Stand, Task, Tell,
     claim_place, command, is_one, keep, not_text, release,
 };
-pub use mv_ledger::{Entries, Format, Ledger, Lines, LoadError, Modules, Page, StructName, Tally};
+pub use mv_ledger::{
+    ChangedModules, Changes, Entries, Format, Ledger, Lines, LoadError, Modules, Page, Saving, Side,
+    StructName, Tally,
+};
 pub use pacing::{AfterRecord, Gathering, MOST_LINE_BYTES, Prompt, Reserving};
 pub use proving::{prove_text, prove_text_within};
 pub use records::{Front, first_record};

@@ -27,6 +27,7 @@ mod unread;
 pub use mv_linker::Store;
 pub use payload::{RunRecord, read_run};
 pub use published::Published;
+pub use saved::flowing::Saving;
 pub use saved::loading::longer::refusal_of_longer;
 pub use saved::loading::{LoadError, Loaded, load};
 pub use saved::saving::text_of;
