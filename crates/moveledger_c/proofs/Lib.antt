@@ -1,3 +1,4 @@
 pub mod Values
 pub mod Reports
 pub mod Asked
+pub mod Changed

@@ -5,3 +5,4 @@ pub mod Blocks
 pub mod Giving
 pub mod Questions
 pub mod Records
+pub mod Changes

@@ -6,6 +6,7 @@
 
 mod blocks;
 mod bytes;
+mod changes;
 mod holder;
 mod ledgers;
 mod modules;
