@@ -1,5 +1,5 @@
 // What is written for a record.
-ghost use Rattle.std.specs.Prelude.{◌≡◌, ◌≢◌, ◌⊎◌, ◌++◌, Some, Err, IfOk, IfErr, OnOk, codes, decimal, flat_map};
+ghost use Rattle.std.specs.Prelude.{◌≡◌, ◌≢◌, ◌⊎◌, ◌++◌, ◌∷◌, [], Some, Err, IfOk, IfErr, OnOk, codes, decimal, flat_map};
 ghost use Rattle.std.specs.Io.KnownBytes.{Appends};
 ghost use Rattle.mv_machine.specs.Ledger.{AsText};
 ghost use Rattle.mv_machine.specs.Lines.{Reply as Told, numbered, kind_text, stop_text};
