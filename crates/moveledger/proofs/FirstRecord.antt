@@ -1,7 +1,7 @@
 -- The record at the front of bytes.
-use Rattle.std.proofs.Common.{◌≡◌, ℕ, ◌+◌, ◌≤◌, ◌<◌, List, [], ◌∷◌, ◌++◌, length, take, drop, arith, refl, sym, ap, subst, ◌∙◌, take-append-drop}
+use Rattle.std.proofs.Common.{◌≡◌, ℕ, suc, ◌+◌, ◌-◌, ◌≤◌, ◌<◌, List, [], ◌∷◌, ◌++◌, length, take, drop, arith, refl, sym, ap, subst, ◌∙◌, take-append-drop, length-drop}
 use Rattle.std.proofs.Math.Seq.{take-add}
-use Rattle.std.specs.Prelude.{Some, None}
+use Rattle.std.specs.Prelude.{Some, None, slice_range}
 use Rattle.mv_uleb.specs.Uleb.{IsUleb}
 use Rattle.mv_uleb.specs.Parsing.{number_from}
 use Rattle.mv_uleb.proofs.Spelled.{spelled-front, number_from-some}
@@ -21,15 +21,18 @@ no-length bytes none n len more le u e =
 
 -- a kind, a length and a payload of that many bytes are the record at the front
 pub is-first : (bytes rest payload : List ℕ) (kind used n : ℕ) → bytes ≡ kind ∷ rest → IsUleb (take used rest) n → n ≤ most_payload_bytes
-    → payload ≡ take n (drop used rest) → length payload ≡ n → IsText (take (1 + used + n) bytes) kind payload
+    → payload ≡ slice_range rest used (used + n) → length payload + used ≡ used + n → IsText (take (1 + (used + n)) bytes) kind payload
 is-first bytes rest payload kind used n e u le p size =
+    let count : 1 + (used + n) ≡ suc (used + n) = omega arith in
+    let width : (used + n) - used ≡ n = omega arith in
     let took : List ℕ = take n (drop used rest) in
-    let count : 1 + used + n ≡ 1 + (used + n) = omega arith in
-    let front : take (1 + (used + n)) (kind ∷ rest) ≡ kind ∷ (take used rest ++ took) = ap (λ l. kind ∷ l) (take-add used n rest) in
-    let whole : take (1 + used + n) bytes ≡ kind ∷ (take used rest ++ took) =
-    ap (λ l. take (1 + used + n) l) e ∙ ap (λ m. take m (kind ∷ rest)) count ∙ front in
+    let is : payload ≡ took = p ∙ ap (λ m. take m (drop used rest)) width in
+    let front : take (suc (used + n)) (kind ∷ rest) ≡ kind ∷ (take used rest ++ took) = ap (λ l. kind ∷ l) (take-add used n rest) in
+    let whole : take (1 + (used + n)) bytes ≡ kind ∷ (take used rest ++ took) =
+    ap (λ l. take (1 + (used + n)) l) e ∙ ap (λ m. take m (kind ∷ rest)) count ∙ front in
+    let long : length payload ≡ n = omega (arith, size) in
     let P : List ℕ → Type 0 = λ l. IsText l kind payload in
-    subst P (sym whole) (IsText-from kind n (take used rest) took payload u le p (ap length (sym p) ∙ size))
+    subst P (sym whole) (IsText-from kind n (take used rest) took payload u le is (ap length (sym is) ∙ long))
 
 -- none stands there where there are no bytes, where no length follows, or where the payload is cut
 pub none-of-nothing : (bytes : List ℕ) → bytes ≡ [] → NoWhole bytes
@@ -38,8 +41,10 @@ none-of-nothing bytes e = let P : List ℕ → Type 0 = λ l. NoWhole l in subst
 pub none-without-length : (bytes rest : List ℕ) (kind : ℕ) → bytes ≡ kind ∷ rest → NoLength rest → NoWhole bytes
 none-without-length bytes rest kind e none = let P : List ℕ → Type 0 = λ l. NoWhole l in subst P (sym e) (NoWhole-length kind rest none)
 
-pub none-where-cut : (bytes rest : List ℕ) (kind used n : ℕ) → bytes ≡ kind ∷ rest → IsUleb (take used rest) n → length (drop used rest) < n → NoWhole bytes
-none-where-cut bytes rest kind used n e u short =
+pub none-where-cut : (bytes rest : List ℕ) (kind used n : ℕ) → bytes ≡ kind ∷ rest → IsUleb (take used rest) n → used ≤ length rest → length rest < used + n
+    → NoWhole bytes
+none-where-cut bytes rest kind used n e u within short =
     let P : List ℕ → Type 0 = λ l. NoWhole l in
     let Q : List ℕ → Type 0 = λ l. NoWhole (kind ∷ l) in
-    subst P (sym e) (subst Q (take-append-drop used rest) (NoWhole-payload kind n (take used rest) (drop used rest) u short))
+    let left : length (drop used rest) ≡ length rest - used = length-drop used rest in
+    subst P (sym e) (subst Q (take-append-drop used rest) (NoWhole-payload kind n (take used rest) (drop used rest) u (omega (arith, left, short, within))))

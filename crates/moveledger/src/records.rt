@@ -34,10 +34,11 @@ pub fn first_record(bytes: &[u8]) -> Option<Front<'_>>
 {
     let (kind, rest) = bytes.split_first()?;
     let (length, used) = length_at(rest)?;
-    let payload = rest[used..].get(..length)?;
+    let end = used + length;
+    let payload = rest.get(used..end)?;
     Some(Front {
         kind: *kind,
         payload,
-        length: 1 + used + length,
+        length: 1 + end,
     })
 }
