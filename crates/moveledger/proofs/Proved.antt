@@ -84,7 +84,7 @@ module _ (bytes : List ℕ) (short : IsShort bytes) where
 -- without a limit of steps they are never used up
 pub unlimited-never_long : (bytes : List ℕ) (e : LimitError) → HasNoProofWithin None bytes e → e ≡ TooLong → ⊥
 unlimited-never_long bytes (Unproved e) h is = cc
-unlimited-never_long bytes TooLong h is = absurd h
+unlimited-never_long bytes TooLong h is = cc
 
 pub unlimited-no_proof : (bytes : List ℕ) (e : LimitError) (why : ProveError) → e ≡ Unproved why → HasNoProofWithin None bytes e → HasNoProof bytes why
 unlimited-no_proof bytes e why is h = subst (HasNoProofWithin None bytes) is h

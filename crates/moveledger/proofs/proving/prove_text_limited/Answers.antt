@@ -1,4 +1,4 @@
-use Rattle.std.proofs.Common.{ap, arith, subst, sym, ◌∙◌}
+use Rattle.std.proofs.Common.{Err, ap, arith, subst, sym, ◌∙◌}
 use Rattle.std.proofs.lemmas.Result.{err_from_is_err_and}
 use Rattle.mv_binary_format.proofs.Back.{all-are_bytes}
 use Rattle.mv_analyser.specs.Principal.{IsOfLimits}
@@ -25,7 +25,7 @@ returns-in_err-certificate-clause-refused c =
     let p = err_from_is_err_and c.from_residual.result c.from_residual.ensures.1 in
     rw (p.1, p.2)
     (each-no_proof_within c.args.module.now c.if-module-gt-MOST_MODULE_BYTES.false c.in-Ok.typed c.in-Ok.ensures.spelled c.in-Ok.ensures.sound c.args.steps c.in_err-certificate.field-0.0 c.in_err-certificate.ensures.refused
-    (λ e. c.in_err-certificate.ensures.limited e))
+    (λ e. c.in_err-certificate.ensures.limited (ap (λ z. Err z) e)))
 
 pub returns-in_err-certificate-clause-principal : goal.returns-in_err-certificate-clause-principal
 returns-in_err-certificate-clause-principal c = λ provable.
