@@ -84,12 +84,7 @@ fn put_aborted(
 }
 
 /// Appends the line of a run that used something up: the record's number, the words, what it was, and the steps.
-fn put_exhausted(
-    line: &mut Vec<u8>,
-    number: u64,
-    stop: Stop,
-    steps: u64,
-) -> Result<(), AllocError>
+fn put_exhausted(line: &mut Vec<u8>, number: u64, stop: Stop, steps: u64) -> Result<(), AllocError>
     ensures { OnOk result (line.new.items ≡ line.old.items ++ numbered number (codes "exhausted " ++ stop_text stop ++ codes " " ++ decimal steps)) }
 {
     put_number_and(line, number, b' ')?;
@@ -119,12 +114,7 @@ fn put_count(line: &mut Vec<u8>, number: u64, word: &str, n: u64) -> Result<(), 
 }
 
 /// Appends the line of a run that was had.
-fn put_ending(
-    line: &mut Vec<u8>,
-    number: u64,
-    ending: Ending,
-    steps: u64,
-) -> Result<(), AllocError>
+fn put_ending(line: &mut Vec<u8>, number: u64, ending: Ending, steps: u64) -> Result<(), AllocError>
     ensures { OnOk result (line.new.items ≡ line.old.items ++ numbered number (line_of (told_ending ending steps))) }
 {
     match ending {
@@ -234,9 +224,7 @@ fn write_report<W: Write>(
 {
     match report {
         Ok(lines) => write_lines(alloc, writer, number, lines),
-        Err(Refusal::Phase(phase)) => {
-            write_reply(writer, number, Reply::Refused(phase), line)
-        }
+        Err(Refusal::Phase(phase)) => { write_reply(writer, number, Reply::Refused(phase), line) }
         Err(Refusal::Memory) => Err(EngineError::Memory),
     }
 }

@@ -44,8 +44,8 @@ pub use mv_commands::{
     claim_place, command, is_one, keep, not_text, release,
 };
 pub use mv_ledger::{
-    ChangedModules, Changes, Entries, Format, Ledger, Lines, LoadError, Modules, Page, Saving, Side,
-    StructName, Tally,
+    ChangedModules, Changes, Entries, Format, Ledger, Lines, LoadError, Modules, Page, Saving,
+    Side, StructName, Tally,
 };
 pub use pacing::{AfterRecord, Gathering, MOST_LINE_BYTES, Prompt, Reserving};
 pub use proving::{prove_text, prove_text_within};

@@ -35,8 +35,8 @@ number-none text other =
     let fits : Bool = nat_lt (digits_value 10 ds) (2 ^ 64) in
     elim (cases_Bool (some && all && fits)) [
       | inl holds ↦
-        let p = and_parts (some && all) fits holds in
-        let q = and_parts some all p.0 in
-        absurd (other ((ltb-true 0 (length ds) q.0, digits-all ds q.1), ltb-true (digits_value 10 ds) (2 ^ 64) p.1))
+          let p = and_parts (some && all) fits holds in
+          let q = and_parts some all p.0 in
+          absurd (other ((ltb-true 0 (length ds) q.0, digits-all ds q.1), ltb-true (digits_value 10 ds) (2 ^ 64) p.1))
       | inr fails ↦ rw fails refl
     ]
