@@ -13,9 +13,12 @@ mod modules;
 mod parts;
 mod questions;
 mod records;
+mod saving;
+mod saving_holder;
 mod shows;
 mod status;
 mod texts;
 
 pub use bytes::Bytes;
 pub use holder::Holder;
+pub use saving_holder::SavingHolder;
