@@ -6,3 +6,4 @@ pub mod Giving
 pub mod Questions
 pub mod Records
 pub mod Changes
+pub mod Saving
