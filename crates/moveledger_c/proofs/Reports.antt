@@ -47,14 +47,26 @@ IsProved-given m digits text status v (inl h) e p a =
     inl (ap (λ s. to_z w32 (of_z w32 s)) h.0, refl, subst (IsProvedBy m) (sym (h.1 ∙ e)) p, subst (IsAcceptedBack m) (sym (h.1 ∙ e)) a)
 IsProved-given m digits text status v (inr h) e p a = inr (inr (inr (ap (λ s. to_z w32 (of_z w32 s)) h.0, refl, h.1)))
 
--- where none is made
+-- where none is made: a status comes back from its bits
 
-pub IsProved-none : (m text : List ℕ) (status : ℤ) (why : ℕ) (e : ProveError) → HasNoProof m e → text ≡ [] → why ≡ phase_of e → status ≡ answer_of e → IsProved m status why text
-IsProved-none m text status why (Refused p) h none why_is status_is = inr (inl (status_is, none, subst (FailsProof m) (sym why_is) h))
-IsProved-none m text status why TooComplex h none why_is status_is = inr (inr (inl (status_is, why_is, none, h)))
-IsProved-none m text status why Memory h none why_is status_is = inr (inr (inr (status_is, why_is, none)))
+abbrev bits : ℤ → ℤ
+bits status = to_z w32 (of_z w32 status)
 
-pub of_limits-not_refused : (e : ProveError) → IsOfLimits e → answer_of e ≡ refused → ⊥
-of_limits-not_refused (Refused p) h is = absurd h
-of_limits-not_refused TooComplex h is = cc
-of_limits-not_refused Memory h is = cc
+pub IsProved-none : (m text : List ℕ) (status : ℤ) (why : ℕ) (e : ProveError) → HasNoProof m e → text ≡ [] → why ≡ phase_of e → status ≡ answer_of e
+    → IsProved m (to_z w32 (of_z w32 status)) why text
+IsProved-none m text status why (Refused p) h none why_is status_is = inr (inl (ap bits status_is, none, subst (FailsProof m) (sym why_is) h))
+IsProved-none m text status why TooComplex h none why_is status_is = inr (inr (inl (ap bits status_is, why_is, none, h)))
+IsProved-none m text status why Memory h none why_is status_is = inr (inr (inr (ap bits status_is, why_is, none)))
+
+not_refused : (e : ProveError) → IsOfLimits e → answer_of e ≡ refused → ⊥
+not_refused (Refused p) h is = absurd h
+not_refused TooComplex h is = cc
+not_refused Memory h is = cc
+
+from_bits : (e : ProveError) → to_z w32 (of_z w32 (answer_of e)) ≡ answer_of e
+from_bits (Refused p) = refl
+from_bits TooComplex = refl
+from_bits Memory = refl
+
+pub of_limits-not_refused : (e : ProveError) (status : ℤ) → IsOfLimits e → status ≡ answer_of e → to_z w32 (of_z w32 status) ≡ refused → ⊥
+of_limits-not_refused e status h same is = not_refused e h (sym (from_bits e) ∙ sym (ap bits same) ∙ is)

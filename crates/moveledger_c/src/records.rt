@@ -1,7 +1,7 @@
 // The call that tells what the record at the front of bytes is, without answering it.
-ghost use Rattle.std.specs.Prelude.{IfOk};
+ghost use Rattle.std.specs.Prelude.{◌≡◌, IfOk};
 ghost use Rattle.mv_move_types.specs.Numbers.{big_endian};
-ghost use Rattle.moveledger_c.specs.Records.{IsAsked, IsReadAs};
+ghost use Rattle.moveledger_c.specs.Records.{IsAsked, IsReadAs, IsTold};
 
 use crate::status::{ABSENT, DONE, MEMORY};
 use moveledger::first_record;
@@ -31,7 +31,7 @@ fn asked_of_run(alloc: Global, payload: &[u8]) -> Result<Option<(u128, u64)>, Al
     ensures { IfOk result (IsAsked 2 payload.now) }
 {
     match read_run(alloc, payload) {
-        Ok(run) => Ok(Some((run.sender, run.budget))),
+        Ok(asked) => Ok(Some((asked.sender, asked.budget))),
         Err(Refusal::Phase(_)) => Ok(None),
         Err(Refusal::Memory) => Err(AllocError),
     }
@@ -50,6 +50,31 @@ fn asked(alloc: Global, kind: u8, payload: &[u8]) -> Result<Option<(u128, u64)>,
     Ok(None)
 }
 
+/// Writes an address with its highest byte first.
+fn put_sender(address: u128, sender: &mut [u8; 16])
+    ensures { big_endian sender.new ≡ address }
+{
+    *sender = address.to_be_bytes();
+}
+
+/// Tells who asks, and with which budget; zeros where nothing is asked.
+fn tell(asked: Option<(u128, u64)>, is_shaped: &mut u8, sender: &mut [u8; 16], budget: &mut u64)
+    ensures { IsTold asked is_shaped.new (big_endian sender.new) budget.new }
+{
+    match asked {
+        Some((who, most)) => {
+            *is_shaped = 1;
+            put_sender(who, sender);
+            *budget = most;
+        }
+        None => {
+            *is_shaped = 0;
+            put_sender(0, sender);
+            *budget = 0;
+        }
+    }
+}
+
 /// How many bytes the record at the front of bytes takes, and its kind; and if its payload is that of a publish or a run record, its sender
 /// and the budget of a run.
 #[unsafe(no_mangle)]
@@ -66,9 +91,7 @@ pub extern "C" fn moveledger_read_record(
 {
     *size = 0;
     *kind = 0;
-    *is_shaped = 0;
-    *sender = 0u128.to_be_bytes();
-    *budget = 0;
+    tell(None, is_shaped, sender, budget);
     let Some(front) = first_record(records) else {
         return ABSENT;
     };
@@ -77,10 +100,6 @@ pub extern "C" fn moveledger_read_record(
     };
     *size = front.length;
     *kind = front.kind;
-    if let Some((by, most)) = asked {
-        *is_shaped = 1;
-        *sender = by.to_be_bytes();
-        *budget = most;
-    }
+    tell(asked, is_shaped, sender, budget);
     DONE
 }
