@@ -46,12 +46,7 @@ pub extern "C" fn moveledger_save_next(
 }
 
 /// The same of this ledger.
-fn next_of(
-    alloc: Global,
-    ledger: &Ledger,
-    saving: &mut SavingHolder,
-    piece: &mut Bytes,
-) -> i32
+fn next_of(alloc: Global, ledger: &Ledger, saving: &mut SavingHolder, piece: &mut Bytes) -> i32
     ensures { IsNextOf result (Some ledger.now) saving.old.held saving.new.held piece.new.items }
 {
     let Some(mut held) = saving.take(alloc) else {

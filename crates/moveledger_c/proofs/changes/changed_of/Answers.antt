@@ -8,4 +8,4 @@ each-preserved c =
     c.each.invariant taken.1 taken.2 taken.3 c.in_ok-put_word.ensures c.in_ok-put_name.ensures
 
 pub returns : goal.returns
-returns c = lines-told c.args.held.now c.each.text.items c.changed_modules-modules.result c.each.modules c.in-None.ensures.0 c.each.invariant c.changed_modules-modules.ensures.told
+returns c = lines-told c.args.held.now c.each.text.items c.changed_modules-modules.result c.each.modules c.in_default.ensures.0 c.each.invariant c.changed_modules-modules.ensures.told
