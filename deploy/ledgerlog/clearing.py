@@ -35,6 +35,8 @@ LOOSE = 2
 LONG_SECONDS = 1_800.0
 # So often at most it is looked whether an alarm is there.
 MOST_DISARMED = 8
+# The alarm of a node that the log is full.
+FULL = "NOSPACE"
 
 
 class Cleared(NamedTuple):
@@ -332,13 +334,14 @@ def defragment(node: Etcd, is_full: bool) -> str:
 
 def make_room(log: Log) -> str:
     """Compacts the log, defragments the nodes that hold much more than they use, one after the other, and disarms the alarm that the log
-    is full. What it did."""
+    is full. What it did. Another alarm stays, and is told: room is no answer to it."""
     etcd = log.etcd
     compact(patient(etcd, list(etcd.addresses)), etcd.range(log.keys.log, log.keys.log + b"\0", 1).revision)
-    is_full = bool(alarms_of(etcd))
+    is_full = bool(full_ones(alarms_of(etcd)))
     told = [defragment(Etcd([address], etcd.patience, etcd.access), is_full) for address in sorted(etcd.addresses)]
     disarmed = disarm(etcd)
-    return "; ".join(told) + (f"; {disarmed} alarms are disarmed" if disarmed else "")
+    others = sorted({str(one["alarm"]) for one in alarms_of(etcd) if one["alarm"] != FULL})
+    return "; ".join([*told, *([f"{disarmed} alarms are disarmed"] if disarmed else []), *(f"the alarm {name} stays" for name in others)])
 
 
 def alarms_of(etcd: Etcd) -> List[Body]:
@@ -347,11 +350,17 @@ def alarms_of(etcd: Etcd) -> List[Body]:
     return found
 
 
+def full_ones(alarms: List[Body]) -> List[Body]:
+    """Those of them that say that the log is full."""
+    return [one for one in alarms if one["alarm"] == FULL]
+
+
 def disarm(etcd: Etcd) -> int:
-    """Disarms all alarms, with those that are raised meanwhile. How many; a log that is full yet raises them without end."""
+    """Disarms all alarms that the log is full, with those that are raised meanwhile. How many; a log that is full yet raises them without
+    end. An alarm that a node's data are damaged isn't touched: disarmed, the node would answer from them."""
     count = 0
     for _ in range(MOST_DISARMED):
-        alarms = alarms_of(etcd)
+        alarms = full_ones(alarms_of(etcd))
         if not alarms:
             break
         for one in alarms:

@@ -58,6 +58,17 @@ class Room(unittest.TestCase):
             self.assertEqual((disarm(store), store.raised), (sum(map(len, raised)), []))
         self.assertLess(disarm(Alarmed(*[["1"]] * 100)), 100)
 
+    def test_only_the_alarm_that_the_log_is_full_is_disarmed(self) -> None:
+        class Damaged(Alarmed):
+            def ask(self, path: str, body: Body) -> Body:
+                answer = super().ask(path, body)
+                damage: Body = {"memberID": "7", "alarm": "CORRUPT"}
+                return {"alarms": [damage, *answer.get("alarms", [])]} if body["action"] == "GET" else answer
+
+        store = Damaged(["1"], ["2"])
+        self.assertEqual((disarm(store), store.raised), (2, []))
+        self.assertEqual(disarm(Damaged()), 0)
+
     def test_a_node_stands_still_only_for_what_is_worth_it(self) -> None:
         self.assertTrue(Size(200, 100).is_loose())
         self.assertFalse(Size(199, 100).is_loose())
