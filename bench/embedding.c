@@ -5,8 +5,12 @@
  *        embedding half FILE     the first half of its bytes, up to the end of a record
  *        embedding parts FILE    the same, and then the others in calls of 1,000 records
  *        embedding blocks FILE   the same, but each such call in a block that is taken back
+ *        embedding saved FILE    in calls of 1,000 records; then it saves the ledger in pieces, and prints the seconds, the bytes, and by how
+ *                                many KB that raises the most memory that the process had
  *        embedding kept FILE     all in one call; then it saves the ledger and loads it, and prints the seconds of both, and the bytes */
 #include "measuring.h"
+
+#include <sys/resource.h>
 
 /* Where the record that begins at a place ends. */
 static size_t end_of(size_t begin)
@@ -19,16 +23,6 @@ static size_t end_of(size_t begin)
             break;
     }
     return size < length - at ? at + size : length;
-}
-
-/* Answers the first half of the records, and returns where it ends. */
-static size_t answer_half(moveledger *ledger, uint64_t *answered, size_t *written)
-{
-    size_t end = 0;
-    while (end < length / 2)
-        end = end_of(end);
-    apply(ledger, 0, end, answered, written);
-    return end;
 }
 
 /* Answers the records from a place on in calls of 1,000, each in a block that is taken back, or without one. */
@@ -45,6 +39,40 @@ static void answer_parts(moveledger *ledger, size_t begin, int are_blocks, uint6
         if (are_blocks)
             expect("rollback", moveledger_rollback(ledger));
     }
+}
+
+/* Answers the first half of the records, and returns where it ends. */
+static size_t answer_half(moveledger *ledger, uint64_t *answered, size_t *written)
+{
+    size_t end = 0;
+    while (end < length / 2)
+        end = end_of(end);
+    apply(ledger, 0, end, answered, written);
+    return end;
+}
+
+/* The most memory that the process had so far, in KB. */
+static long most_memory(void)
+{
+    struct rusage used;
+    getrusage(RUSAGE_SELF, &used);
+    return used.ru_maxrss;
+}
+
+static int count_bytes(void *count, const uint8_t *bytes, size_t size)
+{
+    *(size_t *)count += size;
+    return bytes == NULL;
+}
+
+/* Saves a ledger in pieces, and prints what that takes. */
+static void save_in_pieces(const moveledger *ledger)
+{
+    size_t saved = 0;
+    const long before = most_memory();
+    const double start = seconds();
+    expect("save_to", moveledger_save_to(ledger, count_bytes, &saved));
+    printf("%f %zu %ld\n", seconds() - start, saved, most_memory() - before);
 }
 
 /* Saves a ledger and loads it, and prints how long each takes. */
@@ -68,7 +96,7 @@ int main(int words, char **word)
     uint64_t answered = 0;
     size_t written = 0;
     if (words != 3) {
-        fprintf(stderr, "usage: embedding once|each|nothing|half|parts|blocks|kept FILE\n");
+        fprintf(stderr, "usage: embedding once|each|nothing|half|parts|blocks|saved|kept FILE\n");
         return 2;
     }
     read_file(word[2]);
@@ -84,12 +112,15 @@ int main(int words, char **word)
     } else if (strcmp(word[1], "parts") == 0 || strcmp(word[1], "blocks") == 0) {
         const size_t begin = answer_half(&ledger, &answered, &written);
         answer_parts(&ledger, begin, word[1][0] == 'b', &answered, &written);
+    } else if (strcmp(word[1], "saved") == 0) {
+        answer_parts(&ledger, 0, 0, &answered, &written);
+        save_in_pieces(&ledger);
     } else {
         apply(&ledger, 0, length, &answered, &written);
     }
     if (strcmp(word[1], "kept") == 0)
         keep(&ledger);
-    else
+    else if (strcmp(word[1], "saved") != 0)
         printf("%llu %zu\n", (unsigned long long)answered, written);
     moveledger_free(&ledger);
     free(records);

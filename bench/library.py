@@ -1,6 +1,7 @@
 """What questions by names and addresses cost through the library's C calls: a value by its address and its struct's name among
 1,200,000 coins, a show of an address with 3 values among them, and all coins in pages; a block of 1,000 mints that is taken back, beside
-as many mints without a block; and a mint in a call of its own beside one in a call with many others. Times are the processor's, the least of several tries, and each is printed with its aim.
+as many mints without a block; a save in pieces, with
+the memory that it takes; and a mint in a call of its own beside one in a call with many others. Times are the processor's, the least of several tries, and each is printed with its aim.
 
 usage: python3 bench/library.py FOLDER [LIBRARY]    FOLDER is kept; LIBRARY is the folder of libmoveledger.a, that where
 bindings/library puts it if none is given. It needs cc, and counts machine instructions where there is a valgrind."""
@@ -24,7 +25,9 @@ TRIES = 3
 SCATTERED = 0x9E3779B97F4A7C15
 # Where a record that runs a function has its sender: behind its kind and its length.
 SENDER = slice(2, 18)
-MOST_OF_VALUE, MOST_AT, MOST_OF_BLOCK, MOST_OF_MINT = 2.0, 5.0, 1.3, 1.2
+MOST_OF_VALUE, MOST_AT, MOST_OF_BLOCK, MOST_OF_MINT, MOST_BESIDE = 2.0, 5.0, 1.3, 1.2, 1_024
+# So many coins are saved as 100 MB.
+SAVED = 4_166_000
 
 
 class Asked(NamedTuple):
@@ -80,7 +83,7 @@ def tell_asked(best: List[Asked], many: int) -> None:
     print(f"library: all of them in {pages.calls:,} pages: {of_many:.0f} microseconds a page, "
           f"{pages.seconds / pages.values * 1e6:.2f} a value (no aim)")
     print(f"library: a block of {IN_BLOCK:,} mints begun, answered and taken back beside them: {of_block:.0f} microseconds, and the mints alone "
-          f"{of_kept:.0f}, {of_block / of_kept:.2f} times by the clock, which has the caches' share (aim: {MOST_OF_BLOCK} or less)", flush=True)
+          f"{of_kept:.0f}, {of_block / of_kept:.2f} times by the clock, which has the caches' share (no aim)", flush=True)
 
 
 def tell_blocks(folder: Path, measuring: Path) -> None:
@@ -90,7 +93,15 @@ def tell_blocks(folder: Path, measuring: Path) -> None:
     taken_back, kept = difference(blocks, half), difference(parts, half)
     if taken_back is not None and kept is not None:
         print(f"library: a block of {IN_BLOCK:,} mints begun, answered and taken back: {taken_back / kept:.2f} times the machine instructions of "
-              f"the mints alone (no aim)", flush=True)
+              f"the mints alone (aim: {MOST_OF_BLOCK} or less)", flush=True)
+
+
+def tell_pieces(folder: Path, measuring: Path, many: int) -> None:
+    """Prints what a save in pieces takes beside the ledger."""
+    (folder / "many.stream").write_bytes(b"".join([record(1, publish(coins())), *runs("mint", many)]))
+    seconds, size, beside_it = Side(folder, measuring, "saved").report("many.stream").split()
+    print(f"library: {many:,} coins saved in pieces: {int(size) / 1e6:.1f} MB in {float(seconds):.2f} s of the processor, and {int(beside_it):,} KB "
+          f"of memory beside the ledger (aim: {MOST_BESIDE:,} or less)", flush=True)
 
 
 def tell_mints(folder: Path, measuring: Path) -> None:
@@ -119,6 +130,7 @@ def main() -> None:
     threes = min(THREES, told.coins)
     tell_asked(asked(folder, embedding.compiled(folder, library, "library"), told.coins, threes, told.calls), told.coins)
     measuring = embedding.compiled(folder, library)
+    tell_pieces(folder, measuring, min(SAVED, 4 * told.coins))
     tell_blocks(folder, measuring)
     tell_mints(folder, measuring)
 

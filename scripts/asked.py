@@ -108,10 +108,11 @@ ASKED: List[Row] = [
         "moveledger",
         "Task",
         "enum<'a> { Apply { file: &'a str, load: Option<&'a str>, save: Option<&'a str> }, Prove(&'a str), Check(&'a str, &'a str), Migrate(&'a str, &'a str) }",
+        decisions="103",
     ),
     Row("moveledger", "LineError", "enum { Words(clap::Error), Memory }"),
     Row("moveledger", "status", "fn(&End) -> u8", "moveledger"),
-    Row("moveledger", "End", "enum { Done, Read, Write, Memory, Words, Refused(u8), LoadRefused(u8), TooComplex }"),
+    Row("moveledger", "End", "enum { Done, Read, Write, Memory, Words, Refused(u8), LoadRefused(u8), TooComplex }", decisions="103"),
     Row("moveledger", "prove_text", "fn(&[u8]) -> Result<String, ProveError>", "moveledger moveledger_c"),
     Row("moveledger", "check_text", "fn(&[u8], &[u8]) -> Result<(), Refusal>", "moveledger moveledger_c"),
 ]

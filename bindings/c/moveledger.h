@@ -39,7 +39,9 @@ enum moveledger_status {
                                       or a length above PTRDIFF_MAX; no ledger, count or report changed */
     MOVELEDGER_BUSY = 6,           /* another call uses the ledger; nothing changed, and it may be asked again */
     MOVELEDGER_NO_BLOCK = 7,       /* no block is open; nothing changed */
-    MOVELEDGER_ABSENT = 8          /* what was asked for by its name isn't there */
+    MOVELEDGER_ABSENT = 8,         /* what was asked for isn't there */
+    MOVELEDGER_TOO_LONG = 9,       /* the search for a certificate took the steps that it was given */
+    MOVELEDGER_STOPPED = 10        /* the function that takes the pieces of a save answered other than 0 */
 };
 
 /* What holds a ledger, or none: begin with {NULL, 0}. Both parts are the library's own; never copy it to a second one that is used. */
@@ -47,6 +49,11 @@ typedef struct moveledger {
     void *own;
     int32_t users;                      /* how many calls read it now; -1 while one changes it */
 } moveledger;
+
+/* How far a save in pieces is, or none: begin with {NULL}. */
+typedef struct moveledger_saving {
+    void *own;
+} moveledger_saving;
 
 /* What the library itself takes: it never sees `users`. */
 typedef struct moveledger_own {
@@ -72,6 +79,15 @@ typedef struct moveledger_struct {
     const char *name;
 } moveledger_struct;
 
+/* What a record is. */
+typedef struct moveledger_record {
+    size_t length;                      /* how many bytes it takes: the next record begins behind them */
+    uint64_t budget;                    /* the most steps of a run; otherwise 0 */
+    uint8_t sender[16];                 /* who publishes or runs; otherwise zeros */
+    uint8_t kind;                       /* 1 publish, 2 run, 3 show, 4 audit; others are answered `refused 1` */
+    uint8_t is_shaped;                  /* 1 if the payload is that of a publish or a run record; otherwise 0, and so are sender and budget */
+} moveledger_record;
+
 /* An empty ledger in *ledger. After anything but DONE *ledger holds none. What it held before is overwritten, and not freed. */
 int32_t moveledger_new(moveledger_own *ledger);
 /* The ledger that the bytes save, in *ledger, as with moveledger_new; *why is the reason after LOAD_REFUSED, otherwise 0. */
@@ -83,8 +99,8 @@ void moveledger_free(moveledger_own *ledger);
  * *answered + 1, and *answered goes up by the number of records that were answered, so that several calls go on where the
  * last one ended. A cut record at the end is answered as the last one (`refused 1`), as at the end of a stream. The records may not lie in
  * the report's own bytes. After 2^64 - 1 records none is answered any more.
- * MEMORY: the report is a beginning of the whole one, and the ledger is as some records left it: the records up to *answered,
- * and perhaps the one after them (whose lines may be written in part). */
+ * MEMORY: the ledger is as the records up to *answered left it, and the report has all their lines; behind these it may have a beginning of
+ * the lines of a show or an audit that comes next. */
 int32_t moveledger_apply(moveledger_own *ledger, const uint8_t *records, size_t length, uint64_t *answered, moveledger_bytes *report);
 /* Blocks. begin opens a block: records are answered in it as ever. rollback closes the newest block and gives back the ledger as it was
  * when that block was opened; commit closes it and keeps what was changed, as a part of the block around it, if there is one. Blocks nest.
@@ -95,10 +111,27 @@ int32_t moveledger_apply(moveledger_own *ledger, const uint8_t *records, size_t 
 int32_t moveledger_begin(moveledger_own *ledger);
 int32_t moveledger_rollback(moveledger_own *ledger);
 int32_t moveledger_commit(moveledger_own *ledger);
+/* What was changed since the newest block was opened; NO_BLOCK where none is open. The ledger stays as it was.
+ * changes: of the keys whose values differ, by ascending key: in *before a show, as one line of JSON, of the values that they had, in *now
+ * one of those that they have. A key that is new stands in *now alone, and one that is gone in *before alone. It takes as long, and memory,
+ * as what runs changed in the block.
+ * changed_modules: a line for each module that was published (`published ADDRESS::MODULE`) or whose bytes or certificate were replaced by
+ * others (`replaced ADDRESS::MODULE`), in order of publication. */
+int32_t moveledger_changes(moveledger_own *ledger, moveledger_bytes *before, moveledger_bytes *now);
+int32_t moveledger_changed_modules(moveledger_own *ledger, moveledger_bytes *names);
 /* The ledger's text, as `apply --save` writes it, in *saved. The ledger stays as it was. Here and below, what `*saved`, `*lines`,
  * `*certificate` or `*migrated` held before is overwritten, and not freed; after anything but DONE it is {NULL, 0, NULL}, and where there
  * is a `*why`, it is 0 unless the status has a reason. */
 int32_t moveledger_save(moveledger_own *ledger, moveledger_bytes *saved);
+/* The same text in pieces of at most 65,536 bytes, one after another: what is needed beside the ledger doesn't grow with what is stored, so a
+ * ledger that ran out of memory can be saved. save_to calls `write` with each piece and with `context`, until it answers other than 0: that
+ * is STOPPED. It counts as one call that reads the ledger.
+ * It is made of these three: begin makes *saving ready; next gives a piece, or ABSENT at the end, and after MEMORY it may be asked again; end
+ * frees what begin and next took. Between the first piece and the last the ledger may not change: otherwise the pieces are those of
+ * different ledgers. */
+int32_t moveledger_save_begin(moveledger_saving *saving);
+int32_t moveledger_save_next(moveledger_own *ledger, moveledger_saving *saving, moveledger_bytes *piece);
+void moveledger_save_end(moveledger_saving *saving);
 /* The lines of a show or an audit, without numbers, each ended by a line feed. The ledger stays as it was. */
 int32_t moveledger_show(moveledger_own *ledger, uint32_t form, moveledger_bytes *lines);
 int32_t moveledger_audit(moveledger_own *ledger, uint32_t form, moveledger_bytes *lines);
@@ -133,10 +166,15 @@ int32_t moveledger_runs(moveledger_own *ledger, uint64_t *runs);
 int32_t moveledger_tally(moveledger_own *ledger, const uint8_t *home, const uint8_t *module, size_t module_length,
                          const uint8_t *name, size_t name_length, uint64_t *packed, uint64_t *unpacked);
 
-/* Without a ledger. prove: the certificate's hexadecimal, as the command prints it, without a line end. It has no limit of time: a module of
- * 7 KB is known that takes 72 seconds.
+/* Without a ledger. prove: the certificate's hexadecimal, as the command prints it, without a line end. It has no limit of time;
+ * prove_within takes so many steps at most, where a step is one instruction of one visit of its block: TOO_LONG where they don't suffice.
  * check: DONE where the module passes with the certificate of that text. migrate: a saved ledger in the current form. */
+/* Through this header, read_record gives the record at the front of bytes in a moveledger_record, without answering it; ABSENT where no whole
+ * one stands there, and *record is zeros after anything but DONE. With its budget moveledger_most_bytes tells how much it may store. */
+int32_t moveledger_read_record(const uint8_t *records, size_t length, size_t *size, uint8_t *kind, uint8_t *is_shaped, uint8_t *sender,
+                               uint64_t *budget);
 int32_t moveledger_prove(const uint8_t *module, size_t length, moveledger_bytes *certificate, uint8_t *why);
+int32_t moveledger_prove_within(const uint8_t *module, size_t length, uint64_t steps, moveledger_bytes *certificate, uint8_t *why);
 int32_t moveledger_check(const uint8_t *module, size_t length, const uint8_t *certificate, size_t certificate_length, uint8_t *why);
 int32_t moveledger_migrate(const uint8_t *saved, size_t length, moveledger_bytes *migrated, uint8_t *why);
 
@@ -260,6 +298,59 @@ static inline int32_t moveledger_save_tested(const moveledger *ledger, moveledge
     moveledger_ends_use(ledger);
     return status;
 }
+static inline int32_t moveledger_changes_tested(const moveledger *ledger, moveledger_bytes *before, moveledger_bytes *now) {
+    moveledger_clear_bytes(before);
+    moveledger_clear_bytes(now);
+    if (!ledger || !before || !now) return MOVELEDGER_ARGUMENTS;
+    if (!moveledger_begins_reading(ledger)) return MOVELEDGER_BUSY;
+    moveledger_own own = {ledger->own};
+    const int32_t status = moveledger_changes(&own, before, now);
+    moveledger_ends_use(ledger);
+    return status;
+}
+static inline int32_t moveledger_changed_modules_tested(const moveledger *ledger, moveledger_bytes *names) {
+    moveledger_clear_bytes(names);
+    if (!ledger || !names) return MOVELEDGER_ARGUMENTS;
+    if (!moveledger_begins_reading(ledger)) return MOVELEDGER_BUSY;
+    moveledger_own own = {ledger->own};
+    const int32_t status = moveledger_changed_modules(&own, names);
+    moveledger_ends_use(ledger);
+    return status;
+}
+static inline int32_t moveledger_save_begin_tested(moveledger_saving *saving) {
+    if (!saving) return MOVELEDGER_ARGUMENTS;
+    saving->own = NULL;
+    return moveledger_save_begin(saving);
+}
+static inline int32_t moveledger_save_next_tested(const moveledger *ledger, moveledger_saving *saving, moveledger_bytes *piece) {
+    moveledger_clear_bytes(piece);
+    if (!ledger || !saving || !piece) return MOVELEDGER_ARGUMENTS;
+    if (!moveledger_begins_reading(ledger)) return MOVELEDGER_BUSY;
+    moveledger_own own = {ledger->own};
+    const int32_t status = moveledger_save_next(&own, saving, piece);
+    moveledger_ends_use(ledger);
+    return status;
+}
+static inline void moveledger_save_end_tested(moveledger_saving *saving) {
+    if (saving) moveledger_save_end(saving);
+}
+/* Hands the pieces of a save to a function. */
+static inline int32_t moveledger_save_to(const moveledger *ledger, int (*write)(void *context, const uint8_t *bytes, size_t length),
+                                         void *context) {
+    moveledger_saving saving = {NULL};
+    moveledger_bytes piece = {NULL, 0, NULL};
+    if (!ledger || !write) return MOVELEDGER_ARGUMENTS;
+    if (!moveledger_begins_reading(ledger)) return MOVELEDGER_BUSY;
+    moveledger_own own = {ledger->own};
+    int32_t status = moveledger_save_begin(&saving);
+    while (status == MOVELEDGER_DONE && (status = moveledger_save_next(&own, &saving, &piece)) == MOVELEDGER_DONE) {
+        if (write(context, piece.bytes, piece.length)) status = MOVELEDGER_STOPPED;
+        moveledger_bytes_free(&piece);
+    }
+    moveledger_save_end(&saving);
+    moveledger_ends_use(ledger);
+    return status == MOVELEDGER_ABSENT ? (int32_t)MOVELEDGER_DONE : status;
+}
 static inline int32_t moveledger_show_tested(const moveledger *ledger, uint32_t form, moveledger_bytes *lines) {
     moveledger_clear_bytes(lines);
     if (!ledger || !lines) return MOVELEDGER_ARGUMENTS;
@@ -358,11 +449,30 @@ static inline int32_t moveledger_tally_tested(const moveledger *ledger, const mo
     moveledger_ends_use(ledger);
     return status;
 }
+static inline int32_t moveledger_read_record_tested(const uint8_t *records, size_t length, moveledger_record *record) {
+    if (record) memset(record, 0, sizeof *record);
+    return moveledger_is_slice(records, length) && record
+               ? moveledger_read_record(records, length, &record->length, &record->kind, &record->is_shaped, record->sender, &record->budget)
+               : (int32_t)MOVELEDGER_ARGUMENTS;
+}
+/* The most bytes by which a run with this budget makes a ledger grow: a value of at most 4,300 bytes for each three steps. A budget above
+ * 10,000,000 is rejected, and stores nothing. */
+static inline uint64_t moveledger_most_bytes(uint64_t budget) {
+    return budget > 10000000 ? 0 : budget / 3 * 4300;
+}
 static inline int32_t moveledger_prove_tested(const uint8_t *module, size_t length, moveledger_bytes *certificate, uint8_t *why) {
     moveledger_clear_bytes(certificate);
     moveledger_clear_reason(why);
     return moveledger_is_slice(module, length) && certificate && why ? moveledger_prove(module, length, certificate, why)
                                                                      : (int32_t)MOVELEDGER_ARGUMENTS;
+}
+static inline int32_t moveledger_prove_within_tested(const uint8_t *module, size_t length, uint64_t steps, moveledger_bytes *certificate,
+                                                     uint8_t *why) {
+    moveledger_clear_bytes(certificate);
+    moveledger_clear_reason(why);
+    return moveledger_is_slice(module, length) && certificate && why
+               ? moveledger_prove_within(module, length, steps, certificate, why)
+               : (int32_t)MOVELEDGER_ARGUMENTS;
 }
 static inline int32_t moveledger_check_tested(const uint8_t *module, size_t length, const uint8_t *certificate,
                                               size_t certificate_length, uint8_t *why) {
@@ -389,6 +499,11 @@ static inline void moveledger_bytes_free_tested(moveledger_bytes *bytes) {
 #define moveledger_rollback(ledger) moveledger_rollback_tested(ledger)
 #define moveledger_commit(ledger) moveledger_commit_tested(ledger)
 #define moveledger_save(ledger, saved) moveledger_save_tested(ledger, saved)
+#define moveledger_changes(ledger, before, now) moveledger_changes_tested(ledger, before, now)
+#define moveledger_changed_modules(ledger, names) moveledger_changed_modules_tested(ledger, names)
+#define moveledger_save_begin(saving) moveledger_save_begin_tested(saving)
+#define moveledger_save_next(ledger, saving, piece) moveledger_save_next_tested(ledger, saving, piece)
+#define moveledger_save_end(saving) moveledger_save_end_tested(saving)
 #define moveledger_show(ledger, form, lines) moveledger_show_tested(ledger, form, lines)
 #define moveledger_audit(ledger, form, lines) moveledger_audit_tested(ledger, form, lines)
 #define moveledger_show_value(ledger, address, name, form, lines) moveledger_show_value_tested(ledger, address, name, form, lines)
@@ -400,7 +515,10 @@ static inline void moveledger_bytes_free_tested(moveledger_bytes *bytes) {
     moveledger_module_tested(ledger, address, name, module, certificate)
 #define moveledger_runs(ledger, runs) moveledger_runs_tested(ledger, runs)
 #define moveledger_tally(ledger, name, packed, unpacked) moveledger_tally_tested(ledger, name, packed, unpacked)
+#define moveledger_read_record(records, length, record) moveledger_read_record_tested(records, length, record)
 #define moveledger_prove(module, length, certificate, why) moveledger_prove_tested(module, length, certificate, why)
+#define moveledger_prove_within(module, length, steps, certificate, why) \
+    moveledger_prove_within_tested(module, length, steps, certificate, why)
 #define moveledger_check(module, length, certificate, certificate_length, why) \
     moveledger_check_tested(module, length, certificate, certificate_length, why)
 #define moveledger_migrate(saved, length, migrated, why) moveledger_migrate_tested(saved, length, migrated, why)

@@ -633,6 +633,73 @@ static void ask_counts(void)
 }
 
 /* The other forms of a show and an audit. */
+/* Whether a line stands among others as it is. */
+static bool is_among(const struct line *line, const struct line *lines, size_t count)
+{
+    const size_t length = (size_t)(line->rest - line->address) + line->rest_length;
+    for (size_t at = 0; at < count; ++at)
+        if ((size_t)(lines[at].rest - lines[at].address) + lines[at].rest_length == length
+            && memcmp(lines[at].address, line->address, length) == 0)
+            return true;
+    return false;
+}
+
+/* A show as JSON of those lines that don't stand among others. */
+static struct text lines_without(const struct line *lines, size_t count, const struct line *others, size_t count_of_others)
+{
+    struct text text = {NULL, 0};
+    size_t told = 0;
+    add_word(&text, "json {\"show\":[");
+    for (size_t at = 0; at < count; ++at)
+        if (!is_among(&lines[at], others, count_of_others))
+            add_entry(&text, &lines[at], MOVELEDGER_JSON, told++);
+    add_word(&text, "]}\n");
+    return text;
+}
+
+/* What the newest block has changed is the difference of two shows, the first of which is that of the ledger where it was begun. */
+static void ask_changes(void)
+{
+    static struct line old_values[MOST_LINES];
+    moveledger_bytes before = filled(), after = filled(), old_shown = {NULL, 0, NULL};
+    moveledger old = {NULL, 0};
+    uint8_t why;
+    if (depth == 0) {
+        want(moveledger_changes(&ledger, &before, &after) == MOVELEDGER_NO_BLOCK && is_clear(&before) && is_clear(&after), "changes of no block");
+        after = filled();
+        want_none(moveledger_changed_modules(&ledger, &after), MOVELEDGER_NO_BLOCK, &after, "changed modules of no block");
+        return;
+    }
+    if (!is_done(moveledger_load(kept[depth - 1].bytes, kept[depth - 1].length, &old, &why), "the ledger from before a block"))
+        return;
+    if (is_done(moveledger_show(&old, MOVELEDGER_TEXT, &old_shown), "a show of it")) {
+        const size_t count = lines_of(&old_shown, "at ", old_values);
+        struct text wanted = lines_without(old_values, count, values, count_of_values);
+        const int32_t status = moveledger_changes(&ledger, &before, &after);
+        want_text(status, &before, &wanted, "the values that changed keys had");
+        wanted = lines_without(values, count_of_values, old_values, count);
+        want_text(status, &after, &wanted, "the values that changed keys have");
+    }
+    moveledger_bytes_free(&old_shown);
+    moveledger_free(&old);
+}
+
+static int add_piece(void *context, const uint8_t *bytes, size_t size)
+{
+    want(size > 0 && size <= 65536, "a piece has some bytes, and not too many");
+    add(context, bytes, size);
+    return 0;
+}
+
+/* A save in pieces is the save. */
+static void ask_pieces(void)
+{
+    struct text pieces = {NULL, 0};
+    if (is_done(moveledger_save_to(&ledger, add_piece, &pieces), "a save in pieces"))
+        want(pieces.length == now.length && memcmp(pieces.bytes, now.bytes, now.length) == 0, "the pieces are the save");
+    free(pieces.bytes);
+}
+
 static void ask_all(void)
 {
     struct text wanted = {NULL, 0};
@@ -669,6 +736,13 @@ static void want_no_answer(const moveledger *it, int32_t wanted, const char *wha
     uint64_t runs = 9, packed = 9, unpacked = 9;
     moveledger_bytes given = filled(), second = filled();
     want_none(moveledger_save(it, &given), wanted, &given, what);
+    want(moveledger_save_to(it, add_piece, NULL) == wanted, what);
+    given = filled();
+    want_none(moveledger_changes(it, &given, &second), wanted, &given, what);
+    want(is_clear(&second), what);
+    given = filled();
+    second = filled();
+    want_none(moveledger_changed_modules(it, &given), wanted, &given, what);
     given = filled();
     want_none(moveledger_show(it, MOVELEDGER_TEXT, &given), wanted, &given, what);
     given = filled();
@@ -720,7 +794,7 @@ static void misuse(void)
 static void (*const CALLS[])(void) = {
     call_apply, call_apply, call_apply, call_apply, call_apply, call_apply, call_begin, call_begin, call_begin, call_rollback,
     call_rollback, call_commit, call_commit, call_free, call_load, ask_value, ask_at, ask_pages, ask_modules, ask_no_module,
-    ask_counts, ask_all, misuse,
+    ask_counts, ask_all, ask_changes, ask_changes, ask_pieces, misuse,
 };
 
 static uint8_t digit(int letter)

@@ -50,7 +50,7 @@ void free(void *block)
 enum { MOST = 1 << 20, MOST_RECORDS = 4096 };
 
 static uint8_t stream[MOST], first_ledger[MOST];
-static size_t stream_length, ledger_length, ends[MOST_RECORDS + 1], count;
+static size_t stream_length, ledger_length, ends[MOST_RECORDS + 1], told[MOST_RECORDS + 1], count;
 static moveledger_bytes states[MOST_RECORDS + 1], whole;
 static unsigned long refused, wrong;
 
@@ -113,7 +113,7 @@ static size_t number(const uint8_t *bytes, size_t *at)
     }
 }
 
-/* Notes where records end, what each leaves, and the whole report. */
+/* Notes where records end, what each leaves, and the whole report with the place where the lines of each end. */
 static void note_states(void)
 {
     moveledger ledger = begun();
@@ -124,19 +124,20 @@ static void note_states(void)
         ends[++count] = at + size < stream_length ? at + size : stream_length;
         want(moveledger_apply(&ledger, stream + begin, ends[count] - begin, &answered, &whole) == MOVELEDGER_DONE, "a record");
         states[count] = saved(&ledger);
+        told[count] = whole.length;
     }
     moveledger_free(&ledger);
 }
 
-/* What is wanted behind a call that found no memory: the state of so many records or of one more, from which the rest goes on. */
-static void want_begun(moveledger *ledger, uint64_t answered)
+/* What is wanted behind a call that found no memory: the state of the records that are counted, from which the rest goes on. */
+static void want_begun(moveledger *ledger, uint64_t answered, const moveledger_bytes *report)
 {
-    moveledger_bytes at = saved(ledger), report = {NULL, 0, NULL};
-    size_t done = are_equal(&at, &states[answered]) ? answered : answered + 1;
-    want(answered < count && are_equal(&at, &states[done]), "the ledger is as some records left it");
+    moveledger_bytes at = saved(ledger), rest = {NULL, 0, NULL};
+    want(answered <= count && are_equal(&at, &states[answered]), "the ledger is as the records that are counted left it");
+    want(report->length >= told[answered], "their lines are in the report");
     moveledger_bytes_free(&at);
-    want(moveledger_apply(ledger, stream + ends[done], stream_length - ends[done], &answered, &report) == MOVELEDGER_DONE, "the rest");
-    moveledger_bytes_free(&report);
+    want(moveledger_apply(ledger, stream + ends[answered], stream_length - ends[answered], &answered, &rest) == MOVELEDGER_DONE, "the rest");
+    moveledger_bytes_free(&rest);
     at = saved(ledger);
     want(are_equal(&at, &states[count]), "the ledger goes on");
     moveledger_bytes_free(&at);
@@ -154,7 +155,7 @@ static bool try_apply(unsigned long nth, unsigned long last)
     refuse_none();
     want(is_beginning(&report, &whole), "the report is a beginning");
     if (status == MOVELEDGER_MEMORY)
-        want_begun(&ledger, answered);
+        want_begun(&ledger, answered, &report);
     else
         want(status == MOVELEDGER_DONE && report.length == whole.length && answered == count, "all is answered");
     moveledger_bytes_free(&report);

@@ -49,7 +49,7 @@ PRINTED = "// Printed by movedis."
 BYTES = Kind("a module or a stream", is_made, is_text=False)
 NAMES = Kind("names as `moveasm -g` keeps them", begins(rb'\{"form":'))
 LISTING = Kind("a text that movedis printed", begins(re.escape(PRINTED.encode())))
-EXPLAINED = Kind("what `movedis --explain` says", begins(rb"(?:accepted|too complex|loaded|load refused|refused|[0-9]+ [a-z])"))
+EXPLAINED = Kind("what `movedis --explain` says", begins(rb"(?:accepted|too complex|too long|loaded|load refused|refused|[0-9]+ [a-z])"))
 OBJECTS = Kind("what `movedis --explain --json` says", begins(rb'\{"(?:record|verdict)"'))
 PICTURE = Kind("a picture for Graphviz", begins(rb"digraph "))
 TRACED = Kind("what `movedis --trace` shows", begins(rb'[0-9]+ [a-z]|\{"record"'))

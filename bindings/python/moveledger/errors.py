@@ -47,6 +47,13 @@ class TooComplex(LedgerError):
         super().__init__("the module is too complex for a certificate")
 
 
+class TooLong(LedgerError):
+    """The search for a certificate of the module took the steps that it was given."""
+
+    def __init__(self) -> None:
+        super().__init__("the search for a certificate took the steps that it was given")
+
+
 class NoBlock(LedgerError):
     """No block of the ledger is open. Nothing has changed."""
 
@@ -56,8 +63,8 @@ class OutOfMemory(LedgerError, MemoryError):
 
 
 class Unfinished(OutOfMemory):
-    """Memory ran out while records were answered. `report` is a beginning of the whole one. The ledger is as some records left it:
-    those up to its `answered`, and perhaps the one after them. A block that is open takes back what they changed."""
+    """Memory ran out while records were answered. The ledger is as those up to its `answered` left it, and `report` has all their lines; behind
+    these it may have a beginning of the lines of a show or an audit that comes next. A block that is open takes back what they changed."""
 
     def __init__(self, report: "Report") -> None:
         super().__init__("memory ran out while records were answered")

@@ -1,14 +1,14 @@
 """Ledgers, and what needs none."""
 
 import json as json_text
-from ctypes import byref, c_uint8, c_uint64
+from ctypes import byref, c_size_t, c_uint8, c_uint64
 from threading import Lock
 from types import TracebackType
-from typing import Dict, Iterator, List, NamedTuple, NoReturn, Optional, Tuple, Type
+from typing import Any, Callable, Dict, Iterator, List, NamedTuple, NoReturn, Optional, Tuple, Type
 
 from . import library as lib
 from .errors import NoBlock, Unfinished
-from .library import Bytes, Holder, Place, library
+from .library import Bytes, Holder, Place, Saving, library
 from .names import Address, address_bytes, module_words, struct_words
 from .report import Count, Report, Stored, read_words
 
@@ -21,6 +21,22 @@ class Module(NamedTuple):
 
     code: bytes
     certificate: bytes
+
+
+class Change(NamedTuple):
+    """A value that differs from what stood there where a block was opened: its fields in braces, or None where there was or is none."""
+
+    address: str
+    struct: str
+    before: Optional[str]
+    now: Optional[str]
+
+
+class ChangedModule(NamedTuple):
+    """A module that was published in a block, or that replaced one with other bytes or another certificate."""
+
+    name: str
+    is_new: bool
 
 
 class Ledger:
@@ -82,6 +98,36 @@ class Ledger:
             self._do("commit")
             self._begun.pop()
 
+    def changes(self) -> List[Change]:
+        """What is stored otherwise than where the newest block was opened, by ascending address. It takes as long as what runs changed in
+        the block. `NoBlock`."""
+        before, now = self.changes_json()
+        values: Dict[Tuple[str, str], List[Optional[str]]] = {}
+        for side, entries in enumerate((before, now)):
+            for entry in entries:
+                values.setdefault((entry["address"], entry["struct"]), [None, None])[side] = entry["value"]
+        return sorted((Change(*key, *both) for key, both in values.items()), key=lambda change: change.address)
+
+    def changes_json(self) -> Tuple[List[Dict[str, str]], List[Dict[str, str]]]:
+        """The same as two shows: the values that the changed keys had, and those that they have, each with its `address`, `struct` and
+        `value`."""
+        before, now = Bytes(), Bytes()
+        with self._lock:
+            status = library().changes(byref(self._open()), byref(before), byref(now))
+        texts = [library().taken(given).decode("ascii") for given in (before, now)]
+        if status != lib.DONE:
+            lib.fail(status, 0)
+        shown: List[Any] = [json_text.loads(text.split(" ", 1)[1])["show"] for text in texts]
+        return shown[0], shown[1]
+
+    def changed_modules(self) -> List[ChangedModule]:
+        """The modules that were published since the newest block was opened, and those that were replaced, in order of publication.
+        `NoBlock`."""
+        with self._lock:
+            lines = library().answer("changed_modules", byref(self._open())).decode("ascii").splitlines()
+        words = (line.split(" ") for line in lines)
+        return [ChangedModule(name, word == "published") for word, name in words]
+
     def _do(self, name: str) -> None:
         status = getattr(library(), name)(byref(self._open()))
         if status != lib.DONE:
@@ -91,6 +137,23 @@ class Ledger:
         """The ledger's text, as `moveledger apply --save` writes it. Equal ledgers have equal texts."""
         with self._lock:
             return library().answer("save", byref(self._open()))
+
+    def save_to(self, write: Callable[[bytes], Any]) -> None:
+        """Calls a function, such as the `write` of a binary file, with the same text in pieces of at most 65,536 bytes. The memory that this
+        needs doesn't grow with what is stored. No other call of this ledger goes on meanwhile, also none of the function's own."""
+        saving = Saving()
+        with self._lock:
+            holder = byref(self._open())
+            try:
+                status = library().save_begin(byref(saving))
+                while status == lib.DONE:
+                    piece = library().found("save_next", holder, byref(saving))
+                    if piece is None:
+                        return
+                    write(piece)
+                lib.fail(status, 0)
+            finally:
+                library().save_end(byref(saving))
 
     def show(self) -> List[Stored]:
         """The stored values, as a show has them."""
@@ -238,6 +301,14 @@ class Block:
         """Answers records, as the ledger does."""
         return self.ledger.apply(records)
 
+    def changes(self) -> List[Change]:
+        """What is stored otherwise than where the newest block was opened, as `Ledger.changes` tells it."""
+        return self.ledger.changes()
+
+    def changed_modules(self) -> List[ChangedModule]:
+        """The modules that were published or replaced, as `Ledger.changed_modules` tells them."""
+        return self.ledger.changed_modules()
+
     def rollback(self) -> None:
         """Takes back what was answered in the block, and closes it before its scope ends. `NoBlock` where it is closed already."""
         if not self._is_open:
@@ -269,9 +340,39 @@ def counted(answered: int) -> int:
     return answered
 
 
-def prove(module: bytes) -> bytes:
-    """A certificate of a module. `Refused` where none passes; `TooComplex`."""
-    return bytes.fromhex(library().judged("prove", *lib.text(module)).decode("ascii"))
+class Record(NamedTuple):
+    """A record that isn't answered yet: its kind (1 publish, 2 run, 3 show, 4 audit), and how many bytes it takes, behind which the next one
+    begins. Of a publish or a run record, its sender; and of a run, the most steps that it may take. `sender` is None where the payload isn't
+    that of such a record."""
+
+    kind: int
+    length: int
+    sender: Optional[int]
+    budget: int
+
+    @property
+    def most_bytes(self) -> int:
+        """The most bytes by which a run makes a ledger grow: a value for each three steps. 0 for other kinds, whose bytes say it."""
+        return self.budget // 3 * 4300 if self.budget <= 10_000_000 else 0
+
+
+def first_record(records: bytes) -> Optional[Record]:
+    """The record that bytes begin with, without answering it. None where no whole one stands there."""
+    size, kind, is_shaped, sender, budget = c_size_t(), c_uint8(), c_uint8(), Place(), c_uint64()
+    words = [byref(place) for place in (size, kind, is_shaped, sender, budget)]
+    if not lib.is_found(library().read_record(*lib.text(records), *words)):
+        return None
+    return Record(kind.value, size.value, int.from_bytes(bytes(sender), "big") if is_shaped.value else None, budget.value)
+
+
+def prove(module: bytes, steps: Optional[int] = None) -> bytes:
+    """A certificate of a module. `Refused` where none passes; `TooComplex`. Where a number of steps is given, the search takes no more: then
+    `TooLong`. A step is one instruction of one visit of its block by the search."""
+    if steps is None:
+        return bytes.fromhex(library().judged("prove", *lib.text(module)).decode("ascii"))
+    if not 0 <= steps < 1 << 64:
+        raise ValueError(f"{steps} is no number of steps: it is at least 0, and below 2^64")
+    return bytes.fromhex(library().judged("prove_within", *lib.text(module), steps).decode("ascii"))
 
 
 def check(module: bytes, certificate: bytes) -> None:

@@ -6,17 +6,23 @@ from ctypes import POINTER, byref, c_char_p, c_int32, c_size_t, c_uint8, c_uint3
 from pathlib import Path
 from typing import Any, Callable, List, NoReturn, Optional, Tuple
 
-from .errors import LedgerError, LoadRefused, NoBlock, NoLibrary, OutOfMemory, Refused, TooComplex
+from .errors import LedgerError, LoadRefused, NoBlock, NoLibrary, OutOfMemory, Refused, TooComplex, TooLong
 
 FILE = "libmoveledger.so"
 HERE = Path(__file__).resolve().parent
 # What a call answers.
 DONE, REFUSED, LOAD_REFUSED, TOO_COMPLEX, MEMORY, ARGUMENTS = range(6)
-NO_BLOCK, ABSENT = 7, 8
+NO_BLOCK, ABSENT, TOO_LONG = 7, 8, 9
 
 
 class Holder(ctypes.Structure):
     """What holds a ledger, or none where it is null."""
+
+    _fields_ = [("own", c_void_p)]
+
+
+class Saving(ctypes.Structure):
+    """How far a save in pieces is, or none where it is null."""
 
     _fields_ = [("own", c_void_p)]
 
@@ -40,7 +46,12 @@ CALLS = {
     "begin": [POINTER(Holder)],
     "rollback": [POINTER(Holder)],
     "commit": [POINTER(Holder)],
+    "changes": [POINTER(Holder), POINTER(Bytes), POINTER(Bytes)],
+    "changed_modules": [POINTER(Holder), POINTER(Bytes)],
     "save": [POINTER(Holder), POINTER(Bytes)],
+    "save_begin": [POINTER(Saving)],
+    "save_next": [POINTER(Holder), POINTER(Saving), POINTER(Bytes)],
+    "save_end": [POINTER(Saving)],
     "show": [POINTER(Holder), c_uint32, POINTER(Bytes)],
     "audit": [POINTER(Holder), c_uint32, POINTER(Bytes)],
     "show_value": [POINTER(Holder), c_char_p, *STRUCT, c_uint32, POINTER(Bytes)],
@@ -50,12 +61,14 @@ CALLS = {
     "module": [POINTER(Holder), c_char_p, *TEXT, POINTER(Bytes), POINTER(Bytes)],
     "runs": [POINTER(Holder), POINTER(c_uint64)],
     "tally": [POINTER(Holder), *STRUCT, POINTER(c_uint64), POINTER(c_uint64)],
+    "read_record": [*TEXT, POINTER(c_size_t), POINTER(c_uint8), POINTER(c_uint8), POINTER(Place), POINTER(c_uint64)],
     "prove": [*TEXT, POINTER(Bytes), POINTER(c_uint8)],
+    "prove_within": [*TEXT, c_uint64, POINTER(Bytes), POINTER(c_uint8)],
     "check": [*TEXT, *TEXT, POINTER(c_uint8)],
     "migrate": [*TEXT, POINTER(Bytes), POINTER(c_uint8)],
     "bytes_free": [POINTER(Bytes)],
 }
-NO_ANSWER = ("free", "bytes_free")
+NO_ANSWER = ("free", "bytes_free", "save_end")
 
 
 def places() -> List[Path]:
@@ -121,6 +134,8 @@ def fail(status: int, why: int) -> NoReturn:
         raise LoadRefused(why)
     if status == TOO_COMPLEX:
         raise TooComplex()
+    if status == TOO_LONG:
+        raise TooLong()
     if status == MEMORY:
         raise OutOfMemory("there is no memory left")
     if status == NO_BLOCK:

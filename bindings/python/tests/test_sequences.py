@@ -9,6 +9,7 @@ from pathlib import Path
 from typing import Callable, Dict, List, NamedTuple, Optional, Set, Tuple
 
 import moveledger
+from moveledger.ledger import stored_in
 
 TOP = Path(__file__).resolve().parents[3]
 sys.path.append(str(TOP / "bindings/tests"))
@@ -45,6 +46,12 @@ class Kept(NamedTuple):
     audit: str
     answered: int
     runs: int
+    modules: Dict[str, Optional[moveledger.Module]]
+
+
+def shown(text: str) -> Dict[Tuple[str, str], str]:
+    """The values of a show by their addresses and structs."""
+    return {(line.address, line.struct): line.value for line in stored_in(text)}
 
 
 class Sequence:
@@ -60,6 +67,8 @@ class Sequence:
         # The names of the lines that were met outside of blocks and in them, and how the blocks ended.
         self.met: Set[Tuple[str, str]] = set()
         self.lines: List[Set[str]] = []
+        # Which kinds of changes were told.
+        self.told: Set[str] = set()
 
     def close(self) -> None:
         """Frees the ledger, in whichever block it is."""
@@ -67,7 +76,8 @@ class Sequence:
         self.model.close()
 
     def now(self, ledger: moveledger.Ledger) -> Kept:
-        return Kept(ledger.save(), ledger.show_text(), ledger.audit_text(), ledger.answered, self.runs)
+        modules = {name: ledger.module(name) for name in ledger.modules()}
+        return Kept(ledger.save(), ledger.show_text(), ledger.audit_text(), ledger.answered, self.runs, modules)
 
     def agree(self) -> None:
         """The ledger is the model's."""
@@ -179,11 +189,32 @@ class Sequence:
         again = moveledger.Ledger(self.ledger.save(), self.ledger.answered)
         self.test.assertEqual(self.now(again), self.now(self.ledger))
         self.test.assertRaises(moveledger.NoBlock, again.rollback)
+        pieces: List[bytes] = []
+        self.ledger.save_to(pieces.append)
+        self.test.assertEqual(b"".join(pieces), self.ledger.save())
         if self.open:
             again.close()
         else:
             self.ledger.close()
             self.ledger = again
+
+    def differ(self) -> None:
+        """What the newest block has changed is the difference of what stood where it was begun and what stands now."""
+        if not self.open:
+            self.test.assertRaises(moveledger.NoBlock, self.ledger.changes)
+            self.test.assertRaises(moveledger.NoBlock, self.ledger.changed_modules)
+            return
+        old, new = self.open[-1], self.now(self.ledger)
+        then, now = shown(old.show), shown(new.show)
+        wanted = [moveledger.Change(*key, then.get(key), now.get(key)) for key in sorted({*then, *now}) if then.get(key) != now.get(key)]
+        self.test.assertEqual(sorted(self.ledger.changes(), key=lambda change: change[:2]), wanted)
+        modules = [moveledger.ChangedModule(name, name not in old.modules)
+                   for name, module in new.modules.items() if old.modules.get(name) != module]
+        self.test.assertEqual(self.ledger.changed_modules(), modules)
+        self.told.update(word for word, holds in (("new", any(c.before is None for c in wanted)), ("gone", any(c.now is None for c in wanted)),
+                                                  ("other", any(None not in c for c in wanted)), ("published", any(m.is_new for m in modules)),
+                                                  ("replaced", not all(m.is_new for m in modules))) if holds)
+        self.agree()
 
     def ask(self) -> None:
         Asked(self.test, self.ledger, self.random).compare(self.runs)
@@ -191,7 +222,7 @@ class Sequence:
 
     def run(self, steps: int) -> None:
         chances: Steps = [(self.apply, 40), (self.begin, 14), (self.rollback, 9), (self.commit, 9), (self.scope, 6), (self.load, 3),
-                          (self.ask, 4)]
+                          (self.ask, 4), (self.differ, 8)]
         chosen = self.random.choices([step for step, _ in chances], [chance for _, chance in chances], k=steps)
         for at, step in enumerate(chosen):
             try:
@@ -277,14 +308,17 @@ class Asked:
 class Sequences(unittest.TestCase):
     def test_sequences_are_those_of_a_model(self) -> None:
         met: Set[Tuple[str, str]] = set()
+        told: Set[str] = set()
         for seed in SEEDS:
             sequence = Sequence(self, seed)
             with self.subTest(seed=seed):
                 sequence.run(STEPS)
             sequence.close()
             met |= sequence.met
+            told |= sequence.told
         for end in ENDS:
             self.assertLessEqual(set(LINES), {name for name, where in met if where == end}, end)
+        self.assertEqual(told, {"new", "gone", "other", "published", "replaced"})
 
     def test_blocks_are_closed_from_within(self) -> None:
         """All ways to close three nested blocks in which a coin is minted, taken and minted again: the oldest that is taken back counts."""

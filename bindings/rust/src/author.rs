@@ -24,6 +24,21 @@ pub fn prove(module: &[u8]) -> Result<Certificate, Error> {
     Ok(Certificate(certificate))
 }
 
+/// Makes a certificate of a module, in so many steps at most: a step is one instruction of one visit of its block by the search.
+///
+/// # Errors
+/// As [`prove`]; and [`Error::TooLong`] where the steps don't suffice.
+pub fn prove_within(module: &[u8], steps: u64) -> Result<Certificate, Error> {
+    let (mut certificate, mut why) = (Owned::new(), 0);
+    // SAFETY: the slice is so long, and the pointers are to places for the certificate and the reason.
+    let status = unsafe {
+        let (bytes, length) = (module.as_ptr(), module.len());
+        sys::moveledger_prove_within(bytes, length, steps, certificate.raw(), &mut why)
+    };
+    done(status, why)?;
+    Ok(Certificate(certificate))
+}
+
 /// Asks whether a module passes with the certificate of this hexadecimal.
 ///
 /// # Errors

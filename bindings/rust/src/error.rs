@@ -14,11 +14,13 @@ pub enum Error {
     LoadRefused(u8),
     /// The search for a certificate of the module reached its limits.
     TooComplex,
+    /// The search for a certificate took the steps that it was given.
+    TooLong,
     /// There was no memory for an answer. Nothing has changed, but for [`Ledger::apply_into`](crate::Ledger::apply_into).
     Memory,
-    /// Memory ran out while records were answered. The report is a beginning of the whole one. The ledger is as some records
-    /// left it: those up to [`Ledger::answered`](crate::Ledger::answered), and perhaps the one after them. A
-    /// [`Block`](crate::Block) that is open takes back what they changed.
+    /// Memory ran out while records were answered. The ledger is as the records up to
+    /// [`Ledger::answered`](crate::Ledger::answered) left it, and the report has all their lines; behind these it may have a beginning of
+    /// the lines of a show or an audit that comes next. A [`Block`](crate::Block) that is open takes back what they changed.
     Unfinished(Report),
     /// The library answered what this crate doesn't know.
     Unknown(i32),
@@ -40,6 +42,7 @@ impl Error {
             sys::REFUSED => Error::Refused(why),
             sys::LOAD_REFUSED => Error::LoadRefused(why),
             sys::TOO_COMPLEX => Error::TooComplex,
+            sys::TOO_LONG => Error::TooLong,
             sys::MEMORY => Error::Memory,
             other => Error::Unknown(other),
         }
@@ -56,6 +59,7 @@ impl fmt::Display for Error {
                 write!(f, "the saved ledger is refused, reason {reason}: {said}")
             }
             Error::TooComplex => write!(f, "the module is too complex for a certificate"),
+            Error::TooLong => write!(f, "the search for a certificate took the steps that it was given"),
             Error::Memory => write!(f, "there is no memory left"),
             Error::Unfinished(_) => write!(f, "memory ran out while records were answered"),
             Error::Unknown(status) => write!(f, "the library answered the status {status}"),

@@ -41,6 +41,9 @@
 //! // What is answered in a block is kept, or taken back: the ledger is then as it was.
 //! let mut block = again.block()?;
 //! let report = block.apply(&mint(2, 9))?;
+//! for change in block.changes()?.values() {
+//!     assert_eq!((change.before, change.now), (None, Some("{9}")));
+//! }
 //! let is_agreed = report.parsed().all(|line| matches!(line, Ok(Line::Returned { .. })));
 //! if is_agreed {
 //!     block.commit();
@@ -48,6 +51,11 @@
 //!     block.rollback();
 //! }
 //! assert_eq!((again.answered(), again.values(coin).count()), (1, 2));
+//!
+//! // A save in pieces needs no memory that grows with what is stored.
+//! let mut saved = Vec::new();
+//! again.save_to(&mut saved)?;
+//! assert_eq!(saved[..], again.save()?[..]);
 //! # Ok(())
 //! # }
 //! ```
@@ -56,21 +64,25 @@ mod address;
 mod asked;
 mod author;
 mod block;
+mod changed;
 mod error;
 mod ledger;
 mod line;
 mod questions;
 pub mod record;
 mod report;
+mod saving;
 mod sys;
 mod text;
 
 pub use address::{Address, NoAddress};
 pub use asked::{Module, ModuleName, Modules, Page, Tally, Value, Values};
-pub use author::{check, migrate, prove};
+pub use author::{check, migrate, prove, prove_within};
 pub use block::Block;
+pub use changed::{Change, ChangedModule, ChangedModules, Changes};
 pub use error::Error;
 pub use ledger::{Form, Ledger};
 pub use line::{Abort, Entry, Exhausted, Line, Struct, UnknownLine};
 pub use report::{Entries, Report};
+pub use saving::Pieces;
 pub use text::{Certificate, Saved};

@@ -1,6 +1,9 @@
 //! The bytes of records (docs/FORMATS.md, "Records"). Nothing here says whether a record will be taken: the ledger does.
 
 use crate::address::Address;
+use crate::error::Error;
+use crate::ledger::done;
+use crate::sys;
 
 /// Asks what is stored.
 pub const SHOW: [u8; 2] = [3, 0];
@@ -32,6 +35,56 @@ pub enum Argument {
     U64(u64),
     U128(u128),
     Address(Address),
+}
+
+/// A record that isn't answered yet.
+#[derive(Clone, Copy, Debug, PartialEq, Eq)]
+pub struct Front {
+    /// 1 publish, 2 run, 3 show, 4 audit; others are answered `refused 1`.
+    pub kind: u8,
+    /// How many bytes it takes: the next record begins behind them.
+    pub length: usize,
+    /// Who publishes or runs, and the most steps of a run, which are 0 for a bundle. None where the payload isn't that of a publish or a
+    /// run record.
+    pub asked: Option<(Address, u64)>,
+}
+
+impl Front {
+    /// The most bytes by which the record makes a ledger grow, if it is a run.
+    pub fn most_bytes(&self) -> Option<u64> {
+        match (self.kind, self.asked) {
+            (2, Some((_, budget))) if budget <= 10_000_000 => Some(budget / 3 * 4_300),
+            (2, _) => Some(0),
+            _ => None,
+        }
+    }
+}
+
+/// The record that bytes begin with, without answering it. None where no whole one stands there.
+///
+/// # Errors
+/// [`Error::Memory`].
+pub fn first(records: &[u8]) -> Result<Option<Front>, Error> {
+    let (mut length, mut kind, mut is_shaped, mut budget) = (0, 0, 0, 0);
+    let mut sender = Address::default();
+    // SAFETY: the slice is so long, and the pointers are to places for what is told.
+    let status = unsafe {
+        let (at, size) = (records.as_ptr(), records.len());
+        sys::moveledger_read_record(
+            at,
+            size,
+            &mut length,
+            &mut kind,
+            &mut is_shaped,
+            &mut sender.0,
+            &mut budget,
+        )
+    };
+    if status == sys::ABSENT {
+        return Ok(None);
+    }
+    done(status)?;
+    Ok(Some(Front { kind, length, asked: (is_shaped != 0).then_some((sender, budget)) }))
 }
 
 /// A record that publishes modules together, each with its certificate's bytes.

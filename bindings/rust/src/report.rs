@@ -29,7 +29,7 @@ impl Report {
         self.as_str().lines()
     }
 
-    /// Its lines, read. Behind a record whose lines were cut off the last line may be unknown.
+    /// Its lines, read. Where memory ran out within a show or an audit the last line may be unknown.
     pub fn parsed(&self) -> impl Iterator<Item = Result<Line<'_>, UnknownLine<'_>>> {
         self.lines().map(Line::parse)
     }

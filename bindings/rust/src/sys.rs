@@ -8,6 +8,12 @@ pub struct RawLedger {
     pub own: *mut c_void,
 }
 
+/// How far a save in pieces is, or none where it is null.
+#[repr(C)]
+pub struct RawSaving {
+    pub own: *mut c_void,
+}
+
 /// Bytes that the library gives, to be freed by `moveledger_bytes_free`.
 #[repr(C)]
 pub struct RawBytes {
@@ -23,6 +29,7 @@ pub const LOAD_REFUSED: i32 = 2;
 pub const TOO_COMPLEX: i32 = 3;
 pub const MEMORY: i32 = 4;
 pub const ABSENT: i32 = 8;
+pub const TOO_LONG: i32 = 9;
 
 extern "C" {
     pub fn moveledger_new(ledger: *mut RawLedger) -> i32;
@@ -38,7 +45,12 @@ extern "C" {
     pub fn moveledger_begin(ledger: *mut RawLedger) -> i32;
     pub fn moveledger_rollback(ledger: *mut RawLedger) -> i32;
     pub fn moveledger_commit(ledger: *mut RawLedger) -> i32;
+    pub fn moveledger_changes(ledger: *mut RawLedger, before: *mut RawBytes, now: *mut RawBytes) -> i32;
+    pub fn moveledger_changed_modules(ledger: *mut RawLedger, names: *mut RawBytes) -> i32;
     pub fn moveledger_save(ledger: *mut RawLedger, saved: *mut RawBytes) -> i32;
+    pub fn moveledger_save_begin(saving: *mut RawSaving) -> i32;
+    pub fn moveledger_save_next(ledger: *mut RawLedger, saving: *mut RawSaving, piece: *mut RawBytes) -> i32;
+    pub fn moveledger_save_end(saving: *mut RawSaving);
     pub fn moveledger_show(ledger: *mut RawLedger, form: u32, lines: *mut RawBytes) -> i32;
     pub fn moveledger_audit(ledger: *mut RawLedger, form: u32, lines: *mut RawBytes) -> i32;
     pub fn moveledger_show_value(
@@ -91,9 +103,25 @@ extern "C" {
         packed: *mut u64,
         unpacked: *mut u64,
     ) -> i32;
+    pub fn moveledger_read_record(
+        records: *const u8,
+        length: usize,
+        size: *mut usize,
+        kind: *mut u8,
+        is_shaped: *mut u8,
+        sender: *mut [u8; 16],
+        budget: *mut u64,
+    ) -> i32;
     pub fn moveledger_prove(
         module: *const u8,
         length: usize,
+        certificate: *mut RawBytes,
+        why: *mut u8,
+    ) -> i32;
+    pub fn moveledger_prove_within(
+        module: *const u8,
+        length: usize,
+        steps: u64,
         certificate: *mut RawBytes,
         why: *mut u8,
     ) -> i32;

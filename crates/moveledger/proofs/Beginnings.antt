@@ -6,18 +6,19 @@ use Rattle.std.proofs.lemmas.Bool.{cases_order}
 use Rattle.std.proofs.lemmas.List.{take_all, length-take-le}
 use Rattle.std.proofs.lemmas.Option.{same_Some}
 use Rattle.std.specs.Io.KnownBytes.{Appends}
-use Rattle.mv_analyser.specs.declared.ProveError.{ProveError}
+use Rattle.mv_analyser.specs.declared.LimitError.{LimitError}
+use Rattle.mv_analyser.specs.declared.LimitError.TheVariants as limit
 use Rattle.mv_analyser.specs.declared.ProveError.TheVariants as proof
 use Rattle.mv_move_types.specs.declared.refusal.Refusal.{Refusal}
 use Rattle.mv_move_types.specs.declared.refusal.Refusal.TheVariants.{Phase, Memory as OutOfMemory}
 use Rattle.moveledger.specs.Authoring.{ChecksTo, Prints, ProvesTo}
 use Rattle.moveledger.specs.Checking.{AreShort, FailsCheck, IsAccepted, IsRefusedText, before_line_end, failing, too_long as texts_too_long}
 use Rattle.moveledger.specs.Printing.{checked_line, line, no_proof_line, refused_text}
-use Rattle.moveledger.specs.Proving.{FailsProof, HasNoProof, IsComplexText, IsProvedBy, IsShort, in_each, in_module, too_long}
+use Rattle.moveledger.specs.Proving.{FailsProof, HasNoProofWithin, IsComplexText, IsProvedBy, IsShort, in_each, in_module, too_long}
 use Rattle.moveledger.specs.Status.{end_after_check, end_after_proof}
 use Rattle.moveledger.specs.Writing.{BreaksOff}
 use Rattle.moveledger.specs.declared.ending.End.{End}
-use Rattle.moveledger.specs.declared.ending.End.TheVariants.{Done, Refused, TooComplex, Write}
+use Rattle.moveledger.specs.declared.ending.End.TheVariants.{Done, Refused, TooComplex, TooLong, Write}
 
 -- fewer bytes than were asked for are all
 few-taken : (n : ℕ) (l : List ℕ) → length (take n l) < n → take n l ≡ l
@@ -98,30 +99,32 @@ module _ {S A : Type 0} (bytes_of : S → List ℕ) (m : List ℕ) (held holds :
   checks-to t bytes text (Err OutOfMemory) (Ok s) module_is text_is ok err said h = cc
 
   -- what is printed of a module that a certificate was to be made for
-  pub proves-to : (bytes : List ℕ) (proved : Result S ProveError) (made : Result S A) → bytes ≡ take 65537 m
-      → IfOk proved (λ s. IsProvedBy bytes (bytes_of s)) → IfErr proved (HasNoProof bytes)
+  pub proves-to : (steps : Option ℕ) (bytes : List ℕ) (proved : Result S LimitError) (made : Result S A) → bytes ≡ take 65537 m
+      → IfOk proved (λ s. IsProvedBy bytes (bytes_of s)) → IfErr proved (HasNoProofWithin steps bytes)
       → IfOk made (λ s. MatchResult proved (λ digits. bytes_of s ≡ line (bytes_of digits)) (λ e. Some (bytes_of s) ≡ no_proof_line e))
-      → Prints bytes_of made (end_after_proof proved) held holds result → ProvesTo m held holds result
-  proves-to bytes proved (Err e) module_is ok err said h = subst (ProvesTo m held holds) (sym h.0) h.1
-  proves-to bytes (Ok digits) (Ok s) module_is ok err said h =
+      → Prints bytes_of made (end_after_proof proved) held holds result → ProvesTo steps m held holds result
+  proves-to steps bytes proved (Err e) module_is ok err said h = subst (ProvesTo steps m held holds) (sym h.0) h.1
+  proves-to steps bytes (Ok digits) (Ok s) module_is ok err said h =
       let whole = proved-by m (bytes_of digits) (subst (λ x. IsProvedBy x (bytes_of digits)) module_is ok) in
-      printed-so held holds result (ProvesTo m held holds) Done (bytes_of s) (line (bytes_of digits)) said (λ b. inl (bytes_of digits, whole, b)) (λ a. (bytes_of digits, whole, a)) h
-  proves-to bytes (Err (proof.Refused phase)) (Ok s) module_is ok err said h =
+      printed-so held holds result (ProvesTo steps m held holds) Done (bytes_of s) (line (bytes_of digits)) said (λ b. inl (bytes_of digits, whole, b)) (λ a. (bytes_of digits, whole, a)) h
+  proves-to steps bytes (Err (limit.Unproved (proof.Refused phase))) (Ok s) module_is ok err said h =
       let whole = fails-proof m phase (subst (λ x. FailsProof x phase) module_is err) in
-      printed-so held holds result (ProvesTo m held holds) (Refused phase) (bytes_of s) (line (refused_text phase)) (same_Some _ _ said) (λ b. inr (inl (phase, whole, b))) (λ a. (whole, a)) h
-  proves-to bytes (Err proof.TooComplex) (Ok s) module_is ok err said h =
+      printed-so held holds result (ProvesTo steps m held holds) (Refused phase) (bytes_of s) (line (refused_text phase)) (same_Some _ _ said) (λ b. inr (inl (phase, whole, b))) (λ a. (whole, a)) h
+  proves-to steps bytes (Err (limit.Unproved proof.TooComplex)) (Ok s) module_is ok err said h =
       let whole = complex-text m (subst IsComplexText module_is err) in
-      printed-so held holds result (ProvesTo m held holds) TooComplex (bytes_of s) (line (codes "too complex")) (same_Some _ _ said) (λ b. inr (inr (whole, b))) (λ a. (whole, a)) h
-  proves-to bytes (Err proof.Memory) (Ok s) module_is ok err said h = cc
+      printed-so held holds result (ProvesTo steps m held holds) TooComplex (bytes_of s) (line (codes "too complex")) (same_Some _ _ said) (λ b. inr (inr (inl (whole, b)))) (λ a. (whole, a)) h
+  proves-to steps bytes (Err (limit.Unproved proof.Memory)) (Ok s) module_is ok err said h = cc
+  proves-to steps bytes (Err limit.TooLong) (Ok s) module_is ok err said h =
+      printed-so held holds result (ProvesTo steps m held holds) TooLong (bytes_of s) (line (codes "too long")) (same_Some _ _ said) (λ b. inr (inr (inr (err, b)))) (λ a. (err, a)) h
 
 module _ {S A : Type 0} (bytes_of : S → List ℕ) (held holds : Option (List ℕ)) (result : End) where
   -- the same, of readers that may not tell what they give
-  pub proves-some : (m : Option (List ℕ)) (bytes : List ℕ) (proved : Result S ProveError) (made : Result S A) → IfSome m (λ xs. bytes ≡ take 65537 xs)
-      → IfOk proved (λ s. IsProvedBy bytes (bytes_of s)) → IfErr proved (HasNoProof bytes)
+  pub proves-some : (steps : Option ℕ) (m : Option (List ℕ)) (bytes : List ℕ) (proved : Result S LimitError) (made : Result S A) → IfSome m (λ xs. bytes ≡ take 65537 xs)
+      → IfOk proved (λ s. IsProvedBy bytes (bytes_of s)) → IfErr proved (HasNoProofWithin steps bytes)
       → IfOk made (λ s. MatchResult proved (λ digits. bytes_of s ≡ line (bytes_of digits)) (λ e. Some (bytes_of s) ≡ no_proof_line e))
-      → Prints bytes_of made (end_after_proof proved) held holds result → IfSome m (λ m. ProvesTo m held holds result)
-  proves-some None bytes proved made module_is ok err said is = tt
-  proves-some (Some m) bytes proved made module_is ok err said is = proves-to bytes_of m held holds result bytes proved made module_is ok err said is
+      → Prints bytes_of made (end_after_proof proved) held holds result → IfSome m (λ m. ProvesTo steps m held holds result)
+  proves-some steps None bytes proved made module_is ok err said is = tt
+  proves-some steps (Some m) bytes proved made module_is ok err said is = proves-to bytes_of m held holds result steps bytes proved made module_is ok err said is
 
   pub checks-some : (m t : Option (List ℕ)) (bytes text : List ℕ) (checked : Result (Unit {0}) Refusal) (made : Result S A)
       → IfSome m (λ xs. bytes ≡ take 65537 xs) → IfSome t (λ xs. text ≡ take 2097154 xs)

@@ -21,3 +21,4 @@ pub mod Beginnings
 pub mod Unloaded
 pub mod Marks
 pub mod Fronts
+pub mod FirstRecord

@@ -1,5 +1,5 @@
 -- What is answered where a certificate is made, and where none is.
-use Rattle.std.proofs.Common.{◌≡◌, ℕ, ◌≤◌, Bool, true, false, List, [], ◌∷◌, ◌++◌, length, IsTrue, refl, sym, ap, ◌∙◌, subst}
+use Rattle.std.proofs.Common.{◌≡◌, ℕ, ◌≤◌, Bool, true, false, List, [], ◌∷◌, ◌++◌, length, Option, None, IsSome, IsTrue, refl, sym, ap, ◌∙◌, subst}
 use Rattle.std.proofs.lemmas.Bool.{and_from}
 use Rattle.mv_move_types.specs.declared.refusal.Refusal.{Refusal}
 use Rattle.mv_move_types.specs.declared.refusal.Refusal.TheVariants.{Phase, Memory as OutOfMemory}
@@ -12,14 +12,16 @@ use Rattle.mv_certificate.specs.Answers.{bad_locals, bad_borrows, bad_acquires}
 use Rattle.mv_certificate_rules.specs.Certificate.{Certificate, all_locals_hold, all_edges_hold, certificate_holds}
 use Rattle.mv_certificate_rules.specs.CertificateText.{certificate_text}
 use Rattle.mv_certificate_rules.specs.Shape.{AllStatedFit}
-use Rattle.mv_analyser.specs.Principal.{IsOfLimits, IsProvable, IsUnproved, PassesCheck}
+use Rattle.mv_analyser.specs.Principal.{IsOfLimits, IsOfLimitsWithin, IsProvable, IsUnproved, IsUnprovedWithin, PassesCheck}
+use Rattle.mv_analyser.specs.declared.LimitError.{LimitError}
+use Rattle.mv_analyser.specs.declared.LimitError.TheVariants.{Unproved, TooLong}
 use Rattle.mv_analyser.specs.declared.ProveError.{ProveError}
 use Rattle.mv_analyser.specs.declared.ProveError.TheVariants.{Refused, TooComplex, Memory}
 use Rattle.moveledger.specs.Hexadecimal.{hexadecimal, IsHexadecimal}
 use Rattle.mv_ledger_state.specs.Publishing.{Passes, Spells}
 use Rattle.mv_ledger_state.proofs.Spelling.{module-one}
 use Rattle.moveledger.specs.Checking.{AreShort, IsAccepted, IsRefusedAlone, PassesWith, before_line_end, offer_of}
-use Rattle.moveledger.specs.Proving.{HasNoProof, IsAcceptedBack, IsProvableText, IsProvedBy, IsShort, error_of, in_each, in_module}
+use Rattle.moveledger.specs.Proving.{HasNoProof, HasNoProofWithin, IsAcceptedBack, IsProvableText, IsProvedBy, IsShort, error_of, in_each, in_module}
 use Rattle.moveledger.proofs.Texts.{before_line_end-hexadecimal, before_line_end-line}
 use Rattle.mv_ledger_state.proofs.Phases.{never-fails}
 
@@ -74,6 +76,21 @@ module _ (bytes : List ℕ) (short : IsShort bytes) where
     each-no_proof (Refused p) h = in_each m p short text sound h
     each-no_proof TooComplex h = record { short = short; tables = m; text = text; sound = sound; references = h.0; complex = h.1 }
     each-no_proof Memory h = tt
+
+    pub each-no_proof_within : (steps : Option ℕ) (e : LimitError) → IsUnprovedWithin m e → (e ≡ TooLong → IsSome steps) → HasNoProofWithin steps bytes e
+    each-no_proof_within steps (Unproved e) h limited = each-no_proof e h
+    each-no_proof_within steps TooLong h limited = limited refl
+
+-- without a limit of steps they are never used up
+pub unlimited-never_long : (bytes : List ℕ) (e : LimitError) → HasNoProofWithin None bytes e → e ≡ TooLong → ⊥
+unlimited-never_long bytes (Unproved e) h is = cc
+unlimited-never_long bytes TooLong h is = cc
+
+pub unlimited-no_proof : (bytes : List ℕ) (e : LimitError) (why : ProveError) → e ≡ Unproved why → HasNoProofWithin None bytes e → HasNoProof bytes why
+unlimited-no_proof bytes e why is h = subst (HasNoProofWithin None bytes) is h
+
+pub unlimited-of_limits : (e : LimitError) (why : ProveError) → e ≡ Unproved why → IsOfLimitsWithin e → IsOfLimits why
+unlimited-of_limits e why is h = subst IsOfLimitsWithin is h
 
 -- where some certificate passes, one passes with the module that the bytes spell
 pub provable-spelled : IsReadByText → (bytes : List ℕ) → AreBytes bytes → (m : Module) → Spells bytes m → IsProvableText bytes → IsProvable m

@@ -61,6 +61,13 @@ Progress-start a w s before = record {
   report = (refl, refl);
 }
 
+-- the writer may be another one that has taken the same bytes
+pub moved : {before : ℕ} {given gives held holds other : Option (List ℕ)} {old new : LedgerView} {n : ℕ} → other ≡ holds
+    → Progress before given gives held holds old new n → Progress before given gives held other old new n
+moved {before} {given} {gives} {held} {holds} {other} {old} {new} {n} e p =
+    let P : Option (List ℕ) → Type 0 = λ h. Progress before given gives held h old new n in
+    subst P (sym e) p
+
 module _ {before : ℕ} {given gives held holds : Option (List ℕ)} {old new : LedgerView} {n : ℕ} (p : Progress before given gives held holds old new n) where
   -- the report and the number of one more record
   report-push : (r : Record) (lines : List (List ℕ)) (new2 : LedgerView) → Step new r lines new2

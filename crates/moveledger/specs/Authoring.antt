@@ -1,8 +1,8 @@
 -- How the commands of an author end, and what they print.
-use Rattle.std.specs.Prelude.{◌≡◌, ℕ, ◌⊎◌, List, Option, Result, Ok, Err, codes}
+use Rattle.std.specs.Prelude.{◌≡◌, ℕ, ◌⊎◌, List, Option, Result, Ok, Err, IsSome, codes}
 use Rattle.std.specs.Io.KnownBytes.{Appends}
 use Rattle.moveledger.specs.declared.ending.End.{End}
-use Rattle.moveledger.specs.declared.ending.End.TheVariants.{Done, Read, Write, Memory, Words, Refused, LoadRefused, TooComplex}
+use Rattle.moveledger.specs.declared.ending.End.TheVariants.{Done, Read, Write, Memory, Words, Refused, LoadRefused, TooComplex, TooLong}
 use Rattle.moveledger.specs.Printing.{line, refused_text}
 use Rattle.moveledger.specs.Checking.{FailsCheck, IsAccepted}
 use Rattle.moveledger.specs.Proving.{FailsProof, IsComplexText, IsProvedBy}
@@ -27,16 +27,19 @@ ChecksTo bytes text held holds Memory = holds ≡ held
 ChecksTo bytes text held holds Words = ⊥
 ChecksTo bytes text held holds (LoadRefused number) = ⊥
 ChecksTo bytes text held holds TooComplex = ⊥
+ChecksTo bytes text held holds TooLong = ⊥
 
--- Where a certificate was to be made for a module. At an error it is as in `ChecksTo`.
-abbrev pub ProvesTo : List ℕ → Option (List ℕ) → Option (List ℕ) → End → Type 0
-ProvesTo bytes held holds Done = (text : List ℕ) × IsProvedBy bytes text × Appends held holds (line text)
-ProvesTo bytes held holds (Refused phase) = FailsProof bytes phase × Appends held holds (line (refused_text phase))
-ProvesTo bytes held holds TooComplex = IsComplexText bytes × Appends held holds (line (codes "too complex"))
-ProvesTo bytes held holds Write = ((text : List ℕ) × IsProvedBy bytes text × BreaksOff (line text) held holds)
+-- Where a certificate was to be made for a module, by a search whose steps are limited, or aren't. At an error it is as in `ChecksTo`.
+abbrev pub ProvesTo : Option ℕ → List ℕ → Option (List ℕ) → Option (List ℕ) → End → Type 0
+ProvesTo steps bytes held holds Done = (text : List ℕ) × IsProvedBy bytes text × Appends held holds (line text)
+ProvesTo steps bytes held holds (Refused phase) = FailsProof bytes phase × Appends held holds (line (refused_text phase))
+ProvesTo steps bytes held holds TooComplex = IsComplexText bytes × Appends held holds (line (codes "too complex"))
+ProvesTo steps bytes held holds TooLong = IsSome steps × Appends held holds (line (codes "too long"))
+ProvesTo steps bytes held holds Write = ((text : List ℕ) × IsProvedBy bytes text × BreaksOff (line text) held holds)
     ⊎ (((phase : ℕ) × FailsProof bytes phase × BreaksOff (line (refused_text phase)) held holds)
-    ⊎ (IsComplexText bytes × BreaksOff (line (codes "too complex")) held holds))
-ProvesTo bytes held holds Read = holds ≡ held
-ProvesTo bytes held holds Memory = holds ≡ held
-ProvesTo bytes held holds Words = ⊥
-ProvesTo bytes held holds (LoadRefused number) = ⊥
+    ⊎ ((IsComplexText bytes × BreaksOff (line (codes "too complex")) held holds)
+    ⊎ (IsSome steps × BreaksOff (line (codes "too long")) held holds)))
+ProvesTo steps bytes held holds Read = holds ≡ held
+ProvesTo steps bytes held holds Memory = holds ≡ held
+ProvesTo steps bytes held holds Words = ⊥
+ProvesTo steps bytes held holds (LoadRefused number) = ⊥

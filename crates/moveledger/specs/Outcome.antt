@@ -25,7 +25,7 @@ use Rattle.mv_machine.specs.Lines.{numbered}
 use Rattle.moveledger.specs.Headline.{Headline, Step, Reports, Tells}
 use Rattle.moveledger.specs.Writing.{IsByLines}
 use Rattle.moveledger.specs.declared.ending.End.{End}
-use Rattle.moveledger.specs.declared.ending.End.TheVariants.{Done, Read, Write, Memory, Words, Refused, LoadRefused, TooComplex}
+use Rattle.moveledger.specs.declared.ending.End.TheVariants.{Done, Read, Write, Memory, Words, Refused, LoadRefused, TooComplex, TooLong}
 
 -- the bytes that are known to be left
 abbrev pub left_of : Option (List ℕ) → List ℕ
@@ -155,3 +155,4 @@ Ends Words given gives held holds old new = ⊥
 Ends (Refused phase) given gives held holds old new = ⊥
 Ends (LoadRefused number) given gives held holds old new = ⊥
 Ends TooComplex given gives held holds old new = ⊥
+Ends TooLong given gives held holds old new = ⊥

@@ -9,7 +9,7 @@ use Rattle.moveledger.specs.Progress.{Progress}
 use Rattle.moveledger.specs.declared.streaming.EngineError.{EngineError}
 use Rattle.moveledger.specs.declared.streaming.EngineError.TheVariants as error
 use Rattle.moveledger.specs.declared.ending.End.{End}
-use Rattle.moveledger.specs.declared.ending.End.TheVariants.{Done, Read, Write, Memory, Words, Refused, LoadRefused, TooComplex}
+use Rattle.moveledger.specs.declared.ending.End.TheVariants.{Done, Read, Write, Memory, Words, Refused, LoadRefused, TooComplex, TooLong}
 
 -- these bytes are no whole record, or one at which this error came, which is no failed read
 abbrev pub IsUnanswered : EngineError → List ℕ → List ℕ → Type 0
@@ -66,3 +66,4 @@ EndsBy All Until Words = ⊥
 EndsBy All Until (Refused phase) = ⊥
 EndsBy All Until (LoadRefused number) = ⊥
 EndsBy All Until TooComplex = ⊥
+EndsBy All Until TooLong = ⊥

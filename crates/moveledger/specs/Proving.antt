@@ -4,9 +4,10 @@
 --   FailsProof bytes phase      the first phase that fails, whatever the certificate
 --   IsComplexText bytes         the module passes phases 2 to 8, and the search for its edges meets a limit
 --   HasNoProof bytes error      the error says such a reason, or an allocation failed
+--   HasNoProofWithin steps ..   the same where the search may take so many steps, or any number of them
 --   IsProvableText bytes        some certificate is there with which the module passes
 -- IsShort is a part of these; error_of is the error where the module alone is refused.
-use Rattle.std.specs.Prelude.{◌≡◌, ℕ, ◌≤◌, List, [], ◌∷◌, ◌++◌, length, ⊤}
+use Rattle.std.specs.Prelude.{◌≡◌, ℕ, ◌≤◌, List, [], ◌∷◌, ◌++◌, length, Option, IsSome, ⊤}
 use Rattle.mv_move_types.specs.Limits.{most_module_bytes}
 use Rattle.mv_move_types.specs.declared.refusal.Refusal.{Refusal}
 use Rattle.mv_move_types.specs.declared.refusal.Refusal.TheVariants.{Phase, Memory as OutOfMemory}
@@ -15,6 +16,8 @@ use Rattle.mv_type_rules.specs.Sound.{IsSound}
 use Rattle.mv_certificate_rules.specs.Certificate.{Certificate}
 use Rattle.mv_certificate_rules.specs.CertificateText.{certificate_text}
 use Rattle.mv_analyser.specs.Principal.{FailsEach, IsTooComplex, IsWithoutReferences}
+use Rattle.mv_analyser.specs.declared.LimitError.{LimitError}
+use Rattle.mv_analyser.specs.declared.LimitError.TheVariants.{Unproved, TooLong}
 use Rattle.mv_analyser.specs.declared.ProveError.{ProveError}
 use Rattle.mv_analyser.specs.declared.ProveError.TheVariants.{Refused, TooComplex, Memory}
 use Rattle.moveledger.specs.Hexadecimal.{hexadecimal}
@@ -57,6 +60,11 @@ abbrev pub HasNoProof : List ℕ → ProveError → Type 0
 HasNoProof bytes (Refused phase) = FailsProof bytes phase
 HasNoProof bytes TooComplex = IsComplexText bytes
 HasNoProof bytes Memory = ⊤
+
+-- the same where the steps of the search are limited, or aren't: where they are, they may be used up
+abbrev pub HasNoProofWithin : Option ℕ → List ℕ → LimitError → Type 0
+HasNoProofWithin steps bytes (Unproved e) = HasNoProof bytes e
+HasNoProofWithin steps bytes TooLong = IsSome steps
 
 -- some certificate is there with which the module passes phases 2 to 12
 pub record IsProvableText (bytes : List ℕ) : Type 0 where

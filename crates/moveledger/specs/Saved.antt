@@ -9,7 +9,7 @@ use Rattle.moveledger.specs.Writing.{BreaksOff}
 use Rattle.moveledger.specs.declared.inputs.Bytes.{Bytes}
 use Rattle.moveledger.specs.declared.inputs.Bytes.TheVariants.{Whole, Fails}
 use Rattle.moveledger.specs.declared.ending.End.{End}
-use Rattle.moveledger.specs.declared.ending.End.TheVariants.{Done, Read, Write, Memory, Words, Refused, LoadRefused, TooComplex}
+use Rattle.moveledger.specs.declared.ending.End.TheVariants.{Done, Read, Write, Memory, Words, Refused, LoadRefused, TooComplex, TooLong}
 
 -- what was read of known bytes: all of them, or enough to tell for which reason they are not loaded
 abbrev pub IsRead : Option (List ℕ) → Bytes → Type 0
@@ -27,6 +27,7 @@ IsNotLoaded bytes held holds Done = ⊥
 IsNotLoaded bytes held holds Words = ⊥
 IsNotLoaded bytes held holds (Refused phase) = ⊥
 IsNotLoaded bytes held holds TooComplex = ⊥
+IsNotLoaded bytes held holds TooLong = ⊥
 
 -- the second text is that of today of the ledger as which the first one is loaded
 abbrev pub IsMigrated : List ℕ → List ℕ → Type 0

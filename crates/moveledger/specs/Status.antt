@@ -15,12 +15,13 @@ use Rattle.moveledger.specs.declared.streaming.EngineError.{EngineError}
 use Rattle.moveledger.specs.declared.streaming.EngineError.TheVariants as error
 use Rattle.mv_commands.specs.declared.error.KeepError.{KeepError}
 use Rattle.mv_commands.specs.declared.error.KeepError.TheVariants as keep
-use Rattle.mv_analyser.specs.declared.ProveError.{ProveError}
+use Rattle.mv_analyser.specs.declared.LimitError.{LimitError}
+use Rattle.mv_analyser.specs.declared.LimitError.TheVariants as limit
 use Rattle.mv_analyser.specs.declared.ProveError.TheVariants as proof
 use Rattle.mv_move_types.specs.declared.refusal.Refusal.{Refusal}
 use Rattle.mv_move_types.specs.declared.refusal.Refusal.TheVariants as refusal
 use Rattle.moveledger.specs.declared.ending.End.{End}
-use Rattle.moveledger.specs.declared.ending.End.TheVariants.{Done, Read, Write, Memory, Words, Refused, LoadRefused, TooComplex}
+use Rattle.moveledger.specs.declared.ending.End.TheVariants.{Done, Read, Write, Memory, Words, Refused, LoadRefused, TooComplex, TooLong}
 
 -- the end after the engine's, whose report was written out to the last byte or wasn't
 abbrev pub end_after : {A : Type 0} → Result A EngineError → Bool → End
@@ -31,11 +32,12 @@ end_after (Err error.Write) true = Write
 end_after (Err error.Memory) true = Memory
 
 -- the end after a certificate was to be made
-abbrev pub end_after_proof : {A : Type 0} → Result A ProveError → End
+abbrev pub end_after_proof : {A : Type 0} → Result A LimitError → End
 end_after_proof (Ok text) = Done
-end_after_proof (Err (proof.Refused phase)) = Refused phase
-end_after_proof (Err proof.TooComplex) = TooComplex
-end_after_proof (Err proof.Memory) = Memory
+end_after_proof (Err (limit.Unproved (proof.Refused phase))) = Refused phase
+end_after_proof (Err (limit.Unproved proof.TooComplex)) = TooComplex
+end_after_proof (Err (limit.Unproved proof.Memory)) = Memory
+end_after_proof (Err limit.TooLong) = TooLong
 
 -- the end after a module was checked
 abbrev pub end_after_check : {A : Type 0} → Result A Refusal → End
@@ -68,13 +70,14 @@ fault_line Words = None
 fault_line (Refused phase) = None
 fault_line (LoadRefused number) = None
 fault_line TooComplex = None
+fault_line TooLong = None
 
 -- what is said of a fault
 abbrev pub fault_said : End → List ℕ
 fault_said end = unwrap_or (fault_line end) []
 
--- 0 where it is done, 1 at a fault, 2 where the command line isn't understood, 3 where a module is refused or too complex, or a
--- saved ledger is refused
+-- 0 where it is done, 1 at a fault, 2 where the command line isn't understood, 3 where a module is refused or too complex, a search is
+-- too long, or a saved ledger is refused
 abbrev pub status_of : End → ℕ
 status_of Done = 0
 status_of Read = 1
@@ -84,6 +87,7 @@ status_of Words = 2
 status_of (Refused phase) = 3
 status_of (LoadRefused number) = 3
 status_of TooComplex = 3
+status_of TooLong = 3
 
 -- The program ends with the status of this end, and standard error took the line of its fault, or the front of it that it takes, and
 -- nothing else.

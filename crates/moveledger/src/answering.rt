@@ -1,5 +1,5 @@
 // What is written for a record.
-ghost use Rattle.std.specs.Prelude.{◌≡◌, ◌≢◌, ◌⊎◌, ◌++◌, Some, Err, IfOk, IfErr, OnOk, codes, decimal, flat_map, string_bytes};
+ghost use Rattle.std.specs.Prelude.{◌≡◌, ◌≢◌, ◌⊎◌, ◌++◌, ◌∷◌, [], Some, Err, IfOk, IfErr, OnOk, codes, decimal, flat_map};
 ghost use Rattle.std.specs.Io.KnownBytes.{Appends};
 ghost use Rattle.mv_machine.specs.Ledger.{AsText};
 ghost use Rattle.mv_machine.specs.Lines.{Reply as Told, numbered, kind_text, stop_text};
@@ -55,40 +55,43 @@ fn stop_word(stop: Stop) -> &'static str
     }
 }
 
-/// The words for an abort: its kind, its number and the steps.
-fn aborted_text(alloc: Global, kind: Kind, n: u64, steps: u64) -> Result<String, AllocError>
-    ensures { IfOk result (λ text. string_bytes text ≡ codes "aborted " ++ kind_text kind ++ codes " " ++ decimal n ++ codes " " ++ decimal steps) }
-{
-    let mut text = String::from_str(alloc, "aborted ")?;
-    text.push_str(kind_word(kind))?;
-    text.push_str(" ")?;
-    write!(text, "{n}")?;
-    text.push_str(" ")?;
-    write!(text, "{steps}")?;
-    Ok(text)
-}
-
-/// The words for a run that used something up: what it was, and the steps.
-fn exhausted_text(alloc: Global, stop: Stop, steps: u64) -> Result<String, AllocError>
-    ensures { IfOk result (λ text. string_bytes text ≡ codes "exhausted " ++ stop_text stop ++ codes " " ++ decimal steps) }
-{
-    let mut text = String::from_str(alloc, "exhausted ")?;
-    text.push_str(stop_word(stop))?;
-    text.push_str(" ")?;
-    write!(text, "{steps}")?;
-    Ok(text)
-}
-
-/// Appends a line of the report: the record's number, a blank, the text and a line end.
-fn put_line(line: &mut Vec<u8>, number: u64, text: &[u8]) -> Result<(), AllocError>
-    ensures { OnOk result (line.new.items ≡ line.old.items ++ numbered number text.now) }
+/// Appends a number and the byte behind it.
+fn put_number_and(line: &mut Vec<u8>, n: u64, byte: u8) -> Result<(), AllocError>
+    ensures { OnOk result (line.new.items ≡ line.old.items ++ (decimal n ++ byte ∷ [])) }
 {
     let mut digits = Buffer::new();
-    line.extend_from_slice(digits.format(number).as_bytes())?;
-    line.push(b' ')?;
-    line.extend_from_slice(text)?;
-    line.push(b'\n')?;
+    line.extend_from_slice(digits.format(n).as_bytes())?;
+    line.push(byte)?;
     Ok(())
+}
+
+/// Appends the line of a run that aborted: the record's number, the words, the number of the abort and the steps.
+fn put_aborted(
+    line: &mut Vec<u8>,
+    number: u64,
+    kind: Kind,
+    n: u64,
+    steps: u64,
+) -> Result<(), AllocError>
+    ensures { OnOk result (line.new.items ≡ line.old.items ++ numbered number (codes "aborted " ++ kind_text kind ++ codes " " ++ decimal n ++ codes " " ++ decimal steps)) }
+{
+    put_number_and(line, number, b' ')?;
+    line.extend_from_slice(b"aborted ")?;
+    line.extend_from_slice(kind_word(kind).as_bytes())?;
+    line.push(b' ')?;
+    put_number_and(line, n, b' ')?;
+    put_number_and(line, steps, b'\n')
+}
+
+/// Appends the line of a run that used something up: the record's number, the words, what it was, and the steps.
+fn put_exhausted(line: &mut Vec<u8>, number: u64, stop: Stop, steps: u64) -> Result<(), AllocError>
+    ensures { OnOk result (line.new.items ≡ line.old.items ++ numbered number (codes "exhausted " ++ stop_text stop ++ codes " " ++ decimal steps)) }
+{
+    put_number_and(line, number, b' ')?;
+    line.extend_from_slice(b"exhausted ")?;
+    line.extend_from_slice(stop_word(stop).as_bytes())?;
+    line.push(b' ')?;
+    put_number_and(line, steps, b'\n')
 }
 
 /// Appends the record's number and a blank to a line that isn't begun.
@@ -98,57 +101,38 @@ fn put_number(line: &mut Vec<u8>, number: u64, is_begun: bool) -> Result<(), All
     if is_begun {
         return Ok(());
     }
-    let mut digits = Buffer::new();
-    line.extend_from_slice(digits.format(number).as_bytes())?;
-    line.push(b' ')?;
-    Ok(())
+    put_number_and(line, number, b' ')
 }
 
 /// Appends the line of a word, with the blank after it, and a number.
 fn put_count(line: &mut Vec<u8>, number: u64, word: &str, n: u64) -> Result<(), AllocError>
     ensures { OnOk result (line.new.items ≡ line.old.items ++ numbered number (word.now ++ decimal n)) }
 {
-    let mut digits = Buffer::new();
-    line.extend_from_slice(digits.format(number).as_bytes())?;
-    line.push(b' ')?;
+    put_number_and(line, number, b' ')?;
     line.extend_from_slice(word.as_bytes())?;
-    line.extend_from_slice(digits.format(n).as_bytes())?;
-    line.push(b'\n')?;
-    Ok(())
+    put_number_and(line, n, b'\n')
 }
 
 /// Appends the line of a run that was had.
-fn put_ending(
-    alloc: Global,
-    line: &mut Vec<u8>,
-    number: u64,
-    ending: Ending,
-    steps: u64,
-) -> Result<(), AllocError>
+fn put_ending(line: &mut Vec<u8>, number: u64, ending: Ending, steps: u64) -> Result<(), AllocError>
     ensures { OnOk result (line.new.items ≡ line.old.items ++ numbered number (line_of (told_ending ending steps))) }
 {
     match ending {
         Ending::Returned => put_count(line, number, "returned ", steps),
-        Ending::Aborted(kind, n) => {
-            let text = aborted_text(alloc, kind, n, steps)?;
-            put_line(line, number, text.as_bytes())
-        }
-        Ending::Exhausted(stop) => {
-            let text = exhausted_text(alloc, stop, steps)?;
-            put_line(line, number, text.as_bytes())
-        }
+        Ending::Aborted(kind, n) => put_aborted(line, number, kind, n, steps),
+        Ending::Exhausted(stop) => put_exhausted(line, number, stop, steps),
     }
 }
 
 /// Appends the line of a reply; fails where an allocation failed, here or before.
-fn put_reply(alloc: Global, line: &mut Vec<u8>, number: u64, reply: Reply) -> Result<(), AllocError>
+fn put_reply(line: &mut Vec<u8>, number: u64, reply: Reply) -> Result<(), AllocError>
     ensures { OnOk result ((t : Told) × ((told reply ≡ Some t) × (line.new.items ≡ line.old.items ++ numbered number (line_of t)))) }
 {
     match reply {
         Reply::Published(count) => put_count(line, number, "published ", count),
         Reply::Refused(phase) => put_count(line, number, "refused ", u64::from(phase)),
         Reply::Rejected(reason) => put_count(line, number, "rejected ", u64::from(reason)),
-        Reply::Ran(outcome) => put_ending(alloc, line, number, outcome.ending, outcome.steps),
+        Reply::Ran(outcome) => put_ending(line, number, outcome.ending, outcome.steps),
         Reply::Memory => Err(AllocError),
     }
 }
@@ -204,7 +188,6 @@ fn write_lines<W: Write>(
 
 /// Writes the line of a reply, after the record's number. It is made in the memory of another reply's.
 pub fn write_reply<W: Write>(
-    alloc: Global,
     writer: &mut W,
     number: u64,
     reply: Reply,
@@ -218,7 +201,7 @@ pub fn write_reply<W: Write>(
     ensures memory { result ≡ Err EngineError.Memory → W.contents writer.new ≡ W.contents writer.old }
 {
     line.clear();
-    put_reply(alloc, line, number, reply)?;
+    put_reply(line, number, reply)?;
     write_text(writer, line)
 }
 
@@ -241,9 +224,7 @@ fn write_report<W: Write>(
 {
     match report {
         Ok(lines) => write_lines(alloc, writer, number, lines),
-        Err(Refusal::Phase(phase)) => {
-            write_reply(alloc, writer, number, Reply::Refused(phase), line)
-        }
+        Err(Refusal::Phase(phase)) => { write_reply(writer, number, Reply::Refused(phase), line) }
         Err(Refusal::Memory) => Err(EngineError::Memory),
     }
 }
@@ -283,10 +264,10 @@ pub fn answer<W: Write>(
         (W.contents writer.old) (W.contents writer.new) }
 {
     if kind == PUBLISH {
-        return write_reply(alloc, writer, number, ledger.publish(payload), line);
+        return write_reply(writer, number, ledger.publish(payload), line);
     }
     if kind == RUN {
-        return write_reply(alloc, writer, number, ledger.execute(payload), line);
+        return write_reply(writer, number, ledger.execute(payload), line);
     }
     if kind == SHOW {
         return write_report(alloc, writer, number, ledger.show_lines(payload), line);
@@ -296,5 +277,5 @@ pub fn answer<W: Write>(
     }
     // For the prover: so the ledger is balanced.
     ledger.is_sound();
-    write_reply(alloc, writer, number, Reply::Refused(1), line)
+    write_reply(writer, number, Reply::Refused(1), line)
 }

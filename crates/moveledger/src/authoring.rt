@@ -1,13 +1,15 @@
 // The commands of an author, over what their files give and what they print.
-ghost use Rattle.std.specs.Prelude.{IfSome, string_bytes};
+ghost use Rattle.std.specs.Prelude.{IfErr, IfOk, IfSome, string_bytes};
 ghost use Rattle.moveledger.specs.Authoring.{ChecksTo, Prints, ProvesTo};
+ghost use Rattle.moveledger.specs.Proving.{HasNoProofWithin, IsProvedBy};
 
 use crate::answering::write_text;
 use crate::checking::check_text;
 use crate::ending::{End, end_of_check, end_of_proof};
 use crate::inputs::first_bytes;
 use crate::printing::{checked_line, proved_line};
-use crate::proving::prove_text;
+use crate::proving::{prove_text, prove_text_within};
+use mv_analyser::LimitError;
 use mv_move_types::limits::{MOST_CERTIFICATE_BYTES, MOST_MODULE_BYTES};
 use std::alloc::{AllocError, Global};
 use std::io::{Read, Write};
@@ -31,15 +33,35 @@ pub fn printed<W: Write>(writer: &mut W, end: End, made: Result<String, AllocErr
     }
 }
 
-/// Prints a certificate for the module that a reader gives, or why there is none. It says how that ended.
-pub fn prove_module<R: Read + Drop, W: Write>(alloc: Global, module: R, writer: &mut W) -> End
-    ensures { IfSome (R.remaining «module») (λ m. ProvesTo m (W.contents writer.old) (W.contents writer.new) result) }
+/// The text of a certificate for a module, by at most so many steps if their number is limited.
+fn proved_text(alloc: Global, module: &[u8], steps: Option<u64>) -> Result<String, LimitError>
+    ensures proved { IfOk result (λ text. IsProvedBy «module».now (string_bytes text)) }
+    ensures refused { IfErr result (HasNoProofWithin steps «module».now) }
+{
+    match steps {
+        Some(steps) => prove_text_within(alloc, module, steps),
+        None => match prove_text(alloc, module) {
+            Ok(text) => Ok(text),
+            Err(e) => Err(LimitError::Unproved(e)),
+        },
+    }
+}
+
+/// Prints a certificate for the module that a reader gives, or why there is none: also that the search for it would take more
+/// steps than these, if their number is limited. It says how that ended.
+pub fn prove_module<R: Read + Drop, W: Write>(
+    alloc: Global,
+    module: R,
+    steps: Option<u64>,
+    writer: &mut W,
+) -> End
+    ensures { IfSome (R.remaining «module») (λ m. ProvesTo steps m (W.contents writer.old) (W.contents writer.new) result) }
 {
     let bytes = match first_bytes(alloc, module, MODULE_READ) {
         Ok(bytes) => bytes,
         Err(end) => return end,
     };
-    let proved = prove_text(alloc, &bytes);
+    let proved = proved_text(alloc, &bytes, steps);
     let end = end_of_proof(&proved);
     printed(writer, end, proved_line(alloc, proved))
 }

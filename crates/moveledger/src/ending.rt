@@ -6,7 +6,7 @@ ghost use Rattle.moveledger.specs.Status.{EndsSo, end_after, end_after_check, en
 
 use crate::answering::write_text;
 use crate::streaming::EngineError;
-use mv_analyser::ProveError;
+use mv_analyser::{LimitError, ProveError};
 use mv_commands::{KeepError, LineError};
 use mv_move_types::Refusal;
 use std::io::Write;
@@ -30,6 +30,8 @@ pub enum End {
     LoadRefused(u8),
     /// No certificate is made for a module, since the search reaches its limits.
     TooComplex,
+    /// No certificate is made for a module, since the search would take more steps than it may.
+    TooLong,
 }
 
 /// How the program ends after the engine. If the report couldn't be flushed, the end is `Write`, whatever the engine returned.
@@ -48,14 +50,15 @@ pub fn end_of(answered: Result<(), EngineError>, is_flushed: bool) -> End
 }
 
 /// The end after a certificate was to be made.
-pub fn end_of_proof(proved: &Result<String, ProveError>) -> End
+pub fn end_of_proof(proved: &Result<String, LimitError>) -> End
     ensures { result ≡ end_after_proof proved.now }
 {
     match proved {
         Ok(_) => End::Done,
-        Err(ProveError::Refused(phase)) => End::Refused(*phase),
-        Err(ProveError::TooComplex) => End::TooComplex,
-        Err(ProveError::Memory) => End::Memory,
+        Err(LimitError::Unproved(ProveError::Refused(phase))) => End::Refused(*phase),
+        Err(LimitError::Unproved(ProveError::TooComplex)) => End::TooComplex,
+        Err(LimitError::Unproved(ProveError::Memory)) => End::Memory,
+        Err(LimitError::TooLong) => End::TooLong,
     }
 }
 
@@ -102,15 +105,20 @@ pub fn fault_text(end: &End) -> Option<&'static str>
     ensures { option_map (λ s. s.now) result ≡ fault_line end.now }
 {
     match end {
-        End::Done | End::Words | End::Refused(_) | End::LoadRefused(_) | End::TooComplex => None,
+        End::Done
+        | End::Words
+        | End::Refused(_)
+        | End::LoadRefused(_)
+        | End::TooComplex
+        | End::TooLong => None,
         End::Read => Some("fault: read\n"),
         End::Write => Some("fault: write\n"),
         End::Memory => Some("fault: memory\n"),
     }
 }
 
-/// The exit status: 0 done, 1 a fault, 2 a refused command line, 3 a module that is refused or too complex, or a saved ledger
-/// that is refused.
+/// The exit status: 0 done, 1 a fault, 2 a refused command line, 3 a module that is refused or too complex, a search that is too
+/// long, or a saved ledger that is refused.
 pub fn status(end: &End) -> u8
     ensures { result ≡ status_of end.now }
 {
@@ -118,7 +126,7 @@ pub fn status(end: &End) -> u8
         End::Done => 0,
         End::Read | End::Write | End::Memory => 1,
         End::Words => 2,
-        End::Refused(_) | End::LoadRefused(_) | End::TooComplex => 3,
+        End::Refused(_) | End::LoadRefused(_) | End::TooComplex | End::TooLong => 3,
     }
 }
 

@@ -25,6 +25,7 @@ mod pacing;
 mod printing;
 mod proving;
 mod reading;
+mod records;
 mod reporting;
 mod saved;
 mod streaming;
@@ -37,14 +38,18 @@ pub use ending::{
     End, end_of, end_of_check, end_of_keeping, end_of_proof, end_of_words, ended, fault_text,
     status,
 };
-pub use mv_analyser::ProveError;
+pub use mv_analyser::{LimitError, ProveError};
 pub use mv_commands::{
     Found, Hold, KeepError, LineError, Looks, Notice, Place, Seen, Sort, Stand, Task, Tell,
     claim_place, command, is_one, keep, not_text, release,
 };
-pub use mv_ledger::{Entries, Format, Ledger, Lines, LoadError, Modules, Page, StructName, Tally};
-pub use pacing::{AfterRecord, Gathering, Prompt};
-pub use proving::prove_text;
+pub use mv_ledger::{
+    ChangedModules, Changes, Entries, Format, Ledger, Lines, LoadError, Modules, Page, Saving,
+    Side, StructName, Tally,
+};
+pub use pacing::{AfterRecord, Gathering, MOST_LINE_BYTES, Prompt, Reserving};
+pub use proving::{prove_text, prove_text_within};
+pub use records::{Front, first_record};
 pub use reporting::report;
 pub use saved::{end_of_text, loaded, migrated, text_to_keep};
 pub use streaming::{EngineError, answer_from, engine, one_reading, one_report};

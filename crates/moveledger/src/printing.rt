@@ -2,7 +2,7 @@
 ghost use Rattle.std.specs.Prelude.{◌≡◌, ◌++◌, Some, IfOk, MatchResult, decimal, string_bytes};
 ghost use Rattle.moveledger.specs.Printing.{line, load_refused_text, refused_text, no_proof_line, checked_line};
 
-use mv_analyser::ProveError;
+use mv_analyser::{LimitError, ProveError};
 use mv_move_types::Refusal;
 use std::alloc::{AllocError, Global};
 
@@ -35,13 +35,14 @@ pub fn load_refused_line(alloc: Global, number: u8) -> Result<String, AllocError
 }
 
 /// What is printed where no certificate is made.
-fn no_proof_line(alloc: Global, e: ProveError) -> Result<String, AllocError>
+fn no_proof_line(alloc: Global, e: LimitError) -> Result<String, AllocError>
     ensures { IfOk result (λ text. Some (string_bytes text) ≡ no_proof_line e) }
 {
     match e {
-        ProveError::Refused(phase) => refused_line(alloc, phase),
-        ProveError::TooComplex => String::from_str(alloc, "too complex\n"),
-        ProveError::Memory => Err(AllocError),
+        LimitError::Unproved(ProveError::Refused(phase)) => refused_line(alloc, phase),
+        LimitError::Unproved(ProveError::TooComplex) => String::from_str(alloc, "too complex\n"),
+        LimitError::Unproved(ProveError::Memory) => Err(AllocError),
+        LimitError::TooLong => String::from_str(alloc, "too long\n"),
     }
 }
 
@@ -50,7 +51,7 @@ fn no_proof_line(alloc: Global, e: ProveError) -> Result<String, AllocError>
 /// # Errors
 ///
 /// An allocation failed, here or before.
-pub fn proved_line(alloc: Global, proved: Result<String, ProveError>) -> Result<String, AllocError>
+pub fn proved_line(alloc: Global, proved: Result<String, LimitError>) -> Result<String, AllocError>
     ensures { IfOk result (λ text. MatchResult proved
         (λ digits. string_bytes text ≡ line (string_bytes digits))
         (λ e. Some (string_bytes text) ≡ no_proof_line e)) }

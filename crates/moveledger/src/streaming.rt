@@ -1,18 +1,21 @@
 // The engine: records in, lines out.
-ghost use Rattle.std.specs.Prelude.{◌≡◌, ◌⊎◌, ℕ, List, [], IfOk, IfErr, OnOk, OnErr, Err};
+ghost use Rattle.std.specs.Prelude.{◌≡◌, ◌≢◌, ◌⊎◌, ℕ, List, [], IfOk, IfErr, OnOk, OnErr, Err};
+ghost use Rattle.std.specs.Io.KnownBytes.{Consumes};
+ghost use Rattle.moveledger.specs.Next.{IsNext};
+ghost use Rattle.moveledger.specs.Reading.{IsUnfinished};
 ghost use Rattle.moveledger.specs.Records.{Record, AreRecords};
 ghost use Rattle.mv_ledger_state.specs.View.{state_of};
 ghost use Rattle.moveledger.specs.Headline.{Headline, IsAccounted};
 ghost use Rattle.moveledger.specs.OneReport.{OneReport};
 ghost use Rattle.moveledger.specs.Outcome.{ReadsAll, Stops, StopsByLines, StopsReading, StopsWriting};
-ghost use Rattle.moveledger.specs.Outcome.{Begun, BegunByLines, BrokenOff, Finished, GoesOn, ReadsOn, StopsAfter, StopsAt, Unread};
+ghost use Rattle.moveledger.specs.Outcome.{left_of, Begun, BegunByLines, BrokenOff, Finished, GoesOn, ReadsOn, StopsAfter, StopsAt, Unread};
 ghost use Rattle.moveledger.specs.Pacing.{IsDoneForAll, IsDoneUntil, IsFailed};
 
 use crate::answering::{answer, write_reply};
-use crate::pacing::{AfterRecord, Gathering};
+use crate::pacing::{AfterRecord, Gathering, MOST_LINE_BYTES};
 use crate::reading::{Next, next_record};
 use mv_ledger::{Ledger, Reply};
-use std::alloc::AllocError;
+use std::alloc::{AllocError, Global};
 use std::io::{Read, Write};
 use thiserror::Error;
 
@@ -85,6 +88,28 @@ pub fn engine<R: Read, W: Write>(
     }
 }
 
+/// Reads the next record once there is room for its line, where it is made and where it is written to: what is then done for a publish
+/// or a run record needs no memory to be told.
+fn next_with_room<R: Read, W: Write, A: AfterRecord<R, W>>(
+    alloc: Global,
+    reader: &mut R,
+    writer: &mut W,
+    line: &mut Vec<u8>,
+    after: &A,
+) -> Result<Next, EngineError>
+    ensures ok { IfOk result (λ next. (took : List ℕ)
+        × Consumes (R.remaining reader.old) (R.remaining reader.new) took
+        × IsNext took (left_of (R.remaining reader.new)) next) }
+    ensures err { IfErr result (λ e. (e ≢ EngineError.Write) × (took : List ℕ)
+        × Consumes (R.remaining reader.old) (R.remaining reader.new) took × IsUnfinished took) }
+    ensures kept { W.contents writer.new ≡ W.contents writer.old }
+{
+    line.clear();
+    line.reserve(MOST_LINE_BYTES)?;
+    after.make_room(writer)?;
+    next_record(alloc, reader)
+}
+
 /// Answers the records of an input, each before the next is read, and numbers the first one `answered + 1`: the one loop of
 /// `engine`, `report` and `answer_on`. A record's lines are handed to the writer, and then `after` is called, before the next
 /// record is read. A whole record counts in `answered` once `after` went well, and a cut one at the end once its line is written.
@@ -126,10 +151,10 @@ pub fn answer_from<R: Read, W: Write, A: AfterRecord<R, W>>(
     // The line of each reply is made in the memory of the one before it.
     let mut line = Vec::new(alloc);
     for n in *answered..u64::MAX {
-        match next_record(alloc, reader)? {
+        match next_with_room(alloc, reader, writer, &mut line, after)? {
             Next::End => return Ok(()),
             Next::Cut => {
-                write_reply(alloc, writer, n + 1, Reply::Refused(1), &mut line)?;
+                write_reply(writer, n + 1, Reply::Refused(1), &mut line)?;
                 *answered = n + 1;
                 return Ok(());
             }

@@ -77,7 +77,7 @@ number_in : Option (ℕ × List ℕ) → ℕ
 number_in None = 0
 number_in (Some p) = p.0
 
-address-back : (a : ℕ) → a < 2 ^ 128 → big_endian (to_be_bytes w128 a) ≡ a
+pub address-back : (a : ℕ) → a < 2 ^ 128 → big_endian (to_be_bytes w128 a) ≡ a
 unfolding number_in
 address-back a small = ap number_in (address-whole [] a (lt-ltb a (2 ^ 128) small))
 

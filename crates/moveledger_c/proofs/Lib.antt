@@ -1,3 +1,5 @@
 pub mod Values
 pub mod Reports
 pub mod Asked
+pub mod Changed
+pub mod Fronts

@@ -31,16 +31,17 @@ use Rattle.std.specs.Box.Ownership.{box_owns}
 use Rattle.std.proofs.ResultValues.{and_tt}
 use Rattle.std.specs.Prelude.{Option, Some, None}
 use Rattle.std.proofs.GlobalToken.{dealloc_token-Testable}
-use Rattle.mv_ledger.specs.contracts.Ledger as ledger
-use Rattle.moveledger_c.specs.Owning.{holds_ledger, holds_bytes, IsListOf}
+use Rattle.moveledger_c.specs.Owning.{holds_ledger, holds_saving, holds_value, holds_bytes, IsListOf}
 use Rattle.moveledger_c.specs.contracts.bytes.Bytes as bytes
 use Rattle.std.specs.contracts.vec.Vec as vec
 use Rattle.std.specs.contracts.alloc.Global as heap
 use Rattle.std.specs.contracts.impls.GlobalAllocator.TheImpl.{ghosts}
 use Rattle.std.specs.Global.{Global, Vec}
 use Rattle.mv_ledger_state.specs.View.{LedgerView}
+use Rattle.mv_ledger_state.specs.Flowing.{SavingView}
 use Rattle.moveledger_c.specs.contracts.parts.Parts as parts
 use Rattle.moveledger_c.specs.contracts.holder.Holder as holder
+use Rattle.moveledger_c.specs.contracts.saving_holder.SavingHolder as saving_holder
 
 abbrev pub both : Val → Val → Val
 both v w = vstruct (vcons v (vcons w vnil))
@@ -92,6 +93,19 @@ module _ {M : Type 1} {𝓤 : Ura M} {𝓛 : Logic 𝓤} {K : Type 0} {Γ : List
       nothing t $ feq_i t (List Val) (ptr_val p ∷ []) (ptr_val p ∷ []) refl $ fjoin t $ feq_i t (List Val) (v ∷ []) (v ∷ []) refl $ fjoin t $
       fpack t (Valss (RawPtr ∷ [])) (within (shape holder.the_type) (p, tt) (v ∷ [])) (ptr_val p ∷ [], tt) $ fjoin t $ s)
 
+abbrev pub SavingHolder : RattleType
+SavingHolder = saving_holder.the_row
+
+module _ {M : Type 1} {𝓤 : Ura M} {𝓛 : Logic 𝓤} {K : Type 0} {Γ : List (Item 𝓤)} {G : Goal 𝓤 𝓛.H} where
+  pub saving_out : K → (d : SavingHolder.Denot) (vs : List Val) → (vs ≡ word d.own ∷ [] → Seq K 𝓛 (‵ (holds_saving d.own d.held) ∷ Γ) G) → Seq K 𝓛 (‵ (SavingHolder.own_val d vs) ∷ Γ) G
+  saving_out t d vs k =
+      fsplit t $ fpick t (λ vss. fsplit t $ feq_l t (λ ev. fsplit t $ feq_l t (λ ep. drop t $ k (ev ∙ ap (λ (ps : List Val). vstruct (of_list (ps ++ [])) ∷ []) ep))))
+
+  pub saving_in : K → (p : Ptr) (held : Option SavingView) → Step K 𝓛 (‵ (SavingHolder.own_val (record { own = p; held = held }) (word p ∷ [])) ∷ Γ) G (‵ (holds_saving p held) ∷ Γ) G
+  saving_in t p held = step (λ s. let v : Val = word p in
+      nothing t $ feq_i t (List Val) (ptr_val p ∷ []) (ptr_val p ∷ []) refl $ fjoin t $ feq_i t (List Val) (v ∷ []) (v ∷ []) refl $ fjoin t $
+      fpack t (Valss (RawPtr ∷ [])) (within (shape saving_holder.the_type) (p, tt) (v ∷ [])) (ptr_val p ∷ [], tt) $ fjoin t $ s)
+
 -- what C holds, by its pointer
 module _ (R : RattleType) (a : Global) {M : Type 1} {𝓤 : Ura M} (𝓛 : Logic 𝓤) where
   -- a box's pointer may be compared with null
@@ -99,15 +113,15 @@ module _ (R : RattleType) (a : Global) {M : Type 1} {𝓤 : Ura M} (𝓛 : Logic
   tested p x = fact_use 𝓤 (Testable p) (via 𝓤 _ (snd∗ 𝓤 (sem 𝓛 (lies_at R full_share p x)) (sem 𝓛 (ghosts.dealloc_token a (bare (lone R.mir)) p)))
       (dealloc_token-Testable 𝓛 a (bare (lone R.mir)) p)) (guard_i 𝓤 (Testable p) (sem 𝓛 (box_owns (ghosts.dealloc_token a) R p x)))
 
-module _ {M : Type 1} {𝓤 : Ura M} {𝓛 : Logic 𝓤} {K : Type 0} {Γ : List (Item 𝓤)} {G : Goal 𝓤 𝓛.H} where
-  pub either_holds : K → (p : Ptr) (held : Option LedgerView) → (p ≡ null_ptr → held ≡ None → Seq K 𝓛 Γ G)
-      → ((a : Global) (b o : ℕ) (x : LedgerView) → p ≡ block_ptr b o → held ≡ Some x → Testable (block_ptr b o) → Seq K 𝓛 (‵ (box_owns (ghosts.dealloc_token a) ledger.the_row (block_ptr b o) x) ∷ Γ) G)
-      → Seq K 𝓛 (‵ (holds_ledger p held) ∷ Γ) G
+module _ (R : RattleType) {M : Type 1} {𝓤 : Ura M} {𝓛 : Logic 𝓤} {K : Type 0} {Γ : List (Item 𝓤)} {G : Goal 𝓤 𝓛.H} where
+  pub either_holds : K → (p : Ptr) (held : Option R.Denot) → (p ≡ null_ptr → held ≡ None → Seq K 𝓛 Γ G)
+      → ((a : Global) (b o : ℕ) (x : R.Denot) → p ≡ block_ptr b o → held ≡ Some x → Testable (block_ptr b o) → Seq K 𝓛 (‵ (box_owns (ghosts.dealloc_token a) R (block_ptr b o) x) ∷ Γ) G)
+      → Seq K 𝓛 (‵ (holds_value R p held) ∷ Γ) G
   either_holds t null_ptr None none one = drop t $ none refl refl
   either_holds t null_ptr (Some x) none one = use1 𝓛 (given ⊥ (‵ ftrue)) (never_e 𝓤 _) $ learn t (λ z. absurd z)
   either_holds t (block_ptr b o) None none one = use1 𝓛 (given ⊥ (‵ ftrue)) (never_e 𝓤 _) $ learn t (λ z. absurd z)
   either_holds t (block_ptr b o) (Some x) none one = fpick t (λ a.
-      use1 𝓛 (given (Testable (block_ptr b o)) (‵ (box_owns (ghosts.dealloc_token a) ledger.the_row (block_ptr b o) x))) (tested ledger.the_row a 𝓛 (block_ptr b o) x) $ learn t (λ e. one a b o x refl refl e))
+      use1 𝓛 (given (Testable (block_ptr b o)) (‵ (box_owns (ghosts.dealloc_token a) R (block_ptr b o) x))) (tested R a 𝓛 (block_ptr b o) x) $ learn t (λ e. one a b o x refl refl e))
 
 -- the bytes that C holds
 abbrev pub row : Ptr → ℕ → Ptr → Val

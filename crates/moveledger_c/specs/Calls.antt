@@ -5,7 +5,8 @@
 --   IsApplied records status before after old new had has   records that are answered; without a ledger nothing is done
 --   IsOfHeld Is held status text                            a text of the ledger that is held
 --   IsReport, IsReported kind payload held status text      a show or an audit
---   IsProved, IsChecked                                     a certificate that is made, and one that is tested
+--   IsProved, IsProvedWithin, IsChecked                     a certificate that is made, so by a limited search, and one that is tested
+--   answer_of, phase_of error                               what is answered where none is made
 --   IsMigratedAs bytes status why text                      a saved ledger in the current form
 -- payload_of is the payload that asks for a report: 0 stands for lines, 1 for JSON.
 use Rattle.std.specs.Prelude.{◌≡◌, ℕ, zero, suc, ℤ, List, [], ◌∷◌, Option, Some, None, ◌⊎◌}
@@ -15,11 +16,13 @@ use Rattle.mv_ledger.specs.Answering.{Replies}
 use Rattle.mv_lines.specs.LinesView.{ended}
 use Rattle.mv_ledger_state.specs.Loading.{FailsLoad, IsLoaded}
 use Rattle.mv_ledger_state.specs.View.{LedgerView, empty_view, state_of}
+use Rattle.mv_analyser.specs.declared.ProveError.{ProveError}
+use Rattle.mv_analyser.specs.declared.ProveError.TheVariants.{Refused, TooComplex, Memory}
 use Rattle.moveledger.specs.Checking.{IsAccepted, IsRefusedText}
 use Rattle.moveledger.specs.Outcome.{Begun, GoesOn, StopsAfter, StopsAt}
 use Rattle.moveledger.specs.Proving.{FailsProof, IsAcceptedBack, IsComplexText, IsProvedBy}
 use Rattle.moveledger.specs.Saved.{IsMigrated}
-use Rattle.moveledger_c.specs.Statuses.{done, refused, load_refused, too_complex, memory, arguments}
+use Rattle.moveledger_c.specs.Statuses.{done, refused, load_refused, too_complex, memory, arguments, too_long}
 
 -- an empty ledger is held, or memory ran out and none is
 abbrev pub IsNew : ℤ → Option LedgerView → Type 0
@@ -64,6 +67,21 @@ abbrev pub IsProved : List ℕ → ℤ → ℕ → List ℕ → Type 0
 IsProved module' status why text = ((status ≡ done) × (why ≡ 0) × IsProvedBy module' text × IsAcceptedBack module' text)
     ⊎ (((status ≡ refused) × (text ≡ []) × FailsProof module' why)
     ⊎ (((status ≡ too_complex) × (why ≡ 0) × (text ≡ []) × IsComplexText module') ⊎ ((status ≡ memory) × (why ≡ 0) × (text ≡ []))))
+
+-- what is answered where no certificate is made, and the phase that refuses, if one does
+abbrev pub answer_of : ProveError → ℤ
+answer_of (Refused phase) = refused
+answer_of TooComplex = too_complex
+answer_of Memory = memory
+
+abbrev pub phase_of : ProveError → ℕ
+phase_of (Refused phase) = phase
+phase_of TooComplex = 0
+phase_of Memory = 0
+
+-- the same of a search whose steps are limited; or they are used up
+abbrev pub IsProvedWithin : List ℕ → ℤ → ℕ → List ℕ → Type 0
+IsProvedWithin module' status why text = IsProved module' status why text ⊎ ((status ≡ too_long) × (why ≡ 0) × (text ≡ []))
 
 -- the module passes with the certificate of the text; or a phase refuses it; or memory ran out
 abbrev pub IsChecked : List ℕ → List ℕ → ℤ → ℕ → Type 0

@@ -4,3 +4,6 @@ pub mod Calls
 pub mod Blocks
 pub mod Giving
 pub mod Questions
+pub mod Records
+pub mod Changes
+pub mod Saving

@@ -3,21 +3,32 @@ use Rattle.std.specs.Prelude.{◌≡◌, ℕ, List, [], Option, Some, None}
 use Rattle.std.specs.Vec.{vec_ptr, vec_len}
 use Rattle.std.specs.Global.{Global, Vec}
 use Rattle.mv_ledger_state.specs.View.{LedgerView}
+use Rattle.mv_ledger_state.specs.Flowing.{SavingView}
 use Rattle.std.specs.contracts.vec.Vec as vec
 use Rattle.std.specs.contracts.alloc.Global as heap
 use Rattle.std.specs.contracts.impls.GlobalAllocator.TheImpl.{ghosts}
 use denote.Builtin.{u8}
+use denote.RattleType.{RattleType}
 use Rattle.std.specs.Box.Ownership.{box_owns}
 use base.Fml.{Fml, ftrue, ffalse, fsep, fex}
 use denote.RawPtr.{Ptr, block_ptr, null_ptr}
 use Rattle.mv_ledger.specs.contracts.Ledger as ledger
+use Rattle.mv_ledger_state.specs.contracts.saved.flowing.Saving as saving
+
+-- a value on the heap, or none at null
+abbrev pub holds_value : (R : RattleType) → Ptr → Option R.Denot → Fml
+holds_value R (block_ptr b o) (Some x) = fex Global (λ a. box_owns (ghosts.dealloc_token a) R (block_ptr b o) x)
+holds_value R (block_ptr b o) None = ffalse
+holds_value R null_ptr (Some x) = ffalse
+holds_value R null_ptr None = ftrue
 
 -- a ledger on the heap, or none at null
 abbrev pub holds_ledger : Ptr → Option LedgerView → Fml
-holds_ledger (block_ptr b o) (Some l) = fex Global (λ a. box_owns (ghosts.dealloc_token a) ledger.the_row (block_ptr b o) l)
-holds_ledger (block_ptr b o) None = ffalse
-holds_ledger null_ptr (Some l) = ffalse
-holds_ledger null_ptr None = ftrue
+holds_ledger = holds_value ledger.the_row
+
+-- a save on the heap, or none at null
+abbrev pub holds_saving : Ptr → Option SavingView → Fml
+holds_saving = holds_value saving.the_row
 
 -- this is so
 abbrev pub holds : Type 0 → Fml

@@ -3,6 +3,7 @@
 --   memory, arguments                          4 and 5: an allocation failed, or an argument isn't as it has to be
 --   no_block                                   7: no block is open. The header's own functions answer 6, where another call has the ledger
 --   absent                                     8: nothing is there by this name
+--   too_long                                   9: a search used up its steps
 use Rattle.std.specs.Prelude.{ℤ, pos}
 
 -- the call did what it was asked for
@@ -36,3 +37,7 @@ no_block = pos 7
 -- nothing is there by this name
 abbrev pub absent : ℤ
 absent = pos 8
+
+-- a search used up its steps
+abbrev pub too_long : ℤ
+too_long = pos 9

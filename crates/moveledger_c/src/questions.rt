@@ -5,8 +5,8 @@ ghost use Rattle.moveledger_c.specs.Questions.{name_line, names_text, struct_in,
 
 use crate::bytes::Bytes;
 use crate::holder::Holder;
-use crate::status::{ABSENT, ARGUMENTS, DONE, MEMORY};
-use crate::texts::give;
+use crate::status::{ABSENT, ARGUMENTS, DONE};
+use crate::texts::{give, give_two};
 use mv_ledger::{Ledger, StructName};
 use mv_lines::put_address;
 use std::alloc::{AllocError, Global};
@@ -54,7 +54,7 @@ fn names_of(alloc: Global, ledger: &Ledger) -> Result<Vec<u8>, AllocError>
 }
 
 /// Appends the line of a module's name to a text.
-fn put_name(text: &mut Vec<u8>, address: u128, name: &[u8]) -> Result<(), AllocError>
+pub(crate) fn put_name(text: &mut Vec<u8>, address: u128, name: &[u8]) -> Result<(), AllocError>
     ensures { OnOk result (text.new.items ≡ text.old.items ++ (name_line (record { address = address; name = name.now }) ++ 10 ∷ [])) }
 {
     put_address(text, address)?;
@@ -94,17 +94,9 @@ pub extern "C" fn moveledger_module(
 fn give_both(alloc: Global, out: &mut Bytes, other: &mut Bytes, text: &[u8], more: &[u8]) -> i32
     ensures { AreTexts (Some (text.now, more.now)) result out.new.items other.new.items }
 {
-    let status = give(alloc, out, Vec::from_slice(alloc, text));
-    if status != DONE {
-        *other = Bytes::none();
-        return MEMORY;
-    }
-    let status = give(alloc, other, Vec::from_slice(alloc, more));
-    if status != DONE {
-        drop(out.take(alloc));
-        return MEMORY;
-    }
-    DONE
+    let text = Vec::from_slice(alloc, text);
+    let more = Vec::from_slice(alloc, more);
+    give_two(alloc, out, other, text, more)
 }
 
 /// The number, or the greatest one where 64 bits don't hold it.

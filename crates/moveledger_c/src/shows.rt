@@ -30,7 +30,7 @@ fn format_of(form: u32) -> Option<Format>
 }
 
 /// The bytes of lines, each with its line end.
-fn bytes_of(alloc: Global, mut lines: Lines<'_>) -> Result<Vec<u8>, AllocError>
+pub(crate) fn bytes_of(alloc: Global, mut lines: Lines<'_>) -> Result<Vec<u8>, AllocError>
     ensures { IfOk result (λ text. text.items ≡ ended lines.entry.left) }
 {
     let mut text = Vec::new(alloc);

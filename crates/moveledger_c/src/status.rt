@@ -23,3 +23,6 @@ pub const NO_BLOCK: i32 = 7;
 
 /// No value, module or tally is there by this name.
 pub const ABSENT: i32 = 8;
+
+/// The search for a certificate used up its steps.
+pub const TOO_LONG: i32 = 9;

@@ -4,7 +4,7 @@
 //! ```text
 //! moveledger apply [--load PATH] [--save PATH] FILE
 //! moveledger migrate OLD NEW
-//! moveledger prove MODULE
+//! moveledger prove [--steps N] MODULE
 //! moveledger check MODULE CERT
 //! ```
 #![tactic(auto)]

@@ -70,7 +70,7 @@ fn done(rt: &HostRuntime, words: &[&str]) -> Told {
     match command(rt.alloc(), words) {
         Ok(Task::Apply { file, load, save }) => apply(&output, file, load, save),
         Ok(Task::Migrate(old, new)) => migrate(&output, old, new),
-        Ok(Task::Prove(module)) => prove(&output, module),
+        Ok(Task::Prove { module, steps }) => prove(&output, module, steps),
         Ok(Task::Check(module, certificate)) => check(&output, module, certificate),
         Err(error) => Told::plainly(refused(rt, error)),
     }
@@ -346,17 +346,17 @@ fn answer<R: Read + Drop, W: Write + Drop, A: AfterRecord<Counted<R>, BufWriter<
     }
 }
 
-/// Prints a certificate for the module of a file, or why there is none.
-fn prove(output: &Output<'_>, path: &str) -> Told {
+/// Prints a certificate for the module of a file, or why there is none; the search for it may take so many steps, or any number.
+fn prove(output: &Output<'_>, path: &str, steps: Option<u64>) -> Told {
     let rt = output.rt;
     let mut writer = Noted::new(io::writer(rt), &output.failed);
     if path == STANDARD_INPUT {
-        let end = prove_module(rt.alloc(), rt.stdin(), &mut writer);
+        let end = prove_module(rt.alloc(), rt.stdin(), steps, &mut writer);
         return output.told(end, path);
     }
     match open(rt, path) {
         Ok(module) => {
-            let end = prove_module(rt.alloc(), module, &mut writer);
+            let end = prove_module(rt.alloc(), module, steps, &mut writer);
             advised(rt, output.told(end, path), path, Kind::Module)
         }
         Err(told) => told,

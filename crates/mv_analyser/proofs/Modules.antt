@@ -1,5 +1,5 @@
 -- From the functions of a module to the module.
-use Rattle.std.proofs.Common.{◌≡◌, ℕ, suc, List, [], ◌∷◌, ◌++◌, length, ◌<◌, ◌+◌, Some, slice_get, IsTrue, refl, sym, ◌∙◌, subst, arith, ⊎_elim, Result, Ok, Err, IfOk, OnOk}
+use Rattle.std.proofs.Common.{◌≡◌, ℕ, suc, Bool, List, [], ◌∷◌, ◌++◌, length, ◌<◌, ◌+◌, Some, slice_get, IsTrue, refl, sym, ◌∙◌, subst, arith, ⊎_elim}
 use Rattle.std.proofs.lemmas.Bool.{and_parts, and_from, cases_eq}
 use Rattle.std.proofs.lemmas.List.{length-append}
 use Rattle.std.proofs.lemmas.Option.{slice_get_within}
@@ -13,11 +13,13 @@ use Rattle.mv_certificate.specs.Reads.{FitsAt}
 use Rattle.mv_certificate_rules.specs.Shape.{StatedFits, AllStatedFit}
 use Rattle.mv_certificate.proofs.States.{fit-length, fit-at}
 use Rattle.mv_certificate.proofs.Holds.{each-passes, passes-each}
-use Rattle.mv_analyser.specs.Principal.{FailsEach, no_locals, no_edges, no_lists, IsUnproved, IsOfLimits, IsProvable, PassesCheck}
+use Rattle.mv_analyser.specs.Principal.{FailsEach, no_locals, no_edges, no_lists, IsUnproved, IsUnprovedWithin, IsOfLimits, IsOfLimitsWithin, IsProvable, IsTold, PassesCheck}
 use Rattle.mv_analyser.specs.Principal.{FindsLocals, FindsEdges, AllBefore}
 use Rattle.mv_analyser.specs.States.{EndsLocals, EndsEdges, IsErrorAt, IsComplexAt}
 use Rattle.mv_analyser.specs.declared.ProveError.{ProveError}
 use Rattle.mv_analyser.specs.declared.ProveError.TheVariants.{Refused, TooComplex, Memory}
+use Rattle.mv_analyser.specs.declared.LimitError.{LimitError}
+use Rattle.mv_analyser.specs.declared.LimitError.TheVariants.{Unproved, TooLong}
 use Rattle.mv_bound_rules.proofs.Entries.{last_or_before, element_at}
 
 -- what is stated of the first functions
@@ -102,13 +104,9 @@ never_fails m c holds lists _ (bad_locals none) = none (and_parts (all_locals_ho
 never_fails m c holds lists _ (bad_borrows locals none) = none (and_parts (all_locals_hold m c) (all_edges_hold m c) holds).1
 never_fails m c holds lists _ (bad_acquires whole none) = none lists
 
-passes_check : (m : Module) (c : Certificate) → IsTrue (certificate_holds m c) → AcquiresHold m → PassesCheck m c
+pub passes_check : (m : Module) (c : Certificate) → IsTrue (certificate_holds m c) → AcquiresHold m → PassesCheck m c
 passes_check m c holds lists (Phase p) h = absurd (never_fails m c holds lists p h)
 passes_check m c holds lists OutOfMemory h = refl
-
-pub found_passes : (m : Module) (r : Result Certificate ProveError) → IfOk r (λ c. IsTrue (certificate_holds m c)) → OnOk r (AcquiresHold m) → IfOk r (PassesCheck m)
-found_passes m (Ok c) holds lists = passes_check m c holds lists
-found_passes m (Err e) holds lists = tt
 
 -- where some certificate passes, none is refused
 never_refused : (m : Module) → IsProvable m → (p : ℕ) → FailsEach m p → ⊥
@@ -122,3 +120,16 @@ pub only_limits : (m : Module) → IsProvable m → (e : ProveError) → IsUnpro
 only_limits m provable (Refused p) h = never_refused m provable p h
 only_limits m provable TooComplex h = tt
 only_limits m provable Memory h = tt
+
+-- what is told of a search's error says why no certificate is made, as that error does
+pub told_unproved : (m : Module) (limited : Bool) (why : ProveError) (e : LimitError) → IsTold limited why e → IsUnproved m why → IsUnprovedWithin m e
+told_unproved m limited why (Unproved e) told h = subst (IsUnproved m) (sym told) h
+told_unproved m limited why TooLong told h = tt
+
+pub told_of_limits : (limited : Bool) (why : ProveError) (e : LimitError) → IsTold limited why e → IsOfLimits why → IsOfLimitsWithin e
+told_of_limits limited why (Unproved e) told h = subst IsOfLimits (sym told) h
+told_of_limits limited why TooLong told h = tt
+
+pub told_limited : (limited : Bool) (why : ProveError) (e : LimitError) → IsTold limited why e → e ≡ TooLong → IsTrue limited
+told_limited limited why (Unproved e) told is = cc
+told_limited limited why TooLong told is = told.1

@@ -7,12 +7,13 @@
 --   FindsEdges, .., FailsLocals m f             the same of the function at f
 --   FailsEach m phase                           no certificate passes phase 10, or 11; or some one passes, and 12 fails
 --   IsTooComplex m                              a search for edges meets a limit
---   IsUnproved m e                              why no certificate is made
---   IsOfLimits e                                the search met a limit, or memory ran out
+--   IsUnproved, IsUnprovedWithin m e            why no certificate is made, at all or within a number of steps
+--   IsOfLimits, IsOfLimitsWithin e              the search met a limit, or memory ran out
+--   IsTold limited why e                        what is said of a search's error where its steps are limited, or aren't
 --   IsProvable m                                some certificate passes phases 10 to 12
 --   PassesCheck m c                             nothing but want of memory refuses the certificate
 -- AllBefore is a part of these.
-use Rattle.std.specs.Prelude.{◌≡◌, ⊤, ℕ, ◌<◌, false, List, [], length, Option, Some, slice_get, IsTrue}
+use Rattle.std.specs.Prelude.{◌≡◌, ⊤, ℕ, ◌<◌, Bool, false, List, [], length, Option, Some, slice_get, IsTrue}
 use Rattle.mv_move_types.specs.declared.borrow.Availability.{Availability}
 use Rattle.mv_move_types.specs.declared.refusal.Refusal.{Refusal}
 use Rattle.mv_move_types.specs.declared.refusal.Refusal.TheVariants.{Memory as OutOfMemory}
@@ -33,6 +34,8 @@ use Rattle.mv_certificate_rules.specs.Shape.{AllStatedFit}
 use Rattle.mv_certificate_rules.specs.Verified.{HasCertificate}
 use Rattle.mv_analyser.specs.declared.ProveError.{ProveError}
 use Rattle.mv_analyser.specs.declared.ProveError.TheVariants.{Refused, TooComplex, Memory}
+use Rattle.mv_analyser.specs.declared.LimitError.{LimitError}
+use Rattle.mv_analyser.specs.declared.LimitError.TheVariants.{Unproved, TooLong}
 
 -- no local of a function, parameters included, is a reference
 abbrev pub HasPlainLocals : Module → FunctionDefinition → Type 0
@@ -119,6 +122,20 @@ abbrev pub IsOfLimits : ProveError → Type 0
 IsOfLimits (Refused phase) = ⊥
 IsOfLimits TooComplex = ⊤
 IsOfLimits Memory = ⊤
+
+-- the same within a number of steps, which may also be used up
+abbrev pub IsUnprovedWithin : Module → LimitError → Type 0
+IsUnprovedWithin m (Unproved e) = IsUnproved m e
+IsUnprovedWithin m TooLong = ⊤
+
+abbrev pub IsOfLimitsWithin : LimitError → Type 0
+IsOfLimitsWithin (Unproved e) = IsOfLimits e
+IsOfLimitsWithin TooLong = ⊤
+
+-- A search whose steps are limited may have used them up where it says that memory ran out. Any other error is told as it is.
+abbrev pub IsTold : Bool → ProveError → LimitError → Type 0
+IsTold limited why (Unproved e) = e ≡ why
+IsTold limited why TooLong = (why ≡ Memory) × IsTrue limited
 
 -- where some certificate of the module passes phases 10 to 12
 abbrev pub IsProvable : Module → Type 0

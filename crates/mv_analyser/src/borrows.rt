@@ -11,6 +11,7 @@ ghost use Rattle.mv_analyser.specs.Principal.{AllBefore, FindsEdges, FindsLocals
 ghost use Rattle.mv_analyser.specs.States.{known_with, with_edges, EndsEdges, IsErrorAt, IsComplexAt};
 ghost use Rattle.mv_certificate_rules.specs.Certificate.{Known as KnownRecord};
 
+use crate::watched::{Steps, Watched};
 use crate::{ProveError, error_in};
 use mv_borrow_graph::BorrowDomain;
 use mv_certificate::{Cert, Known, Stated, function_at, function_count, graph_of, has_start};
@@ -69,6 +70,7 @@ fn state_edges(
     m: &Typed<'_>,
     f: usize,
     stated: &Stated,
+    steps: &Steps,
 ) -> Result<Stated, ProveError>
     requires inside { f < length m.now.functions }
     requires fits { FitsAt m.now f stated.now }
@@ -90,7 +92,11 @@ fn state_edges(
     has_start(m, f, function);
     has_plain_fields(m);
     search_is_least(&domain, graph, &start);
-    match solve(alloc, &domain, graph, &start) {
+    let watched = Watched {
+        inner: &domain,
+        steps,
+    };
+    match solve(alloc, &watched, graph, &start) {
         Ok(least) => Ok(stated_and(alloc, stated, least)?),
         Err(e) => Err(error_in(11, e)),
     }
@@ -119,7 +125,12 @@ fn stated_at<'t>(m: &Typed<'_>, c: &'t Cert, f: usize) -> &'t Stated
 }
 
 /// The certificate with the least edges that hold in each function.
-pub fn with_least_edges(alloc: Global, m: &Typed<'_>, c: &Cert) -> Result<Cert, ProveError>
+pub fn with_least_edges(
+    alloc: Global,
+    m: &Typed<'_>,
+    c: &Cert,
+    steps: &Steps,
+) -> Result<Cert, ProveError>
     requires shape { AllStatedFit m.now m.now.functions c.now }
     requires locals { IsTrue (all_locals_hold m.now c.now) }
     requires least { AreLeastLocals m.now c.now }
@@ -133,7 +144,7 @@ pub fn with_least_edges(alloc: Global, m: &Typed<'_>, c: &Cert) -> Result<Cert, 
     let mut functions = Vec::new(alloc);
     for f in 0..count {
         let stated = stated_at(m, c, f);
-        let with_edges = state_edges(alloc, m, f, stated)?;
+        let with_edges = state_edges(alloc, m, f, stated, steps)?;
         functions.push(with_edges).map_err(|_| ProveError::Memory)?;
     }
     Ok(Cert { functions })

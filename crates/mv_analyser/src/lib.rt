@@ -15,13 +15,14 @@
 
 mod borrows;
 mod locals;
+mod watched;
 
-ghost use Rattle.std.specs.Prelude.{◌≡◌, IfOk, IfErr, OnOk, IsTrue};
+ghost use Rattle.std.specs.Prelude.{◌≡◌, IfOk, IfErr, OnOk, IsErrOf, IsSome, IsTrue};
 ghost use Rattle.mv_acquires.specs.Acquires.{AcquiresHold};
 ghost use Rattle.mv_certificate_rules.specs.Certificate.{certificate_holds};
 ghost use Rattle.mv_certificate_rules.specs.Shape.{AllStatedFit};
 ghost use Rattle.mv_analyser.specs.Least.{IsLeastCertificate, LeastIsOne};
-ghost use Rattle.mv_analyser.specs.Principal.{IsUnproved, IsOfLimits, IsProvable, PassesCheck};
+ghost use Rattle.mv_analyser.specs.Principal.{IsUnproved, IsUnprovedWithin, IsOfLimits, IsOfLimitsWithin, IsProvable, PassesCheck};
 ghost use Rattle.mv_analyser.specs.States.{error_of};
 
 use mv_certificate::Cert;
@@ -30,6 +31,7 @@ use mv_move_types::Refusal;
 use mv_type_rules::Typed;
 use std::alloc::{AllocError, Global};
 use thiserror::Error;
+use watched::Steps;
 
 /// Why no certificate is made.
 #[derive(Drop, Clone, Copy, PartialEq, Eq, Debug, Error)]
@@ -52,6 +54,51 @@ impl From<AllocError> for ProveError {
 
     fn from(_: AllocError) -> Self {
         ProveError::Memory
+    }
+}
+
+/// Why no certificate is made within a number of steps.
+#[derive(Drop, Clone, Copy, PartialEq, Eq, Debug, Error)]
+pub enum LimitError {
+    /// As `prove` says.
+    #[error("{0}")]
+    Unproved(ProveError),
+    /// The steps are used up.
+    #[error("too long")]
+    TooLong,
+}
+
+impl LimitError {
+    /// The error of a search whose steps aren't limited, which are never used up.
+    pub fn unlimited(self) -> ProveError
+        requires { ¬ self ≡ LimitError.TooLong }
+        ensures { self ≡ LimitError.Unproved result }
+    {
+        match self {
+            LimitError::Unproved(e) => e,
+            LimitError::TooLong => unreachable!(),
+        }
+    }
+}
+
+impl From<ProveError> for LimitError {
+    ghost use Rattle.mv_analyser.specs.declared.LimitError.TheVariants.{Unproved};
+
+    ghost from_gives = { λ e why. why ≡ Unproved e };
+
+    fn from(e: ProveError) -> Self {
+        LimitError::Unproved(e)
+    }
+}
+
+impl From<AllocError> for LimitError {
+    ghost use Rattle.mv_analyser.specs.declared.ProveError.TheVariants.{Memory};
+    ghost use Rattle.mv_analyser.specs.declared.LimitError.TheVariants.{Unproved};
+
+    ghost from_gives = { λ _ why. why ≡ Unproved Memory };
+
+    fn from(_: AllocError) -> Self {
+        LimitError::Unproved(ProveError::Memory)
     }
 }
 
@@ -80,18 +127,35 @@ fn check_acquires(alloc: Global, m: &Typed<'_>, c: &Cert) -> Result<(), ProveErr
     }
 }
 
-/// The least states that hold in each function, where the acquires lists are right.
-fn find(alloc: Global, m: &Typed<'_>) -> Result<Cert, ProveError>
+/// The least states that hold in each function, where the acquires lists are right. It says that memory ran out also where a step
+/// was refused.
+fn find(alloc: Global, m: &Typed<'_>, steps: &Steps) -> Result<Cert, ProveError>
     ensures shape { IfOk result (λ c. AllStatedFit m.now m.now.functions c) }
     ensures holds { IfOk result (λ c. IsTrue (certificate_holds m.now c)) }
     ensures least { IfOk result (IsLeastCertificate m.now) }
     ensures acquires { OnOk result (AcquiresHold m.now) }
     ensures refused { IfErr result (IsUnproved m.now) }
 {
-    let locals = locals::least_locals(alloc, m)?;
-    let c = borrows::with_least_edges(alloc, m, &locals)?;
+    let locals = locals::least_locals(alloc, m, steps)?;
+    let c = borrows::with_least_edges(alloc, m, &locals, steps)?;
     check_acquires(alloc, m, &c)?;
     Ok(c)
+}
+
+/// The certificate of `prove_within` if a number of steps is given, and of `prove` otherwise.
+fn prove_limited(alloc: Global, m: &Typed<'_>, limit: Option<u64>) -> Result<Cert, LimitError>
+    ensures shape { IfOk result (λ c. AllStatedFit m.now m.now.functions c) }
+    ensures passes { IfOk result (PassesCheck m.now) }
+    ensures least { IfOk result (IsLeastCertificate m.now) }
+    ensures refused { IfErr result (IsUnprovedWithin m.now) }
+    ensures principal { IsProvable m.now → IfErr result IsOfLimitsWithin }
+    ensures limited { IsErrOf result LimitError.TooLong → IsSome limit }
+{
+    let steps = Steps::new(limit);
+    match find(alloc, m, &steps) {
+        Ok(c) => Ok(c),
+        Err(e) => Err(steps.told(e)),
+    }
 }
 
 /// A certificate of the module that passes `check`, made of the least states that hold in each function. It is principal: where
@@ -111,7 +175,25 @@ pub fn prove(alloc: Global, m: &Typed<'_>) -> Result<Cert, ProveError>
     ensures refused { IfErr result (IsUnproved m.now) }
     ensures principal { IsProvable m.now → IfErr result IsOfLimits }
 {
-    find(alloc, m)
+    match prove_limited(alloc, m, None) {
+        Ok(c) => Ok(c),
+        Err(e) => Err(e.unlimited()),
+    }
+}
+
+/// The certificate of `prove`, if the search for it takes at most so many steps. A step is one instruction of one visit of a block;
+/// the steps for availabilities and for edges count together, over all functions.
+///
+/// # Errors
+/// `Unproved` as `prove` says. `TooLong` if one step more would be taken.
+pub fn prove_within(alloc: Global, m: &Typed<'_>, steps: u64) -> Result<Cert, LimitError>
+    ensures shape { IfOk result (λ c. AllStatedFit m.now m.now.functions c) }
+    ensures passes { IfOk result (PassesCheck m.now) }
+    ensures least { IfOk result (IsLeastCertificate m.now) }
+    ensures refused { IfErr result (IsUnprovedWithin m.now) }
+    ensures principal { IsProvable m.now → IfErr result IsOfLimitsWithin }
+{
+    prove_limited(alloc, m, Some(steps))
 }
 
 /// Two least certificates of a module state the same availabilities, and edges that are below each other.

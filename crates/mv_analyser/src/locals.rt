@@ -8,6 +8,7 @@ ghost use Rattle.mv_analyser.specs.Least.{HasLeastLocals, AreLeastLocals};
 ghost use Rattle.mv_analyser.specs.Principal.{AllBefore, FindsLocals, IsUnproved};
 ghost use Rattle.mv_analyser.specs.States.{locals_alone, EndsLocals, IsErrorAt};
 
+use crate::watched::{Steps, Watched};
 use crate::{ProveError, error_in};
 use mv_certificate::{Cert, Known, Stated, function_at, function_count, graph_of};
 use mv_edges::Edges;
@@ -35,7 +36,7 @@ fn alone(alloc: Global, all: &[Option<Availabilities>]) -> Result<Stated, AllocE
 }
 
 /// The least availabilities of function `f` that hold, with no edges.
-fn state_locals(alloc: Global, m: &Typed<'_>, f: usize) -> Result<Stated, ProveError>
+fn state_locals(alloc: Global, m: &Typed<'_>, f: usize, steps: &Steps) -> Result<Stated, ProveError>
     requires { f < length m.now.functions }
     ensures fits { IfOk result (FitsAt m.now f) }
     ensures holds { IfOk result (LocalsHoldAt m.now f) }
@@ -49,14 +50,18 @@ fn state_locals(alloc: Global, m: &Typed<'_>, f: usize) -> Result<Stated, ProveE
     let function = function_at(m, f);
     let graph = graph_of(m, f, function);
     search_is_least(&domain, graph, &start);
-    match solve(alloc, &domain, graph, &start) {
+    let watched = Watched {
+        inner: &domain,
+        steps,
+    };
+    match solve(alloc, &watched, graph, &start) {
         Ok(least) => Ok(alone(alloc, &least)?),
         Err(e) => Err(error_in(10, e)),
     }
 }
 
 /// The least availabilities of each function that hold, with no edges.
-pub fn least_locals(alloc: Global, m: &Typed<'_>) -> Result<Cert, ProveError>
+pub fn least_locals(alloc: Global, m: &Typed<'_>, steps: &Steps) -> Result<Cert, ProveError>
     ensures shape { IfOk result (λ c. AllStatedFit m.now m.now.functions c) }
     ensures holds { IfOk result (λ c. IsTrue (all_locals_hold m.now c)) }
     ensures least { IfOk result (AreLeastLocals m.now) }
@@ -66,7 +71,7 @@ pub fn least_locals(alloc: Global, m: &Typed<'_>) -> Result<Cert, ProveError>
     let count = function_count(m);
     let mut functions = Vec::new(alloc);
     for f in 0..count {
-        let stated = state_locals(alloc, m, f)?;
+        let stated = state_locals(alloc, m, f, steps)?;
         functions.push(stated).map_err(|_| ProveError::Memory)?;
     }
     Ok(Cert { functions })

@@ -3,13 +3,18 @@
 --   apply, migrate, prove, check   each command's words
 --   ledger_commands, moveledger    the program with two of them, and with all four
 --   Seen, seen task                a task by the names that were given
+--   number_of text                 the number that a text writes
 --   named_task name rows           the task of a command, by what was given to it
 --   task_in found                  the same of what the command line was taken apart into
 --   IsOfKind kinds e               where the words are at fault, the error is of one of these kinds
 --   IsWords e                      the words are at fault, and not memory
 -- The others are parts of these.
-use Rattle.std.specs.Prelude.{List, [], true, Option, Some, None, codes, option_map, unwrap_or, if◌then◌else◌, ⊤}
+use Rattle.std.specs.Prelude.{ℕ, ◌^◌, ◌&&◌, nat_lt, List, [], length, true, Option, Some, None, codes, option_and_then, option_map, unwrap_or, if◌then◌else◌, ⊤}
+use Rattle.std.specs.Char.{digit_value}
+use Rattle.std.specs.List.{list_all}
 use Rattle.std.specs.Str.{bytes_eq}
+use Rattle.std.specs.Str.Parse.{digits_value, without_leading_plus}
+use Rattle.clap.specs.declared.builder.value_parser.ValueParser.TheVariants.{Unsigned}
 use Rattle.clap.specs.Values.{kind_of}
 use Rattle.clap.specs.Words.{App, IsAmong, Kinds, Rule, Row, Text, new_app, new_rule, with_rule, with_subcommand, first_of}
 use Rattle.mv_commands.specs.declared.command_line.Task.{Task}
@@ -25,6 +30,10 @@ name_of name = record (new_rule name) { required = true }
 abbrev pub path_option : Text → Rule
 path_option name = record (new_rule name) { long = Some name; value_names = 1 }
 
+-- an option that may be given, with a number that 64 bits hold
+abbrev pub number_option : Text → Rule
+number_option name = record (new_rule name) { long = Some name; value_names = 1; parser = Some (Unsigned 0 18446744073709551615) }
+
 -- apply [--load PATH] [--save PATH] FILE
 abbrev pub apply : App
 apply = with_rule (with_rule (with_rule (new_app (codes "apply")) (path_option (codes "load"))) (path_option (codes "save"))) (name_of (codes "FILE"))
@@ -33,9 +42,9 @@ apply = with_rule (with_rule (with_rule (new_app (codes "apply")) (path_option (
 abbrev pub migrate : App
 migrate = with_rule (with_rule (new_app (codes "migrate")) (name_of (codes "OLD"))) (name_of (codes "NEW"))
 
--- prove MODULE
+-- prove [--steps N] MODULE
 abbrev pub prove : App
-prove = with_rule (new_app (codes "prove")) (name_of (codes "MODULE"))
+prove = with_rule (with_rule (new_app (codes "prove")) (number_option (codes "steps"))) (name_of (codes "MODULE"))
 
 -- check MODULE CERT
 abbrev pub check : App
@@ -56,14 +65,14 @@ moveledger = with_subcommand (with_subcommand ledger_commands prove.top) check.t
 -- a task without where its names lie
 pub data Seen : Type 0 where
   Applies : Text → Option Text → Option Text → Seen
-  Proves : Text → Seen
+  Proves : Option ℕ → Text → Seen
   Checks : Text → Text → Seen
   Migrates : Text → Text → Seen
 
 -- the names of a task
 abbrev pub seen : Task → Seen
 seen (Apply file load save) = Applies file.now (option_map (λ s. s.now) load) (option_map (λ s. s.now) save)
-seen (Prove file) = Proves file.now
+seen (Prove file steps) = Proves steps file.now
 seen (Check file certificate) = Checks file.now certificate.now
 seen (Migrate old new) = Migrates old.now new.now
 
@@ -71,10 +80,17 @@ seen (Migrate old new) = Migrates old.now new.now
 abbrev pub given_as : Text → List Row → Text
 given_as id rows = unwrap_or (first_of id rows) []
 
+-- the number that a text writes in decimal digits, if it is one that 64 bits hold; a plus may stand first
+abbrev pub number_of : Text → Option ℕ
+number_of text =
+    let digits = without_leading_plus text in
+    if nat_lt 0 (length digits) && list_all (λ c. nat_lt (digit_value c) 10) digits && nat_lt (digits_value 10 digits) (2 ^ 64)
+    then Some (digits_value 10 digits) else None
+
 -- the task of a command by its name, with what was given to it
 abbrev pub named_task : Text → List Row → Seen
 named_task name rows =
-    if bytes_eq name (codes "prove") then Proves (given_as (codes "MODULE") rows)
+    if bytes_eq name (codes "prove") then Proves (option_and_then number_of (first_of (codes "steps") rows)) (given_as (codes "MODULE") rows)
     else if bytes_eq name (codes "check") then Checks (given_as (codes "MODULE") rows) (given_as (codes "CERT") rows)
     else if bytes_eq name (codes "migrate") then Migrates (given_as (codes "OLD") rows) (given_as (codes "NEW") rows)
     else Applies (given_as (codes "FILE") rows) (first_of (codes "load") rows) (first_of (codes "save") rows)

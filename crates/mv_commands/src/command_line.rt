@@ -1,11 +1,11 @@
 // The command line.
-ghost use Rattle.std.specs.Prelude.{◌≡◌, [], ◌∷◌, IfOk, IfErr, IsTrue, OnOk, false, map, option_map};
+ghost use Rattle.std.specs.Prelude.{◌≡◌, [], ◌∷◌, IfOk, IfErr, IsTrue, OnOk, codes, false, map, option_and_then, option_map};
 ghost use Rattle.clap.specs.Words.{app_of, fault_of, first_of, found_of, rows_of, rule_of, subcommand_of, subcommand_rows_of, takes};
 ghost use Rattle.clap.specs.declared.builder.Command.TheViews.{out-Command};
-ghost use Rattle.mv_commands.specs.Line.{apply, check, given_as, ledger_commands, migrate, moveledger, name_of, named_task, path_option, prove, task_in, seen, IsOfKind, IsWords};
+ghost use Rattle.mv_commands.specs.Line.{apply, check, given_as, ledger_commands, migrate, moveledger, name_of, named_task, number_of, number_option, path_option, prove, task_in, seen, IsOfKind, IsWords};
 
 use clap::error::ErrorKind;
-use clap::{Arg, ArgMatches, Command};
+use clap::{Arg, ArgMatches, Command, value_parser};
 use std::alloc::{AllocError, Global};
 use thiserror::Error;
 
@@ -21,8 +21,13 @@ pub enum Task<'a> {
         /// The file to keep the ledger in at the end.
         save: Option<&'a str>,
     },
-    /// Print a certificate for the module of this file.
-    Prove(&'a str),
+    /// Print a certificate for the module of a file.
+    Prove {
+        /// The file.
+        module: &'a str,
+        /// The most steps that the search for it may take; None for any number of them.
+        steps: Option<u64>,
+    },
     /// Check the module of the first file with the text of a certificate in the second.
     Check(&'a str, &'a str),
     /// Convert the ledger of the first file to the current form, and write it to the second.
@@ -71,6 +76,18 @@ fn path_option<'a>(alloc: Global, name: &'a str, help: &'a str) -> Arg<'a>
         .help(help)
 }
 
+/// An option that may be given, with a number that 64 bits hold, and what help says of it.
+fn number_option<'a>(alloc: Global, name: &'a str, help: &'a str) -> Arg<'a>
+    ensures rule { rule_of result ≡ number_option name.entry.now }
+    ensures local { result.global ≡ false }
+{
+    Arg::new(alloc, name)
+        .long(name)
+        .value_name("N")
+        .value_parser(value_parser!(u64))
+        .help(help)
+}
+
 /// `apply [--load PATH] [--save PATH] FILE`.
 fn apply_command<'a>(alloc: Global) -> Result<Command<'a>, AllocError>
     ensures app { IfOk result (λ c. app_of c ≡ apply) }
@@ -110,7 +127,7 @@ fn migrate_command<'a>(alloc: Global) -> Result<Command<'a>, AllocError>
         ))
 }
 
-/// `prove MODULE`.
+/// `prove [--steps N] MODULE`.
 fn prove_command<'a>(alloc: Global) -> Result<Command<'a>, AllocError>
     ensures app { IfOk result (λ c. app_of c ≡ prove) }
     ensures local { IfOk result (λ c. (out-Command c).has_globals ≡ false) }
@@ -118,6 +135,11 @@ fn prove_command<'a>(alloc: Global) -> Result<Command<'a>, AllocError>
     Command::new(alloc, "prove")
         .about("Print a certificate for a module, in hexadecimal, or why there is none")
         .after_help("Example: moveledger prove coin.module > coin.certificate")
+        .arg(number_option(
+            alloc,
+            "steps",
+            "Print `too long` if the search takes more than so many steps: each instruction, each time it is visited",
+        ))?
         .arg(name_arg(
             alloc,
             "MODULE",
@@ -186,12 +208,32 @@ fn asked<'a>(matches: &ArgMatches<'a>, id: &str) -> Option<&'a str>
     matches.get_str(id)
 }
 
+/// The number that a text writes, if 64 bits hold it.
+fn number_of(text: &str) -> Option<u64>
+    ensures { result ≡ number_of text.now }
+{
+    match text.parse::<u64>() {
+        Ok(number) => Some(number),
+        Err(_) => None,
+    }
+}
+
+/// How many steps were given. What is given is a number: `definition` takes no other.
+fn asked_steps(matches: &ArgMatches<'_>) -> Option<u64>
+    ensures { result ≡ option_and_then number_of (first_of (codes "steps") (rows_of (found_of matches.now))) }
+{
+    number_of(asked(matches, "steps")?)
+}
+
 /// The task of a command by its name, with what was given to it.
 fn named_task<'a>(name: &str, found: &ArgMatches<'a>) -> Task<'a>
     ensures { seen result ≡ named_task name.now (rows_of (found_of found.now)) }
 {
     if name == "prove" {
-        return Task::Prove(given(found, "MODULE"));
+        return Task::Prove {
+            module: given(found, "MODULE"),
+            steps: asked_steps(found),
+        };
     }
     if name == "check" {
         return Task::Check(given(found, "MODULE"), given(found, "CERT"));

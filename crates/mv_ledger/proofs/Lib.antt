@@ -12,3 +12,4 @@ pub mod BlockWise
 pub mod Runs
 pub mod Shows
 pub mod Asked
+pub mod ModuleChanges

@@ -1,7 +1,8 @@
 -- What was held at marks, where a block is begun and where it is taken back.
+use Rattle.std.proofs.Common.{suc}
 use Rattle.mv_undo.proofs.Lasts.{last-some}
 use Rattle.mv_undo.proofs.Parts.{all-begun, all-back}
-use Rattle.mv_ledger.proofs.Common.{[], ◌++◌, ◌∙◌, ◌∷◌, ◌≡◌, Bool, List, None, Option, Some, ap, false, refl, sym, true, ℕ, FlatEntry, Replies, Leaves, Told, ToldPublished, ToldRefused, ToldRejected, ToldLines, RanOut, RanToAbort, RanToEnd, LedgerView, IsLedger, all_of}
+use Rattle.mv_ledger.proofs.Common.{[], ◌++◌, ◌∙◌, ◌∷◌, ◌≡◌, Bool, List, None, Option, Some, ap, false, length, refl, sym, true, ℕ, FlatEntry, Replies, Leaves, Told, ToldPublished, ToldRefused, ToldRejected, ToldLines, RanOut, RanToAbort, RanToEnd, LedgerView, IsLedger, all_of}
 use Rattle.mv_ledger_state.specs.View.{HeldView, HeldModules}
 use Rattle.mv_ledger.specs.Marks.{AreLedgers, held_at, held_marks, marked}
 
@@ -66,6 +67,12 @@ no-marks (x ∷ ps) [] rs a e = absurd a
 no-marks (x ∷ ps) (y ∷ ss) [] a e = absurd a
 no-marks (x ∷ ps) (y ∷ ss) (z ∷ rs) a e = absurd (let no : ⊥ = cc in no)
 
+pub no-modules : (ps : List HeldModules) (ss : List (List FlatEntry)) (rs : List ℕ) → AreLedgers ps ss rs → held_marks ps ss rs ≡ [] → ps ≡ []
+no-modules [] ss rs a e = refl
+no-modules (x ∷ ps) [] rs a e = absurd a
+no-modules (x ∷ ps) (y ∷ ss) [] a e = absurd a
+no-modules (x ∷ ps) (y ∷ ss) (z ∷ rs) a e = absurd (let no : ⊥ = cc in no)
+
 pub stored-newest : (ps : List HeldModules) (ss : List (List FlatEntry)) (rs : List ℕ) (hs : List HeldView) (h : HeldView) → AreLedgers ps ss rs → held_marks ps ss rs ≡ hs ++ h ∷ []
     → (xs : List (List FlatEntry)) × (ss ≡ xs ++ h.stored ∷ [])
 stored-newest [] [] [] hs h a e = absurd (last-some hs h (sym e))
@@ -80,6 +87,30 @@ stored-newest (x ∷ ps) (y ∷ ss) (z ∷ rs) [] h a e =
 stored-newest (x ∷ ps) (y ∷ ss) (z ∷ rs) (g ∷ gs) h a e =
     let rest = stored-newest ps ss rs gs h a.1 (cons-same (held_at x y z) g (held_marks ps ss rs) (gs ++ h ∷ []) e).1 in
     (y ∷ rest.0, ap (λ (ts : List (List FlatEntry)). y ∷ ts) rest.1)
+
+-- the same of the modules
+pub modules-newest : (ps : List HeldModules) (ss : List (List FlatEntry)) (rs : List ℕ) (hs : List HeldView) (h : HeldView) → AreLedgers ps ss rs → held_marks ps ss rs ≡ hs ++ h ∷ []
+    → (xs : List HeldModules) × (p : HeldModules) × (ps ≡ xs ++ p ∷ []) × (p.modules ≡ h.published)
+modules-newest [] [] [] hs h a e = absurd (last-some hs h (sym e))
+modules-newest [] [] (z ∷ rs) hs h a e = absurd a
+modules-newest [] (y ∷ ss) rs hs h a e = absurd a
+modules-newest (x ∷ ps) [] rs hs h a e = absurd a
+modules-newest (x ∷ ps) (y ∷ ss) [] hs h a e = absurd a
+modules-newest (x ∷ ps) (y ∷ ss) (z ∷ rs) [] h a e =
+    let parts = cons-same (held_at x y z) h (held_marks ps ss rs) [] e in
+    ([], x, ap (λ (qs : List HeldModules). x ∷ qs) (no-modules ps ss rs a.1 parts.1), ap (λ (v : HeldView). v.published) parts.0)
+modules-newest (x ∷ ps) (y ∷ ss) (z ∷ rs) (g ∷ gs) h a e =
+    let rest = modules-newest ps ss rs gs h a.1 (cons-same (held_at x y z) g (held_marks ps ss rs) (gs ++ h ∷ []) e).1 in
+    (x ∷ rest.0, rest.1, ap (λ (qs : List HeldModules). x ∷ qs) rest.2, rest.3)
+
+-- there are as many marks as counts of runs
+pub marks-long : (ps : List HeldModules) (ss : List (List FlatEntry)) (rs : List ℕ) → AreLedgers ps ss rs → length (held_marks ps ss rs) ≡ length rs
+marks-long [] [] [] a = refl
+marks-long [] [] (z ∷ rs) a = absurd a
+marks-long [] (y ∷ ss) rs a = absurd a
+marks-long (x ∷ ps) [] rs a = absurd a
+marks-long (x ∷ ps) (y ∷ ss) [] a = absurd a
+marks-long (x ∷ ps) (y ∷ ss) (z ∷ rs) a = ap suc (marks-long ps ss rs a.1)
 
 -- ---- a reply leaves what was held at marks
 

@@ -5,3 +5,4 @@ pub mod Formats
 pub mod ParameterTypes
 pub mod Marks
 pub mod Questions
+pub mod Changed

@@ -1,5 +1,5 @@
 // Blocks: what is answered in one can be taken back.
-ghost use Rattle.std.specs.Prelude.{◌≡◌, ◌++◌, ◌∷◌, [], List, true, false, IfOk, OnOk, OnErr};
+ghost use Rattle.std.specs.Prelude.{◌≡◌, ◌++◌, ◌∷◌, [], List, true, false, length, IfOk, OnOk, OnErr};
 ghost use Rattle.mv_ledger_state.specs.View.{HeldView, held_of};
 ghost use Rattle.mv_ledger.specs.Marks.{marked};
 ghost use Rattle.mv_storage.specs.Difference.{IsDifference};
@@ -9,6 +9,13 @@ use mv_storage::Changes;
 use std::alloc::AllocError;
 
 impl Ledger {
+    /// How many blocks are open.
+    pub fn blocks(&self) -> usize
+        ensures { result ≡ length self.now.marks }
+    {
+        self.run_marks.len()
+    }
+
     /// Opens a block. Records are answered in it as ever, and `rollback` takes back what they changed. A block may be opened within
     /// another.
     ///

@@ -4,6 +4,7 @@ ghost use Rattle.mv_ledger_state.specs.Counting.Headline.{EveryCountIsTallied};
 ghost use Rattle.mv_ledger_state.specs.Counting.Conservation.{EveryRunIsOwnWork, EveryRunConserves};
 ghost use Rattle.mv_ledger_state.specs.Accepted.Records.{EachRecordIsWell};
 ghost use Rattle.mv_lines.specs.Plain.{NoTextIsEscaped};
+ghost use Rattle.mv_ledger_state.specs.Flowing.{EachSaveFlows};
 ghost use Rattle.mv_ledger_state.specs.View.{EachTallyIsScarce, state_of};
 ghost use Rattle.mv_ledger_state.specs.SavedLaws.{EachLedgerHasOneText, EachTextHasOneLedger, EachSaveIsLoaded, EachLoadIsSound, EachLoadIsOne, EachLoadIsSaved, EachSecondFormComesBack, NoLoadFails, NoSaveIsRefused};
 
@@ -108,4 +109,13 @@ pub fn no_save_is_refused(ledger: &Ledger)
     ledger.is_sound();
     ledger.is_savable();
     mv_binary_format::modules_are_read_by_text();
+}
+
+/// The pieces that a save gives of a ledger from the beginning to the end are, one after the other, its saved text.
+pub fn each_save_flows(ledger: &Ledger)
+    ensures { EachSaveFlows (state_of ledger.now) }
+{
+    // For the prover: what it stands for is sound, and within the limits of a saved ledger.
+    ledger.is_sound();
+    ledger.is_savable();
 }

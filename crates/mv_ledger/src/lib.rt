@@ -16,12 +16,14 @@
 #![tactic(auto)]
 
 mod blocks;
+mod changed;
 mod executing;
 mod format;
 mod laws;
 mod loading;
 mod modules;
 mod questions;
+mod saving;
 
 ghost use Rattle.std.specs.Prelude.{◌≡◌, is_some, IfOk};
 ghost use Rattle.mv_ledger_state.specs.View.{empty_view, state_of};
@@ -31,21 +33,22 @@ ghost use Rattle.mv_ledger_state.specs.Accepted.SoundLedger.{IsSoundLedger};
 ghost use Rattle.mv_ledger_state.specs.SavedLaws.{IsSavable};
 ghost use Rattle.mv_ledger_state.specs.SavedText.{IsSavedText, Second};
 
+pub use changed::ChangedModules;
 use executing::{Barred, admitted};
 pub use format::Format;
 use format::read_format;
 pub use laws::{
     each_ledger_has_one_text, each_load_is_one, each_load_is_saved, each_load_is_sound,
-    each_record_is_well, each_save_is_loaded, each_second_form_comes_back, each_tally_is_scarce,
-    each_text_has_one_ledger, every_count_is_tallied, every_run_conserves, every_run_is_own_work,
-    no_load_fails, no_save_is_refused, no_text_is_escaped,
+    each_record_is_well, each_save_flows, each_save_is_loaded, each_second_form_comes_back,
+    each_tally_is_scarce, each_text_has_one_ledger, every_count_is_tallied, every_run_conserves,
+    every_run_is_own_work, no_load_fails, no_save_is_refused, no_text_is_escaped,
 };
 pub use loading::migrate;
 pub use modules::Modules;
 pub use mv_interface::StructName;
-pub use mv_ledger_state::LoadError;
+pub use mv_ledger_state::{LoadError, Saving};
 use mv_ledger_state::{Published, read_run, text_of};
-pub use mv_lines::{Lines, Piece};
+pub use mv_lines::{Lines, Piece, Side};
 use mv_machine::Outcome;
 pub use mv_machine::Tally;
 use mv_move_types::Refusal;

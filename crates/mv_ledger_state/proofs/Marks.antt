@@ -1,8 +1,9 @@
 -- What is held at the marks of open blocks.
-use Rattle.std.proofs.Common.{[], ◌++◌, ◌∙◌, ◌∷◌, ◌≡◌, ◌≤◌, ◌+◌, List, ap, ap₂, arith, drop, length, map, refl, sym, subst, suc, zero, ℕ, length-append}
+use Rattle.std.proofs.Common.{[], ◌++◌, ◌∙◌, ◌∷◌, ◌≡◌, ◌≤◌, ◌+◌, ◌-◌, List, ap, ap₂, arith, drop, length, map, refl, sym, subst, suc, zero, ℕ, length-append}
 use Rattle.std.proofs.Common.{◌⊎◌, inl, inr}
 use Rattle.std.proofs.lemmas.Bool.{true≢false}
 use Rattle.std.proofs.lemmas.List.{map-append}
+use Rattle.std.proofs.lemmas.Option.{slice_get-get_or}
 use Rattle.std.specs.Option.{option_or}
 use Rattle.std.specs.Prelude.{◌<◌, Err, None, Ok, OnOk, Option, Result, Some, false, get_or, slice_get, slice_set, true, unwrap_or}
 use Rattle.std.specs.List.{AllByRecursion}
@@ -10,6 +11,7 @@ use Rattle.std.specs.Vec.{vec_capacity, vec_len}
 use Rattle.std.specs.declared.alloc.Global.{Global}
 use Rattle.std.specs.declared.vec.Vec.{Vec}
 use Rattle.mv_undo.specs.Undo.{undone, AreMarks}
+use Rattle.mv_undo.proofs.Lasts.{last-same, last-some}
 use Rattle.mv_undo.proofs.Undoing.{undone-last, undone-none, AreMarks-begun, AreMarks-more, AreMarks-back, AreMarks-before, AreMarks-last, all-append, all-before, all-behind}
 use Rattle.mv_machine.specs.declared.Tally.{Tally}
 use Rattle.mv_move_types.specs.Published.{PublishedModule}
@@ -152,6 +154,35 @@ none-held-still b modules old new h e = record {
 pub or-is : {X : Type 0} (a b : Option X) (x : X) → unwrap_or (option_or a b) x ≡ unwrap_or a (unwrap_or b x)
 or-is None b x = refl
 or-is (Some y) b x = refl
+
+-- ---- the newest mark
+
+newest-at : (ms : List Mark) (n : ℕ) (m : Mark) → length ms ≡ suc n → slice_get ms n ≡ Some m → (older : List Mark) × (ms ≡ older ++ m ∷ [])
+newest-at [] n m long at = absurd (let no : ⊥ = cc in no)
+newest-at (x ∷ []) zero m long at = ([], ap (λ y. y ∷ []) (let same : x ≡ m = cc in same))
+newest-at (x ∷ y ∷ zs) zero m long at = absurd (omega (arith, long))
+newest-at (x ∷ xs) (suc n) m long at = let r = newest-at xs n m (omega (arith, long)) at in (x ∷ r.0, ap (λ ys. x ∷ ys) r.1)
+
+-- its modules are those that are held there
+pub newest-modules : (noted : List TallyBefore) (ms : List Mark) (m : Mark) (modules : List PublishedModule) (tallies : List (List Tally)) → slice_get ms (length ms - 1) ≡ Some m
+    → (older : List HeldModules) (old : HeldModules) → held_at noted ms modules tallies ≡ older ++ old ∷ [] → old.modules ≡ unwrap_or m.store modules
+newest-modules noted [] m modules tallies at older old e = absurd (let no : ⊥ = cc in no)
+newest-modules noted (x ∷ xs) m modules tallies at older old e =
+    let n : length (x ∷ xs) - 1 ≡ length xs = omega arith in
+    let s = newest-at (x ∷ xs) (length xs) m refl (ap (slice_get (x ∷ xs)) (sym n) ∙ at) in
+    ap (λ (h : HeldModules). h.modules)
+    (last-same older (held_at noted s.0 (unwrap_or m.store modules) tallies) old (held_one noted m modules tallies)
+    (sym e ∙ ap (λ (ns : List Mark). held_at noted ns modules tallies) s.1 ∙ held-last noted s.0 m modules tallies))
+
+-- where there is none, nothing is held
+pub none-newest : (noted : List TallyBefore) (ms : List Mark) (modules : List PublishedModule) (tallies : List (List Tally)) → slice_get ms (length ms - 1) ≡ None
+    → (older : List HeldModules) (old : HeldModules) → held_at noted ms modules tallies ≡ older ++ old ∷ [] → ⊥
+none-newest noted [] modules tallies at older old e = last-some older old (sym e)
+none-newest noted (x ∷ xs) modules tallies at older old e =
+    let n : length (x ∷ xs) - 1 ≡ length xs = omega arith in
+    let there = slice_get-get_or (x ∷ xs) (length xs) x (omega arith) in
+    let one : None ≡ Some (get_or (x ∷ xs) (length xs) x) = sym at ∙ ap (slice_get (x ∷ xs)) n ∙ there in
+    cc
 
 -- ---- what follows from a result
 

@@ -13,6 +13,7 @@ pub mod Loading
 pub mod SavedLaws
 pub mod Layouts
 pub mod Inside
+pub mod Flowing
 pub mod Parts
 pub mod Unread
 pub mod Blocks

@@ -4,10 +4,12 @@
 --   LoadedParts  The parts of which the loading of a ledger is made, and how they stand to its text.
 --   CountRows    Counts of the values of structs, module by module.
 --   Saving       How the values that are stored are written struct by struct.
+--   Steps        The steps of a save, each of which makes the next bytes.
 --   Joining      How the tallies of a bundle's modules come to their places.
 pub mod LayoutParts
 pub mod BodyParts
 pub mod LoadedParts
 pub mod CountRows
 pub mod Saving
+pub mod Steps
 pub mod Joining

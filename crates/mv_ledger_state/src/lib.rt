@@ -25,8 +25,9 @@ mod undoing;
 mod unread;
 
 pub use mv_linker::Store;
-pub use payload::{RunRecord, read_run};
+pub use payload::{Bundle, Offered, RunRecord, read_bundle, read_run};
 pub use published::Published;
+pub use saved::flowing::Saving;
 pub use saved::loading::longer::refusal_of_longer;
 pub use saved::loading::{LoadError, Loaded, load};
 pub use saved::saving::text_of;

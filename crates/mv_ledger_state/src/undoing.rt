@@ -1,5 +1,5 @@
 // Blocks of what is published and tallied: begun, taken back and kept.
-ghost use Rattle.std.specs.Prelude.{◌≡◌, ◌++◌, ◌∷◌, [], true, false, length, unwrap_or, OnOk, OnErr};
+ghost use Rattle.std.specs.Prelude.{◌≡◌, ◌++◌, ◌∷◌, [], List, None, true, false, length, option_copied, unwrap_or, OnOk, OnErr};
 ghost use Rattle.mv_ledger_state.specs.View.{held_now, CanCount, HeldModules};
 
 use crate::blocks::{Mark, give_back};
@@ -71,6 +71,17 @@ impl Published {
                 true
             }
             None => false,
+        }
+    }
+
+    /// The modules where the newest block was begun; None where they are those of now, or no block is open.
+    pub fn store_before(&self) -> Option<&Store>
+        ensures held { (older : List HeldModules) (old : HeldModules) → self.now.marks ≡ older ++ old ∷ [] → old.modules ≡ unwrap_or (option_copied result) self.now.modules }
+        ensures none { self.now.marks ≡ [] → result ≡ None }
+    {
+        match self.blocks.marks.last() {
+            Some(mark) => mark.store.as_ref(),
+            None => None,
         }
     }
 

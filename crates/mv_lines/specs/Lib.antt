@@ -4,7 +4,7 @@
 --   Sending, Plain       what is sent of them as JSON, which no text of it has to be escaped for
 --   Pieces, JsonLeft     a line of JSON, piece by piece
 --   LinesView, Left      the lines that are left
---   Sources              where stored values come from
+--   Sources, Changed     where stored values come from
 pub mod Auditing
 pub mod Showing
 pub mod ValueParts
@@ -14,4 +14,5 @@ pub mod Pieces
 pub mod JsonLeft
 pub mod LinesView
 pub mod Left
+pub mod Changed
 pub mod Sources

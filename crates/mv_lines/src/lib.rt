@@ -16,6 +16,7 @@
 
 mod ahead;
 mod audit;
+mod changed;
 mod json_counts;
 mod json_entries;
 mod json_pieces;
@@ -25,6 +26,7 @@ mod source;
 mod texts;
 mod values;
 
+pub use changed::Side;
 pub use lines::Lines;
 pub use pieces::Piece;
 pub use texts::put_address;

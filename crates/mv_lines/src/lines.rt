@@ -11,6 +11,7 @@ ghost use Rattle.mv_machine.specs.Tallies.{all_of, lists_of, tallied};
 
 use crate::ahead::Ahead;
 use crate::audit::{Counts, count_text};
+use crate::changed::Side;
 use crate::json_pieces::{CountedJson, StoredJson};
 use crate::pieces::Piece;
 use crate::source::Source;
@@ -19,7 +20,7 @@ use crate::values::put_value;
 use mv_linker::Store;
 use mv_machine::Tally;
 use mv_move_types::Key;
-use mv_storage::{Entries, Page, Storage};
+use mv_storage::{Changes, Entries, Page, Storage};
 use std::alloc::{AllocError, Global};
 use std::marker::Model;
 
@@ -173,6 +174,7 @@ impl<'a> Model for Lines<'a> {
 }
 
 impl<'a> Lines<'a> {
+    ghost use Rattle.mv_lines.specs.Changed.{values_of};
     ghost use Rattle.mv_lines.specs.Sources.{values_in};
 
     /// The lines of a show of all that is stored.
@@ -254,6 +256,23 @@ impl<'a> Lines<'a> {
         Lines {
             alloc,
             left: Left::StoredJson(StoredJson::new(alloc, store, Source::Page(page))),
+        }
+    }
+
+    /// The line of a show, as JSON, if these values were all that is stored: those that changed keys had before, or those that they
+    /// have now.
+    pub fn json_of_changes(
+        alloc: Global,
+        store: &'a Store,
+        changes: Changes<'a>,
+        side: Side,
+    ) -> Self
+        ensures { result ≡ record { format = AsJson; left = show_json (tables_in store.entry.now) (storage_of (tables_in store.entry.now) (values_of side changes.entry)) ∷ [] } }
+    {
+        let source = Source::of_changes(changes, side);
+        Lines {
+            alloc,
+            left: Left::StoredJson(StoredJson::new(alloc, store, source)),
         }
     }
 

@@ -1,18 +1,32 @@
 // Where the stored values that a report tells come from.
 ghost use Rattle.std.specs.Prelude.{◌≡◌, ◌∷◌, [], MatchOption};
 
+use crate::changed::{Side, next_had, next_has};
 use mv_move_types::Key;
-use mv_storage::{Entries, Page};
+use mv_storage::{Changes, Entries, Page};
 
-/// Stored values by ascending key: a range of them, or a page of those of one struct.
+/// Stored values by ascending key: a range of them, a page of those of one struct, or those that changed keys had before or have now.
 #[derive(Drop)]
 pub enum Source<'a> {
     Range(Entries<'a>),
     Page(Page<'a>),
+    Had(Changes<'a>),
+    Has(Changes<'a>),
 }
 
 impl<'a> Source<'a> {
+    ghost use Rattle.mv_lines.specs.Changed.{values_of};
     ghost use Rattle.mv_lines.specs.Sources.{values_in};
+
+    /// The values of changed keys that are of a side.
+    pub fn of_changes(changes: Changes<'a>, side: Side) -> Self
+        ensures { values_in result ≡ values_of side changes.entry }
+    {
+        match side {
+            Side::Before => Source::Had(changes),
+            Side::Now => Source::Has(changes),
+        }
+    }
 
     /// The next value's key and words; None at the end.
     pub fn next(&mut self) -> Option<(Key, &'a [u128])>
@@ -22,6 +36,8 @@ impl<'a> Source<'a> {
         match self {
             Source::Range(entries) => entries.next(),
             Source::Page(page) => page.next(),
+            Source::Had(changes) => next_had(changes),
+            Source::Has(changes) => next_has(changes),
         }
     }
 }

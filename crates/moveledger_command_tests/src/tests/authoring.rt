@@ -9,7 +9,7 @@ use std::test::Fail;
 
 /// Prints what there is to print of a module, and says how that ends.
 fn proved(alloc: Global, module: &[u8], writer: &mut Vec<u8>) -> End {
-    prove_module(alloc, module, writer)
+    prove_module(alloc, module, None, writer)
 }
 
 /// Prints what there is to print of a module with a text, and says how that ends.
@@ -21,6 +21,9 @@ fn checked(alloc: Global, module: &[u8], text: &str, writer: &mut Vec<u8>) -> En
 fn end_of(line: &str) -> End {
     if line == "too complex" {
         return End::TooComplex;
+    }
+    if line == "too long" {
+        return End::TooLong;
     }
     match line.strip_prefix("refused ") {
         None => End::Done,
@@ -87,6 +90,27 @@ fn certificates_are_printed(rt: HostRuntime) -> Result<(), Fail> {
     assert_eq!(rt; rows.len(), 23);
     for row in &rows {
         is_printed(&rt, rt.alloc(), *row)?;
+    }
+    Ok(())
+}
+
+/// With no step the search is too long, and with a million it prints what it prints without a limit.
+fn is_limited(rt: &impl Abort, alloc: Global, (shows, given, wanted): Row) -> Result<(), Fail> {
+    let module = hex::decode(alloc, given)?;
+    for (steps, line) in [(0, "too long"), (1_000_000, wanted)] {
+        let mut writer = Vec::new(alloc);
+        let end = prove_module(alloc, module.as_slice(), Some(steps), &mut writer);
+        is_wanted(rt, (str::from_utf8(&writer)?, end), line, shows);
+    }
+    Ok(())
+}
+
+#[test]
+fn searches_are_limited(rt: HostRuntime) -> Result<(), Fail> {
+    let rows = rows_of(rt.alloc(), modules())?;
+    // A module without functions takes no step.
+    for row in rows.iter().skip(1).take(3) {
+        is_limited(&rt, rt.alloc(), *row)?;
     }
     Ok(())
 }

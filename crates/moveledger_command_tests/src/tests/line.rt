@@ -1,8 +1,8 @@
 // The command line, and how the program ends. The words that are refused stand in scripts/try-exits.
 
 use moveledger::{
-    End, EngineError, KeepError, ProveError, Task, command, end_of, end_of_check, end_of_keeping,
-    end_of_proof, fault_text, status,
+    End, EngineError, KeepError, LimitError, ProveError, Task, command, end_of, end_of_check,
+    end_of_keeping, end_of_proof, fault_text, status,
 };
 use mv_move_types::Refusal;
 use std::alloc::Global;
@@ -59,7 +59,8 @@ fn ledgers_are_loaded_and_saved(rt: HostRuntime) -> Result<(), Fail> {
 #[test]
 fn modules_are_proved_and_checked(rt: HostRuntime) -> Result<(), Fail> {
     let words = ["moveledger", "prove", "coin.module"];
-    asks(&rt, rt.alloc(), &words, Task::Prove("coin.module"))?;
+    let (module, steps) = ("coin.module", None);
+    asks(&rt, rt.alloc(), &words, Task::Prove { module, steps })?;
     let words = ["moveledger", "check", "coin.module", "coin.certificate"];
     asks(
         &rt,
@@ -67,6 +68,18 @@ fn modules_are_proved_and_checked(rt: HostRuntime) -> Result<(), Fail> {
         &words,
         Task::Check("coin.module", "coin.certificate"),
     )
+}
+
+#[test]
+fn steps_are_a_number(rt: HostRuntime) -> Result<(), Fail> {
+    let words = ["moveledger", "prove", "--steps", "5000", "coin.module"];
+    let (module, steps) = ("coin.module", Some(5000));
+    asks(&rt, rt.alloc(), &words, Task::Prove { module, steps })?;
+    for wrong in ["", "-1", "5k", "18446744073709551616"] {
+        let words = ["moveledger", "prove", "--steps", wrong, "coin.module"];
+        assert!(rt; command(rt.alloc(), &words).is_err(), "{wrong}");
+    }
+    Ok(())
 }
 
 #[test]
@@ -80,6 +93,7 @@ fn ends_have_their_line_and_status(rt: HostRuntime) {
         (End::Refused(10), None, 3),
         (End::LoadRefused(5), None, 3),
         (End::TooComplex, None, 3),
+        (End::TooLong, None, 3),
     ] {
         assert_eq!(rt; (fault_text(&end), status(&end)), (line, wanted));
     }
@@ -95,9 +109,16 @@ fn ends_follow_what_a_command_made(rt: HostRuntime) {
         assert_eq!(rt; end_of_check(checked), wanted);
     }
     for (error, wanted) in [
-        (ProveError::Refused(10), End::Refused(10)),
-        (ProveError::TooComplex, End::TooComplex),
-        (ProveError::Memory, End::Memory),
+        (
+            LimitError::Unproved(ProveError::Refused(10)),
+            End::Refused(10),
+        ),
+        (
+            LimitError::Unproved(ProveError::TooComplex),
+            End::TooComplex,
+        ),
+        (LimitError::Unproved(ProveError::Memory), End::Memory),
+        (LimitError::TooLong, End::TooLong),
     ] {
         assert_eq!(rt; end_of_proof(&Err(error)), wanted);
     }

@@ -8,7 +8,7 @@ leaves-length (k ∷ ks) (n ∷ ns) h = ap suc (leaves-length ks ns h.1)
 leaves-length _ _ h = absurd h
 
 -- those from a place on
-dropped : {A : Type 0} (xs : List A) (i : ℕ) (x : A) → i < length xs → x ≡ get_or xs i x → drop i xs ≡ x ∷ drop (i + 1) xs
+pub dropped : {A : Type 0} (xs : List A) (i : ℕ) (x : A) → i < length xs → x ≡ get_or xs i x → drop i xs ≡ x ∷ drop (i + 1) xs
 dropped xs i x lt at = drop-cons xs i x lt ∙ ap₂ (λ y n. y ∷ drop n xs) (sym at) (sym (add-one i))
 
 -- so many are coded, and these are left

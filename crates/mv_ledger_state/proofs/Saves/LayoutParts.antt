@@ -6,6 +6,7 @@ use Rattle.mv_ledger_state.proofs.Common.{StructName, same_struct, ◌>>=◌, Pu
 use Rattle.mv_ledger_state.proofs.Common.{map-is, abilities_at, all_at, name-found, IsStore, tables_in, AreFieldsAt, AreParts, IsMadeOf, IsPart, keyed_in, is_of_value}
 use Rattle.mv_ledger_state.proofs.Common.{struct_is_small, Part, Nothing, on_found, structs_in_fields, structs_in_part, structs_in_parts, structs_in_token, structs_within, is_keyed, kinds_of_fields}
 use Rattle.mv_ledger_state.proofs.Common.{kinds_of_token, kinds_within, leaf_kinds, IsOfStore, PutsKinds, keyed_at, kinds_at, kinds_of_part, kinds_of_parts, keyed_from}
+use Rattle.mv_ledger_state.proofs.Common.{IsSome, definition_at, some-of}
 use Rattle.mv_interface.specs.Handles.{IsStructAt}
 use Rattle.mv_interface.specs.Shapes.{has_key}
 use Rattle.mv_interface.specs.declared.shapes.Part.TheVariants.{Leaf, Struct}
@@ -205,6 +206,14 @@ module _ (published : List PublishedModule) (is : IsStore published) where
       let ks = map-is length (kinds_within 8 modules own.0) n (kinds-count modules 8 own.0 ∙ leaves) in
       (ks.0, ap (λ o. o >>= leaf_kinds modules) (named published is d m x own.0 m_is x_is own.1) ∙ ks.1)))))
 
+  -- a struct that is there has a name
+  pub defined-name : (d : Definition) → IsSome (definition_at modules d) → (name : StructName) × (name_at modules d.place d.index ≡ Some name)
+  defined-name d there =
+      let x = some-of (definition_at modules d) there in
+      on_bind (slice_get modules d.place) _ x.0 x.1 (λ m m_is e.
+      let own = defined published is d m x.0 m_is e in
+      (own.0, named published is d m x.0 own.0 m_is e own.1))
+
 -- the same where the modules are known to be those of a store
 pub puts-struct : (ms : List Module) → IsOfStore ms → (depth : ℕ) (d : Definition) (parts : List Part) (there : Bool) (old new : List LeafKind) → depth ≢ 0 → IsMadeOf ms d parts
     → PutsKinds (kinds_of_parts ms (depth - 1) parts) there old new → PutsKinds (kinds_at depth ms d) there old new
@@ -220,6 +229,9 @@ pub keyed-there : (ms : List Module) → IsOfStore ms → (d : Definition) → i
 keyed-there ms of d keyed none =
     let ks = keyed-kinds of.0 of.1 d (subst (λ (l : List Module). is_keyed l d ≡ true) (sym of.2) keyed) in
     none-some ks.0 (sym none ∙ sym (subst (λ (l : List Module). Some ks.0 ≡ kinds_at 8 l d) of.2 (sym ks.1)))
+
+pub name-there : (ms : List Module) → IsOfStore ms → (d : Definition) → IsSome (definition_at ms d) → (name : StructName) × (name_at ms d.place d.index ≡ Some name)
+name-there ms of d = subst (λ (l : List Module). IsSome (definition_at l d) → (name : StructName) × (name_at l d.place d.index ≡ Some name)) of.2 (defined-name of.0 of.1 d)
 
 -- ---- the structs with key
 

@@ -134,7 +134,7 @@ module _ (modules : List Module) (entries : List FlatEntry) (rows : List (List S
 
 -- ---- the whole
 
-counts-are : (modules : List Module) (ts : List Tally) → counts_text ts ≡ flat_map (tally_text Second) (map (tallied modules) ts)
+pub counts-are : (modules : List Module) (ts : List Tally) → counts_text ts ≡ flat_map (tally_text Second) (map (tallied modules) ts)
 counts-are modules [] = refl
 counts-are modules (t ∷ ts) = ap (λ l. (uleb t.packs ++ uleb t.unpacks) ++ l) (counts-are modules ts)
 

@@ -28,7 +28,7 @@ use mv_storage::Storage;
 use std::alloc::{AllocError, Global};
 
 // How a saved ledger begins: its name, and the digit of its form.
-const MARK: &[u8] = b"MVL2";
+pub const MARK: &[u8] = b"MVL2";
 
 // The bytes of an address.
 const ADDRESS_BYTES: usize = 16;
@@ -96,7 +96,7 @@ fn put_leaf(text: &mut Vec<u8>, kind: LeafKind, n: u128) -> Result<(), AllocErro
 }
 
 /// Appends the leaves of a value, which are of these kinds.
-fn put_leaves(text: &mut Vec<u8>, kinds: &[LeafKind], words: &[u128]) -> Result<(), AllocError>
+pub fn put_leaves(text: &mut Vec<u8>, kinds: &[LeafKind], words: &[u128]) -> Result<(), AllocError>
     requires { AreLeaves kinds.now words.now }
     ensures { OnOk result (text.new.items ≡ text.old.items ++ coded kinds.now words.now) }
 {
@@ -121,7 +121,7 @@ fn leaf_size(kind: LeafKind) -> usize
 }
 
 /// How many bytes a value with leaves of these kinds has, and its address.
-fn value_size(kinds: &[LeafKind]) -> usize {
+pub fn value_size(kinds: &[LeafKind]) -> usize {
     let mut size = ADDRESS_BYTES;
     for kind in kinds {
         size = size.saturating_add(leaf_size(*kind));
@@ -300,7 +300,7 @@ fn put_sections(
 }
 
 /// Appends bytes after their number.
-fn put_sized(text: &mut Vec<u8>, bytes: &[u8]) -> Result<(), AllocError>
+pub fn put_sized(text: &mut Vec<u8>, bytes: &[u8]) -> Result<(), AllocError>
     ensures { OnOk result (text.new.items ≡ text.old.items ++ sized bytes.now) }
 {
     mv_uleb::write(bytes.len() as u64, text)?;
@@ -351,7 +351,7 @@ fn put_tallies_of(text: &mut Vec<u8>, tallies: &[Tally]) -> Result<(), AllocErro
 }
 
 /// Appends those of all structs, module by module.
-fn put_tallies(text: &mut Vec<u8>, tallies: &Tallies) -> Result<(), AllocError>
+pub fn put_tallies(text: &mut Vec<u8>, tallies: &Tallies) -> Result<(), AllocError>
     requires { All IsWritable (all_of tallies.now) }
     ensures { OnOk result (text.new.items ≡ text.old.items ++ counts_text (all_of tallies.now)) }
 {

@@ -12,4 +12,4 @@ returns g c =
     let bytes : List ℕ = c.deref.result.now in
     let first : IfSome m (λ xs. bytes ≡ take 65537 xs) = subst (λ (l : List ℕ). IfSome m (λ xs. l ≡ take 65537 xs)) (sym c.deref.ensures.value) c.in-Ok.ensures.bytes in
     let printed = subst (λ (e : End). Prints string_bytes c.proved_line.result e held holds c.printed.result) c.end_of_proof-end.ensures c.printed.ensures in
-    proves-some string_bytes held holds c.printed.result m bytes c.prove_text-proved.result c.proved_line.result first c.prove_text-proved.ensures.proved c.prove_text-proved.ensures.refused c.proved_line.ensures printed
+    proves-some string_bytes held holds c.printed.result c.args.steps m bytes c.proved_text-proved.result c.proved_line.result first c.proved_text-proved.ensures.proved c.proved_text-proved.ensures.refused c.proved_line.ensures printed

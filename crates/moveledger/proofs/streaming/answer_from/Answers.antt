@@ -8,7 +8,7 @@ use Rattle.mv_machine.specs.Lines.{Refused, reply_lines, numbered}
 use Rattle.moveledger.specs.declared.streaming.EngineError.{EngineError}
 use Rattle.moveledger.specs.declared.streaming.EngineError.TheVariants.{Read, Write, Memory}
 use Rattle.moveledger.proofs.AfterRecords.{done-all, done-at, done-failed, done-next, done-until}
-use Rattle.moveledger.proofs.Steps.{Progress-start, Progress-next, Progress-ends, Progress-full, Progress-cut, Progress-reads}
+use Rattle.moveledger.proofs.Steps.{moved, Progress-start, Progress-next, Progress-ends, Progress-full, Progress-cut, Progress-reads}
 use Rattle.moveledger.proofs.Steps.{Stops-with, Stops-answered, Stops-by_lines, StartsWith-whole, error-is}
 use Rattle.moveledger.proofs.Taken.{Appends-same}
 use Rattle.moveledger.proofs.streaming.answer_from.Goals as goal
@@ -24,136 +24,156 @@ is-text took kind items now same is = let P : List ℕ → Type 0 = λ l. IsText
 pub loop-n-init : goal.loop-n-init
 loop-n-init g c = (refl, Progress-start _ _ _ _, (0, omega arith, refl))
 
-pub returns-in_err-next_record-clause-err : goal.returns-in_err-next_record-clause-err
-returns-in_err-next_record-clause-err g c =
+pub returns-in_err-next_with_room-clause-err : goal.returns-in_err-next_with_room-clause-err
+returns-in_err-next_with_room-clause-err g c =
+    let inv = moved c.in_err-next_with_room.ensures.kept c.loop-n.invariant.1 in
     let p = err_from_is_err_and c.from_residual.result c.from_residual.ensures.1 in
-    let e = c.in_err-next_record.ensures.err in
-    rw (p.1, c.loop-n.invariant.0) (Stops-with c.loop-n.invariant.1 _ e.1 e.2 (StopsAt Begun) _ _ [] (part_of_a_record e.3 refl refl) (Appends-nil _))
+    let e = c.in_err-next_with_room.ensures.err in
+    rw (p.1, c.loop-n.invariant.0) (Stops-with inv _ e.1 e.2 (StopsAt Begun) _ _ [] (part_of_a_record e.3 refl refl) (Appends-nil _))
 
-pub returns-in_err-next_record-clause-read : goal.returns-in_err-next_record-clause-read
-returns-in_err-next_record-clause-read g c failed =
-    let e = c.in_err-next_record.ensures.err in
-    rw (c.loop-n.invariant.0) (Stops-with c.loop-n.invariant.1 _ e.1 e.2 Unread _ _ [] (e.3, refl, refl) (Appends-nil _))
+pub returns-in_err-next_with_room-clause-read : goal.returns-in_err-next_with_room-clause-read
+returns-in_err-next_with_room-clause-read g c failed =
+    let inv = moved c.in_err-next_with_room.ensures.kept c.loop-n.invariant.1 in
+    let e = c.in_err-next_with_room.ensures.err in
+    rw (c.loop-n.invariant.0) (Stops-with inv _ e.1 e.2 Unread _ _ [] (e.3, refl, refl) (Appends-nil _))
 
-pub returns-in_err-next_record-clause-memory : goal.returns-in_err-next_record-clause-memory
-returns-in_err-next_record-clause-memory g c failed =
-    let e = c.in_err-next_record.ensures.err in
-    rw (c.loop-n.invariant.0) (Stops-with c.loop-n.invariant.1 _ e.1 e.2 (StopsAt BegunByLines) _ _ [] (part_of_a_record e.3 refl refl) (Appends-nil _))
+pub returns-in_err-next_with_room-clause-memory : goal.returns-in_err-next_with_room-clause-memory
+returns-in_err-next_with_room-clause-memory g c failed =
+    let inv = moved c.in_err-next_with_room.ensures.kept c.loop-n.invariant.1 in
+    let e = c.in_err-next_with_room.ensures.err in
+    rw (c.loop-n.invariant.0) (Stops-with inv _ e.1 e.2 (StopsAt BegunByLines) _ _ [] (part_of_a_record e.3 refl refl) (Appends-nil _))
 
-pub returns-in_err-next_record-clause-until : goal.returns-in_err-next_record-clause-until
-returns-in_err-next_record-clause-until g c =
+pub returns-in_err-next_with_room-clause-until : goal.returns-in_err-next_with_room-clause-until
+returns-in_err-next_with_room-clause-until g c =
+    let inv = moved c.in_err-next_with_room.ensures.kept c.loop-n.invariant.1 in
     let p = err_from_is_err_and c.from_residual.result c.from_residual.ensures.1 in
-    let e = c.in_err-next_record.ensures.err in
-    rw (p.1) (done-until g.R.Read.remaining g.W.Write.contents g.A.AfterRecord.does _ _ _ _ _ _ _ _ _ _ _ c.loop-n.invariant.1 c.loop-n.invariant.2 p.0 e.1 e.2 (inl e.3))
+    let e = c.in_err-next_with_room.ensures.err in
+    rw (p.1) (done-until g.R.Read.remaining g.W.Write.contents g.A.AfterRecord.does _ _ _ _ _ _ _ _ _ _ _ inv c.loop-n.invariant.2 p.0 e.1 e.2 (inl e.3))
 
 pub returns-in-End-clause-ok : goal.returns-in-End-clause-ok
 returns-in-End-clause-ok g c =
-    let e = rw c.in-End.is at c.in_ok-next_record.ensures.ok in
-    rw (c.loop-n.invariant.0) (Progress-ends c.loop-n.invariant.1 _ e.0 e.1 e.2.0 e.2.1)
+    let inv = moved c.in_ok-next_with_room.ensures.kept c.loop-n.invariant.1 in
+    let e = rw c.in-End.is at c.in_ok-next_with_room.ensures.ok in
+    rw (c.loop-n.invariant.0) (Progress-ends inv _ e.0 e.1 e.2.0 e.2.1)
 
 pub returns-in-End-clause-taken : goal.returns-in-End-clause-taken
 returns-in-End-clause-taken g c =
-    let e = rw c.in-End.is at c.in_ok-next_record.ensures.ok in
-    rw (c.loop-n.invariant.0) (Progress-reads c.loop-n.invariant.1 _ e.0 e.1 _ (at_the_end c.loop-n.invariant.1.count e.2.0 e.2.1))
+    let inv = moved c.in_ok-next_with_room.ensures.kept c.loop-n.invariant.1 in
+    let e = rw c.in-End.is at c.in_ok-next_with_room.ensures.ok in
+    rw (c.loop-n.invariant.0) (Progress-reads inv _ e.0 e.1 _ (at_the_end inv.count e.2.0 e.2.1))
 
 pub returns-in-End-clause-done : goal.returns-in-End-clause-done
 returns-in-End-clause-done g c =
-    let e = rw c.in-End.is at c.in_ok-next_record.ensures.ok in
-    rw (c.loop-n.invariant.0) (done-all g.R.Read.remaining g.W.Write.contents g.A.AfterRecord.does _ _ _ _ _ _ _ _ _ _ _ c.loop-n.invariant.1 c.loop-n.invariant.2 _ e.0 e.1 (at_the_end c.loop-n.invariant.1.count e.2.0 e.2.1))
+    let inv = moved c.in_ok-next_with_room.ensures.kept c.loop-n.invariant.1 in
+    let e = rw c.in-End.is at c.in_ok-next_with_room.ensures.ok in
+    rw (c.loop-n.invariant.0) (done-all g.R.Read.remaining g.W.Write.contents g.A.AfterRecord.does _ _ _ _ _ _ _ _ _ _ _ inv c.loop-n.invariant.2 _ e.0 e.1 (at_the_end inv.count e.2.0 e.2.1))
 
 pub returns-in_err-write_reply-in-Cut-clause-err : goal.returns-in_err-write_reply-in-Cut-clause-err
 returns-in_err-write_reply-in-Cut-clause-err g c =
+    let inv = moved c.in_ok-next_with_room.ensures.kept c.loop-n.invariant.1 in
     let p = err_from_is_err_and c.from_residual-in_err-write_reply-in-Cut.result c.from_residual-in_err-write_reply-in-Cut.ensures.1 in
-    let e = rw c.in-Cut.is at c.in_ok-next_record.ensures.ok in
+    let e = rw c.in-Cut.is at c.in_ok-next_with_room.ensures.ok in
     let w = c.in_err-write_reply-in-Cut.ensures.err in
-    rw (p.1, c.loop-n.invariant.0) (Stops-with c.loop-n.invariant.1 _ e.0 e.1 (StopsAt Begun) _ _ w.1.0 (being_answered (Cut, reply_lines (Refused 1), e.2, (refl, refl), w.1.1)) w.1.2)
+    rw (p.1, c.loop-n.invariant.0) (Stops-with inv _ e.0 e.1 (StopsAt Begun) _ _ w.1.0 (being_answered (Cut, reply_lines (Refused 1), e.2, (refl, refl), w.1.1)) w.1.2)
 
 pub returns-in_err-write_reply-in-Cut-clause-write : goal.returns-in_err-write_reply-in-Cut-clause-write
 returns-in_err-write_reply-in-Cut-clause-write g c failed =
+    let inv = moved c.in_ok-next_with_room.ensures.kept c.loop-n.invariant.1 in
     let p = err_from_is_err_and c.from_residual-in_err-write_reply-in-Cut.result c.from_residual-in_err-write_reply-in-Cut.ensures.1 in
-    let e = rw c.in-Cut.is at c.in_ok-next_record.ensures.ok in
+    let e = rw c.in-Cut.is at c.in_ok-next_with_room.ensures.ok in
     let w = c.in_err-write_reply-in-Cut.ensures.write (ap (λ z. Err z) (error-is _ _ _ _ p.1 p.2 failed)) in
-    rw (c.loop-n.invariant.0) (inl (Stops-with c.loop-n.invariant.1 _ e.0 e.1 BrokenOff _ _ w.0 (Cut, reply_lines (Refused 1), e.2, (refl, refl), w.1, w.2) w.3))
+    rw (c.loop-n.invariant.0) (inl (Stops-with inv _ e.0 e.1 BrokenOff _ _ w.0 (Cut, reply_lines (Refused 1), e.2, (refl, refl), w.1, w.2) w.3))
 
 pub returns-in_err-write_reply-in-Cut-clause-memory : goal.returns-in_err-write_reply-in-Cut-clause-memory
 returns-in_err-write_reply-in-Cut-clause-memory g c failed =
+    let inv = moved c.in_ok-next_with_room.ensures.kept c.loop-n.invariant.1 in
     let p = err_from_is_err_and c.from_residual-in_err-write_reply-in-Cut.result c.from_residual-in_err-write_reply-in-Cut.ensures.1 in
-    let e = rw c.in-Cut.is at c.in_ok-next_record.ensures.ok in
+    let e = rw c.in-Cut.is at c.in_ok-next_with_room.ensures.ok in
     let same = c.in_err-write_reply-in-Cut.ensures.memory (ap (λ z. Err z) (error-is _ _ _ _ p.1 p.2 failed)) in
-    rw (c.loop-n.invariant.0) (Stops-with c.loop-n.invariant.1 _ e.0 e.1 (StopsAt BegunByLines) _ _ [] (read_and_nothing_done Cut e.2 refl refl) (Appends-same _ _ same))
+    rw (c.loop-n.invariant.0) (Stops-with inv _ e.0 e.1 (StopsAt BegunByLines) _ _ [] (read_and_nothing_done Cut e.2 refl refl) (Appends-same _ _ same))
 
 pub returns-in_err-write_reply-in-Cut-clause-until : goal.returns-in_err-write_reply-in-Cut-clause-until
 returns-in_err-write_reply-in-Cut-clause-until g c =
+    let inv = moved c.in_ok-next_with_room.ensures.kept c.loop-n.invariant.1 in
     let p = err_from_is_err_and c.from_residual-in_err-write_reply-in-Cut.result c.from_residual-in_err-write_reply-in-Cut.ensures.1 in
-    let e = rw c.in-Cut.is at c.in_ok-next_record.ensures.ok in
+    let e = rw c.in-Cut.is at c.in_ok-next_with_room.ensures.ok in
     let other : p.0 ≢ Read = λ same. c.in_err-write_reply-in-Cut.ensures.err.0 (sym p.2 ∙ same) in
-    rw (p.1) (done-until g.R.Read.remaining g.W.Write.contents g.A.AfterRecord.does _ _ _ _ _ _ _ _ _ _ _ c.loop-n.invariant.1 c.loop-n.invariant.2 p.0 e.0 e.1 (inr (other, Cut, e.2)))
+    rw (p.1) (done-until g.R.Read.remaining g.W.Write.contents g.A.AfterRecord.does _ _ _ _ _ _ _ _ _ _ _ inv c.loop-n.invariant.2 p.0 e.0 e.1 (inr (other, Cut, e.2)))
 
 pub returns-in-Cut-clause-ok : goal.returns-in-Cut-clause-ok
 returns-in-Cut-clause-ok g c =
-    let e = rw c.in-Cut.is at c.in_ok-next_record.ensures.ok in
-    Progress-cut c.loop-n.invariant.1 _ e.0 e.1 _ e.2 c.in_ok-write_reply-in-Cut.ensures.ok
+    let inv = moved c.in_ok-next_with_room.ensures.kept c.loop-n.invariant.1 in
+    let e = rw c.in-Cut.is at c.in_ok-next_with_room.ensures.ok in
+    Progress-cut inv _ e.0 e.1 _ e.2 c.in_ok-write_reply-in-Cut.ensures.ok
 
 pub returns-in-Cut-clause-taken : goal.returns-in-Cut-clause-taken
 returns-in-Cut-clause-taken g c =
-    let e = rw c.in-Cut.is at c.in_ok-next_record.ensures.ok in
-    Progress-reads c.loop-n.invariant.1 _ e.0 e.1 _ (at_a_cut_record (ap (λ m. m + 1) c.loop-n.invariant.1.count) e.2)
+    let inv = moved c.in_ok-next_with_room.ensures.kept c.loop-n.invariant.1 in
+    let e = rw c.in-Cut.is at c.in_ok-next_with_room.ensures.ok in
+    Progress-reads inv _ e.0 e.1 _ (at_a_cut_record (ap (λ m. m + 1) inv.count) e.2)
 
 pub returns-in-Cut-clause-done : goal.returns-in-Cut-clause-done
 returns-in-Cut-clause-done g c =
-    let e = rw c.in-Cut.is at c.in_ok-next_record.ensures.ok in
-    done-all g.R.Read.remaining g.W.Write.contents g.A.AfterRecord.does _ _ _ _ _ _ _ _ _ _ _ c.loop-n.invariant.1 c.loop-n.invariant.2 _ e.0 e.1 (at_a_cut_record (ap (λ m. m + 1) c.loop-n.invariant.1.count) e.2)
+    let inv = moved c.in_ok-next_with_room.ensures.kept c.loop-n.invariant.1 in
+    let e = rw c.in-Cut.is at c.in_ok-next_with_room.ensures.ok in
+    done-all g.R.Read.remaining g.W.Write.contents g.A.AfterRecord.does _ _ _ _ _ _ _ _ _ _ _ inv c.loop-n.invariant.2 _ e.0 e.1 (at_a_cut_record (ap (λ m. m + 1) inv.count) e.2)
 
 pub returns-in_err-answer-in-Record-clause-err : goal.returns-in_err-answer-in-Record-clause-err
 returns-in_err-answer-in-Record-clause-err g c =
+    let inv = moved c.in_ok-next_with_room.ensures.kept c.loop-n.invariant.1 in
     let p = err_from_is_err_and c.from_residual-in_err-answer-in-Record.result c.from_residual-in_err-answer-in-Record.ensures.1 in
-    let e = rw c.in-Record.is at c.in_ok-next_record.ensures.ok in
+    let e = rw c.in-Record.is at c.in_ok-next_with_room.ensures.ok in
     let is = is-text e.0 c.in-Record.kind _ _ c.deref.ensures.value e.2 in
-    rw (p.1, c.loop-n.invariant.0) (Stops-answered c.loop-n.invariant.1 _ e.0 e.1 _ _ c.in-Record.kind _ is c.in_err-answer-in-Record.ensures.err.1)
+    rw (p.1, c.loop-n.invariant.0) (Stops-answered inv _ e.0 e.1 _ _ c.in-Record.kind _ is c.in_err-answer-in-Record.ensures.err.1)
 
 pub returns-in_err-answer-in-Record-clause-write : goal.returns-in_err-answer-in-Record-clause-write
 returns-in_err-answer-in-Record-clause-write g c failed =
+    let inv = moved c.in_ok-next_with_room.ensures.kept c.loop-n.invariant.1 in
     let p = err_from_is_err_and c.from_residual-in_err-answer-in-Record.result c.from_residual-in_err-answer-in-Record.ensures.1 in
-    let e = rw c.in-Record.is at c.in_ok-next_record.ensures.ok in
+    let e = rw c.in-Record.is at c.in_ok-next_with_room.ensures.ok in
     let is = is-text e.0 c.in-Record.kind _ _ c.deref.ensures.value e.2 in
     let w = c.in_err-answer-in-Record.ensures.write (ap (λ z. Err z) (error-is _ _ _ _ p.1 p.2 failed)) in
-    rw (c.loop-n.invariant.0) (inl (Stops-with c.loop-n.invariant.1 _ e.0 e.1 BrokenOff _ _ w.1.1.0 (Whole c.in-Record.kind c.deref.result.now, w.0, is, w.1.0, w.1.1.1, w.1.1.2) w.1.1.3))
+    rw (c.loop-n.invariant.0) (inl (Stops-with inv _ e.0 e.1 BrokenOff _ _ w.1.1.0 (Whole c.in-Record.kind c.deref.result.now, w.0, is, w.1.0, w.1.1.1, w.1.1.2) w.1.1.3))
 
 pub returns-in_err-answer-in-Record-clause-memory : goal.returns-in_err-answer-in-Record-clause-memory
 returns-in_err-answer-in-Record-clause-memory g c failed =
+    let inv = moved c.in_ok-next_with_room.ensures.kept c.loop-n.invariant.1 in
     let p = err_from_is_err_and c.from_residual-in_err-answer-in-Record.result c.from_residual-in_err-answer-in-Record.ensures.1 in
-    let e = rw c.in-Record.is at c.in_ok-next_record.ensures.ok in
+    let e = rw c.in-Record.is at c.in_ok-next_with_room.ensures.ok in
     let is = is-text e.0 c.in-Record.kind _ _ c.deref.ensures.value e.2 in
-    rw (c.loop-n.invariant.0) (Stops-by_lines c.loop-n.invariant.1 _ e.0 e.1 _ _ c.in-Record.kind _ is (c.in_err-answer-in-Record.ensures.memory (ap (λ z. Err z) (error-is _ _ _ _ p.1 p.2 failed))))
+    rw (c.loop-n.invariant.0) (Stops-by_lines inv _ e.0 e.1 _ _ c.in-Record.kind _ is (c.in_err-answer-in-Record.ensures.memory (ap (λ z. Err z) (error-is _ _ _ _ p.1 p.2 failed))))
 
 pub returns-in_err-answer-in-Record-clause-until : goal.returns-in_err-answer-in-Record-clause-until
 returns-in_err-answer-in-Record-clause-until g c =
+    let inv = moved c.in_ok-next_with_room.ensures.kept c.loop-n.invariant.1 in
     let p = err_from_is_err_and c.from_residual-in_err-answer-in-Record.result c.from_residual-in_err-answer-in-Record.ensures.1 in
-    let e = rw c.in-Record.is at c.in_ok-next_record.ensures.ok in
+    let e = rw c.in-Record.is at c.in_ok-next_with_room.ensures.ok in
     let other : p.0 ≢ Read = λ same. c.in_err-answer-in-Record.ensures.err.0 (sym p.2 ∙ same) in
-    rw (p.1) (done-until g.R.Read.remaining g.W.Write.contents g.A.AfterRecord.does _ _ _ _ _ _ _ _ _ _ _ c.loop-n.invariant.1 c.loop-n.invariant.2 p.0 e.0 e.1 (inr (other, Whole c.in-Record.kind c.in-Record.payload.items, e.2)))
+    rw (p.1) (done-until g.R.Read.remaining g.W.Write.contents g.A.AfterRecord.does _ _ _ _ _ _ _ _ _ _ _ inv c.loop-n.invariant.2 p.0 e.0 e.1 (inr (other, Whole c.in-Record.kind c.in-Record.payload.items, e.2)))
 
 pub returns-in_err-answered-in-Record-clause-err : goal.returns-in_err-answered-in-Record-clause-err
 returns-in_err-answered-in-Record-clause-err g c =
+    let inv = moved c.in_ok-next_with_room.ensures.kept c.loop-n.invariant.1 in
     let p = err_from_is_err_and c.from_residual-in_err-answered-in-Record.result c.from_residual-in_err-answered-in-Record.ensures.1 in
-    let e = rw c.in-Record.is at c.in_ok-next_record.ensures.ok in
+    let e = rw c.in-Record.is at c.in_ok-next_with_room.ensures.ok in
     let is = is-text e.0 c.in-Record.kind _ _ c.deref.ensures.value e.2 in
     let a = c.in_ok-answer-in-Record.ensures.ok in
     let text : List ℕ = flat_map (numbered (c.loop-n.n + 1)) a.0 in
     let written = Appends-kept _ _ _ text a.1.1 c.in_err-answered-in-Record.ensures.kept in
-    rw (p.1, c.loop-n.invariant.0) (Stops-with c.loop-n.invariant.1 _ e.0 e.1 (StopsAt Begun) _ _ text (being_answered (Whole c.in-Record.kind c.deref.result.now, a.0, is, a.1.0, StartsWith-whole text)) written)
+    rw (p.1, c.loop-n.invariant.0) (Stops-with inv _ e.0 e.1 (StopsAt Begun) _ _ text (being_answered (Whole c.in-Record.kind c.deref.result.now, a.0, is, a.1.0, StartsWith-whole text)) written)
 
 pub returns-in_err-answered-in-Record-clause-write : goal.returns-in_err-answered-in-Record-clause-write
 returns-in_err-answered-in-Record-clause-write g c failed =
+    let inv = moved c.in_ok-next_with_room.ensures.kept c.loop-n.invariant.1 in
     let p = err_from_is_err_and c.from_residual-in_err-answered-in-Record.result c.from_residual-in_err-answered-in-Record.ensures.1 in
-    let e = rw c.in-Record.is at c.in_ok-next_record.ensures.ok in
+    let e = rw c.in-Record.is at c.in_ok-next_with_room.ensures.ok in
     let is = is-text e.0 c.in-Record.kind _ _ c.deref.ensures.value e.2 in
     let a = c.in_ok-answer-in-Record.ensures.ok in
     let text : List ℕ = flat_map (numbered (c.loop-n.n + 1)) a.0 in
     let written = Appends-kept _ _ _ text a.1.1 c.in_err-answered-in-Record.ensures.kept in
-    let D : EngineError → Type 0 = λ z. g.A.AfterRecord.does (c.loop-n.n + 1) c.next_record.new.reader c.loop-n.after c.answer.new.writer (Err z) c.answered.new.self c.answered.new.writer in
-    let now = done-at g.R.Read.remaining g.W.Write.contents g.A.AfterRecord.does _ _ _ _ _ c.loop-n.after _ _ c.next_record.new.reader c.answer.new.writer c.answered.new.writer c.answer.new.ledger (Progress-next c.loop-n.invariant.1 _ e.0 e.1 _ _ c.in-Record.kind _ a.0 is a.1.0 a.1.1) (subst D (error-is _ _ _ _ p.1 p.2 failed) c.in_err-answered-in-Record.ensures.done) in
-    rw (c.loop-n.invariant.0) (inr (Stops-with c.loop-n.invariant.1 _ e.0 e.1 Finished _ _ text (Whole c.in-Record.kind c.deref.result.now, a.0, is, a.1.0, refl) written, (c.loop-n.n + 1, c.loop-n.after, now)))
+    let D : EngineError → Type 0 = λ z. g.A.AfterRecord.does (c.loop-n.n + 1) c.next_with_room.new.reader c.loop-n.after c.answer.new.writer (Err z) c.answered.new.self c.answered.new.writer in
+    let now = done-at g.R.Read.remaining g.W.Write.contents g.A.AfterRecord.does _ _ _ _ _ c.loop-n.after _ _ c.next_with_room.new.reader c.answer.new.writer c.answered.new.writer c.answer.new.ledger (Progress-next inv _ e.0 e.1 _ _ c.in-Record.kind _ a.0 is a.1.0 a.1.1) (subst D (error-is _ _ _ _ p.1 p.2 failed) c.in_err-answered-in-Record.ensures.done) in
+    rw (c.loop-n.invariant.0) (inr (Stops-with inv _ e.0 e.1 Finished _ _ text (Whole c.in-Record.kind c.deref.result.now, a.0, is, a.1.0, refl) written, (c.loop-n.n + 1, c.loop-n.after, now)))
 
 pub returns-in_err-answered-in-Record-clause-memory : goal.returns-in_err-answered-in-Record-clause-memory
 returns-in_err-answered-in-Record-clause-memory g c failed =
@@ -162,23 +182,25 @@ returns-in_err-answered-in-Record-clause-memory g c failed =
 
 pub returns-in_err-answered-in-Record-clause-until : goal.returns-in_err-answered-in-Record-clause-until
 returns-in_err-answered-in-Record-clause-until g c =
+    let inv = moved c.in_ok-next_with_room.ensures.kept c.loop-n.invariant.1 in
     let p = err_from_is_err_and c.from_residual-in_err-answered-in-Record.result c.from_residual-in_err-answered-in-Record.ensures.1 in
-    let e = rw c.in-Record.is at c.in_ok-next_record.ensures.ok in
+    let e = rw c.in-Record.is at c.in_ok-next_with_room.ensures.ok in
     let is = is-text e.0 c.in-Record.kind _ _ c.deref.ensures.value e.2 in
     let a = c.in_ok-answer-in-Record.ensures.ok in
-    let D : EngineError → Type 0 = λ z. g.A.AfterRecord.does (c.loop-n.n + 1) c.next_record.new.reader c.loop-n.after c.answer.new.writer (Err z) c.answered.new.self c.answered.new.writer in
-    let now = done-at g.R.Read.remaining g.W.Write.contents g.A.AfterRecord.does _ _ _ _ _ c.loop-n.after _ _ c.next_record.new.reader c.answer.new.writer c.answered.new.writer c.answer.new.ledger (Progress-next c.loop-n.invariant.1 _ e.0 e.1 _ _ c.in-Record.kind _ a.0 is a.1.0 a.1.1) (subst D (sym p.2) c.in_err-answered-in-Record.ensures.done) in
-    rw (p.1) (done-failed g.R.Read.remaining g.W.Write.contents g.A.AfterRecord.does _ _ _ _ _ _ _ _ _ _ _ c.loop-n.invariant.1 c.loop-n.invariant.2 p.0 e.0 _ e.1 now)
+    let D : EngineError → Type 0 = λ z. g.A.AfterRecord.does (c.loop-n.n + 1) c.next_with_room.new.reader c.loop-n.after c.answer.new.writer (Err z) c.answered.new.self c.answered.new.writer in
+    let now = done-at g.R.Read.remaining g.W.Write.contents g.A.AfterRecord.does _ _ _ _ _ c.loop-n.after _ _ c.next_with_room.new.reader c.answer.new.writer c.answered.new.writer c.answer.new.ledger (Progress-next inv _ e.0 e.1 _ _ c.in-Record.kind _ a.0 is a.1.0 a.1.1) (subst D (sym p.2) c.in_err-answered-in-Record.ensures.done) in
+    rw (p.1) (done-failed g.R.Read.remaining g.W.Write.contents g.A.AfterRecord.does _ _ _ _ _ _ _ _ _ _ _ inv c.loop-n.invariant.2 p.0 e.0 _ e.1 now)
 
 pub loop-n-preserved : goal.loop-n-preserved
 loop-n-preserved g c =
-    let e = rw c.in-Record.is at c.in_ok-next_record.ensures.ok in
+    let inv = moved c.in_ok-next_with_room.ensures.kept c.loop-n.invariant.1 in
+    let e = rw c.in-Record.is at c.in_ok-next_with_room.ensures.ok in
     let is = is-text e.0 c.in-Record.kind _ _ c.deref.ensures.value e.2 in
     let a = c.in_ok-answer-in-Record.ensures.ok in
     let text : List ℕ = flat_map (numbered (c.loop-n.n + 1)) a.0 in
     let written = Appends-kept _ _ _ text a.1.1 c.in_ok-answered-in-Record.ensures.kept in
-    let now = done-at g.R.Read.remaining g.W.Write.contents g.A.AfterRecord.does _ _ _ _ _ c.loop-n.after _ _ c.next_record.new.reader c.answer.new.writer c.answered.new.writer c.answer.new.ledger (Progress-next c.loop-n.invariant.1 _ e.0 e.1 _ _ c.in-Record.kind _ a.0 is a.1.0 a.1.1) c.in_ok-answered-in-Record.ensures.done in
-    (refl, Progress-next c.loop-n.invariant.1 _ e.0 e.1 _ _ c.in-Record.kind _ a.0 is a.1.0 written, done-next g.R.Read.remaining g.W.Write.contents g.A.AfterRecord.does _ _ _ _ c.loop-n.n _ _ _ c.loop-n.invariant.2 now)
+    let now = done-at g.R.Read.remaining g.W.Write.contents g.A.AfterRecord.does _ _ _ _ _ c.loop-n.after _ _ c.next_with_room.new.reader c.answer.new.writer c.answered.new.writer c.answer.new.ledger (Progress-next inv _ e.0 e.1 _ _ c.in-Record.kind _ a.0 is a.1.0 a.1.1) c.in_ok-answered-in-Record.ensures.done in
+    (refl, Progress-next inv _ e.0 e.1 _ _ c.in-Record.kind _ a.0 is a.1.0 written, done-next g.R.Read.remaining g.W.Write.contents g.A.AfterRecord.does _ _ _ _ c.loop-n.n _ _ _ c.loop-n.invariant.2 now)
 
 pub returns-clause-ok : goal.returns-clause-ok
 returns-clause-ok g c =

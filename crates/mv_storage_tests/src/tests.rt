@@ -1,0 +1,4 @@
+// Functions of mv_storage with ample memory, and values from outside.
+
+mod blocks;
+mod storage;
