@@ -1,7 +1,7 @@
 """What questions by names and addresses cost through the library's C calls: a value by its address and its struct's name among
 1,200,000 coins, a show of an address with 3 values among them, and all coins in pages; a block of 1,000 mints that is taken back, beside
-as many mints without a block; a save in pieces, with
-the memory that it takes; and a mint in a call of its own beside one in a call with many others. Times are the processor's, the least of several tries, and each is printed with its aim.
+as many mints without a block; a save in pieces, with the memory that it takes; and a mint in a call of its own beside one in a call with
+many others. Times are the processor's, the least of several tries, and each is printed with its aim.
 
 usage: python3 bench/library.py FOLDER [LIBRARY]    FOLDER is kept; LIBRARY is the folder of libmoveledger.a, that where
 bindings/library puts it if none is given. It needs cc, and counts machine instructions where there is a valgrind."""

@@ -69,6 +69,10 @@ static void print(moveledger_bytes *bytes)
 static void answer(moveledger *ledger, const moveledger_records *records, uint64_t *answered)
 {
     moveledger_bytes report = {NULL, 0, NULL};
+    if (records->length > records->room) {
+        fprintf(stderr, "the records take %zu bytes, and this example has less room for them\n", records->length);
+        exit(1);
+    }
     expect("moveledger_apply", moveledger_apply(ledger, records->bytes, records->length, answered, &report));
     print(&report);
 }

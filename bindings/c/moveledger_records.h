@@ -2,8 +2,8 @@
  * will be taken: the ledger does.
  *
  * Records are appended in memory of yours, which a `moveledger_records` leads to: begin with {bytes, room, 0}. `length` goes on where the
- * room is used up, and nothing is written beyond it: so if `length` is above `room` then all is to be put together again with that much
- * room. With {NULL, 0, 0} the length alone is found. */
+ * room is used up, and nothing is written beyond it: so where `length` is above `room` at the end, the bytes are a beginning, not to be
+ * applied, and all is to be put together again with room for `length` bytes. With {NULL, 0, 0} the length alone is found. */
 #ifndef MOVELEDGER_RECORDS_H
 #define MOVELEDGER_RECORDS_H
 

@@ -340,8 +340,7 @@ def make_room(log: Log) -> str:
     is_full = bool(full_ones(alarms_of(etcd)))
     told = [defragment(Etcd([address], etcd.patience, etcd.access), is_full) for address in sorted(etcd.addresses)]
     disarmed = disarm(etcd)
-    others = sorted({str(one["alarm"]) for one in alarms_of(etcd) if one["alarm"] != FULL})
-    return "; ".join([*told, *([f"{disarmed} alarms are disarmed"] if disarmed else []), *(f"the alarm {name} stays" for name in others)])
+    return "; ".join([*told, *([f"{disarmed} alarms are disarmed"] if disarmed else []), *lasting(alarms_of(etcd))])
 
 
 def alarms_of(etcd: Etcd) -> List[Body]:
@@ -353,6 +352,11 @@ def alarms_of(etcd: Etcd) -> List[Body]:
 def full_ones(alarms: List[Body]) -> List[Body]:
     """Those of them that say that the log is full."""
     return [one for one in alarms if one["alarm"] == FULL]
+
+
+def lasting(alarms: List[Body]) -> List[str]:
+    """What is told of the others: each kind once."""
+    return [f"the alarm {name} stays" for name in sorted({str(one["alarm"]) for one in alarms} - {FULL})]
 
 
 def disarm(etcd: Etcd) -> int:

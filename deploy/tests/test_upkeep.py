@@ -4,7 +4,7 @@ import unittest
 from typing import Dict, List, Tuple
 
 from ledgerlog.backups import counted
-from ledgerlog.clearing import Size, defragment, disarm
+from ledgerlog.clearing import Size, alarms_of, defragment, disarm, full_ones, lasting
 from ledgerlog.errors import LogError
 from ledgerlog.etcd import Access
 from ledgerlog.keys import Keys
@@ -68,6 +68,10 @@ class Room(unittest.TestCase):
         store = Damaged(["1"], ["2"])
         self.assertEqual((disarm(store), store.raised), (2, []))
         self.assertEqual(disarm(Damaged()), 0)
+        alarms = alarms_of(Damaged(["1", "2"]))
+        self.assertEqual([one["memberID"] for one in full_ones(alarms)], ["1", "2"])
+        self.assertEqual(lasting([*alarms, *alarms]), ["the alarm CORRUPT stays"])
+        self.assertEqual(lasting(full_ones(alarms)), [])
 
     def test_a_node_stands_still_only_for_what_is_worth_it(self) -> None:
         self.assertTrue(Size(200, 100).is_loose())
