@@ -1,5 +1,5 @@
 // The calls that tell what the newest block has changed. None changes the ledger.
-ghost use Rattle.std.specs.Prelude.{◌≡◌, ◌++◌, [], IfOk, OnOk};
+ghost use Rattle.std.specs.Prelude.{◌≡◌, ◌++◌, IfOk, OnOk};
 ghost use Rattle.moveledger_c.specs.Changes.{change_word, AreChanges, AreChangesOf, IsChangedModules, IsChangedModulesOf, IsChangedText, IsChangesText};
 
 use crate::bytes::Bytes;
