@@ -16,3 +16,5 @@ pub mod Differing
 pub mod SlotKinds
 pub mod Ranges
 pub mod Pages
+pub mod Filled
+pub mod Pairs

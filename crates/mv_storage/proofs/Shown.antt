@@ -18,7 +18,7 @@ abbrev pub InOrder : List (Key × ℕ) → Type 0
 InOrder es = IsStrictlySortedBy key_cmp (keys_of es)
 
 -- the slot under a key
-abbrev found : List Slot → List (Key × ℕ) → Key → Option Slot
+abbrev pub found : List Slot → List (Key × ℕ) → Key → Option Slot
 found slots es q = option_and_then (slice_get slots) (lookup (is_at (key_cmp q)) es)
 
 below-before : (low key : Key) (o : Option (List ℕ)) (es : List FlatEntry) → key_before low key ≡ true → IsBelow low es → IsBelow low (shown_before key o es)
@@ -40,7 +40,7 @@ Ascends-shown layer slots (e ∷ es) s =
     ascends-before e.0 (layer_at layer (slice_get slots e.1)) (shown layer slots es) (below-shown layer slots e.0 es (sorted_head key_cmp e.0 (keys_of es) s))
     (Ascends-shown layer slots es (sorted_tail key_cmp e.0 (keys_of es) s))
 
-words_under-found : (layer : Layer) (slots : List Slot) (es : List (Key × ℕ)) (q : Key) → InOrder es → words_under (shown layer slots es) q ≡ layer_at layer (found slots es q)
+pub words_under-found : (layer : Layer) (slots : List Slot) (es : List (Key × ℕ)) (q : Key) → InOrder es → words_under (shown layer slots es) q ≡ layer_at layer (found slots es q)
 words_under-found layer slots [] q s = refl
 words_under-found layer slots (e ∷ es) q s =
     ⊎_elim

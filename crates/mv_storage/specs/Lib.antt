@@ -7,3 +7,4 @@ pub mod Blocks
 pub mod Difference
 pub mod Lending
 pub mod Pages
+pub mod Filling

@@ -28,6 +28,7 @@
 mod blocks;
 mod changes;
 mod entries;
+mod filling;
 mod known;
 mod overlay;
 mod page;
@@ -39,6 +40,7 @@ mod value;
 
 pub use changes::Changes;
 pub use entries::Entries;
+pub use filling::Filling;
 pub use overlay::Overlay;
 pub use page::Page;
 pub use storage::Storage;

@@ -44,6 +44,19 @@ impl Places {
         }
     }
 
+    // The slots of keys that have these places.
+    pub(crate) fn of(tree: BTreeMap<Key, usize>, slots: Vec<Slot>, alloc: Global) -> Self
+        ensures tree { result.tree ≡ tree }
+        ensures slots { result.slots ≡ slots }
+    {
+        Places {
+            tree,
+            slots,
+            nothing: Vec::new(alloc),
+            free: usize::MAX,
+        }
+    }
+
     // The place of a key's slot.
     #[inline]
     pub(crate) fn place(&self, key: &Key) -> Option<usize>

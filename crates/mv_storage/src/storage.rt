@@ -6,7 +6,7 @@ ghost use Rattle.std.specs.Prelude.{◌≡◌, ◌==◌, ◌<◌, ◌≤◌, ◌
 ghost use Rattle.mv_storage.specs.WordLists.{spliced};
 ghost use Rattle.mv_storage.specs.FlatStorage.{FlatStorage, words_under, with_words, without_words};
 ghost use Rattle.mv_storage.specs.Map.{overwritten, Ascends};
-ghost use Rattle.mv_storage.specs.Slots.{key_cmp};
+ghost use Rattle.mv_storage.specs.Slots.{key_cmp, layers, IsSound, AreKept};
 ghost use Rattle.std.specs.Prelude.{ℕ, List, true, false, nat_lt, Some, Ok};
 ghost use Rattle.std.specs.Borrow.{sem};
 ghost use Rattle.mv_storage.specs.Lending.{LendsIn};
@@ -126,6 +126,25 @@ impl Storage {
     {
         Storage {
             places: Places::new(alloc),
+            touched: Vec::new(alloc),
+            known: Known::new(),
+            room: Vec::new(alloc),
+            undo: Vec::new(alloc),
+            marks: Marks::new(alloc),
+            alloc,
+        }
+    }
+
+    // The storage of committed values in these places.
+    pub(crate) fn holding(places: Places, alloc: Global) -> Self
+        requires sound { IsSound places }
+        requires kept { AreKept places }
+        ensures committed { result.committed ≡ (layers places).committed }
+        ensures current { result.current ≡ result.committed }
+        ensures marks { result.marks ≡ [] }
+    {
+        Storage {
+            places,
             touched: Vec::new(alloc),
             known: Known::new(),
             room: Vec::new(alloc),

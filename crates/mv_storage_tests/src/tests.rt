@@ -1,4 +1,5 @@
 // Functions of mv_storage with ample memory, and values from outside.
 
 mod blocks;
+mod filling;
 mod storage;
