@@ -4,7 +4,8 @@ ghost use Rattle.mv_storage.specs.FlatStorage.{with_words};
 
 use mv_move_types::Key;
 use mv_storage::{Overlay, Storage, Value};
-use std::alloc::AllocError;
+use std::alloc::{AllocError, Global};
+use std::process::Abort;
 use std::test::Fail;
 
 // Keys that differ in the address, the place or the index alone.
@@ -74,6 +75,14 @@ fn edit_first(overlay: &mut Overlay<'_>, key: &Key, word: u128) -> Result<bool, 
     Ok(false)
 }
 
+// The value of these words.
+fn value_of(alloc: Global, words: &[u128]) -> Result<Value, AllocError> {
+    match words {
+        [word] => Ok(Value::leaf(*word)),
+        _ => Ok(Value::words(Vec::from_slice(alloc, words)?)),
+    }
+}
+
 // Puts a value where none is, and says whether it did.
 fn put(overlay: &mut Overlay<'_>, key: Key, value: Value) -> Result<bool, AllocError> {
     if overlay.exists(&key) {
@@ -83,10 +92,16 @@ fn put(overlay: &mut Overlay<'_>, key: Key, value: Value) -> Result<bool, AllocE
     Ok(true)
 }
 
-// Whether a value with these leaves is taken out.
-fn is_taken(overlay: &mut Overlay<'_>, key: &Key, words: &[u128]) -> Result<bool, AllocError> {
-    let taken = overlay.take(key)?;
-    Ok(taken.is_some_and(|value| value.as_slice() == words))
+// Whether a value with these words is taken out, or whether there is none.
+fn is_taken(
+    overlay: &mut Overlay<'_>,
+    key: &Key,
+    wanted: Option<&[u128]>,
+) -> Result<bool, AllocError> {
+    match overlay.take(key)? {
+        Some(value) => Ok(Some(value.as_slice()) == wanted),
+        None => Ok(wanted.is_none()),
+    }
 }
 
 // What a run reads of a value of one leaf.
@@ -104,6 +119,85 @@ fn view<'a>(overlay: &'a Overlay<'_>, key: &Key, from: usize, width: usize) -> O
         return None;
     }
     overlay.view(key, from, width)
+}
+
+// What is done to an overlay, and what has to come of it.
+#[derive(Clone, Copy, Debug)]
+enum Act<'a> {
+    // A value is put, unless there is one.
+    Puts(Key, &'a [u128], bool),
+    // The same by one search.
+    PutsNew(Key, u128, bool),
+    // A value is taken out, if there is one.
+    Takes(Key, Option<&'a [u128]>),
+    // Words are written over those of a value from one on, if there are as many.
+    Writes(Key, usize, &'a [u128], bool),
+    // The first word of a value is changed where it stands, if there is one.
+    Lends(Key, u128, bool),
+    // What a value of one word reads.
+    Reads(Key, Option<u128>),
+    // The words of a value from one on, so many.
+    Shows(Key, usize, usize, Option<&'a [u128]>),
+    // Whether there is a value.
+    Has(Key, bool),
+    // All that was done is kept.
+    Commits,
+}
+
+impl<'a> Act<'a> {
+    // Does it, and says whether what has to come of it does.
+    fn is_done(&self, alloc: Global, overlay: &mut Overlay<'_>) -> Result<bool, AllocError> {
+        match *self {
+            Act::Puts(key, words, wanted) => {
+                Ok(put(overlay, key, value_of(alloc, words)?)? == wanted)
+            }
+            Act::PutsNew(key, word, wanted) => {
+                Ok(overlay.put_new(key, Value::leaf(word))? == wanted)
+            }
+            Act::Takes(key, wanted) => is_taken(overlay, &key, wanted),
+            Act::Writes(key, from, words, wanted) => {
+                Ok(overlay.write(&key, from, words)? == wanted)
+            }
+            Act::Lends(key, word, wanted) => Ok(edit_first(overlay, &key, word)? == wanted),
+            Act::Reads(key, wanted) => Ok(word(overlay, &key) == wanted),
+            Act::Shows(key, from, width, wanted) => Ok(view(overlay, &key, from, width) == wanted),
+            Act::Has(key, wanted) => Ok(overlay.exists(&key) == wanted),
+            Act::Commits => {
+                overlay.commit()?;
+                Ok(true)
+            }
+        }
+    }
+}
+
+// Does all of this, one after the other.
+fn perform(
+    rt: &impl Abort,
+    alloc: Global,
+    overlay: &mut Overlay<'_>,
+    acts: &[Act<'_>],
+) -> Result<(), AllocError> {
+    for act in acts {
+        assert!(rt; act.is_done(alloc, overlay)?, "{act:?}");
+    }
+    Ok(())
+}
+
+// All of this is done to an overlay, which is then given up. The storage has what is left.
+fn leaves(
+    rt: &impl Abort,
+    alloc: Global,
+    storage: &mut Storage,
+    acts: &[Act<'_>],
+    left: &[(Key, Option<&[u128]>)],
+) -> Result<(), AllocError> {
+    let mut overlay = storage.overlay();
+    perform(rt, alloc, &mut overlay, acts)?;
+    overlay.discard();
+    for (key, words) in left {
+        assert_eq!(rt; storage.get(key), *words);
+    }
+    Ok(())
 }
 
 #[test]
@@ -126,20 +220,31 @@ fn runs_are_kept_and_given_up(rt: HostRuntime) -> Result<(), Fail> {
     assert!(rt; run(&mut storage, FIRST, Value::leaf(5))?);
     assert!(rt; !run(&mut storage, FIRST, Value::leaf(6))?);
     try_out(&mut storage, &FIRST, &[8]);
-    assert!(rt; storage.get(&SECOND).is_none());
-    let mut overlay = storage.overlay();
-    assert!(rt; is_taken(&mut overlay, &FIRST, &[5])?);
-    assert!(rt; !overlay.exists(&FIRST));
-    assert!(rt; put(&mut overlay, FIRST, Value::leaf(4))?);
-    overlay.discard();
-    assert_eq!(rt; storage.get(&FIRST), Some([5].as_slice()));
-    // What is put and given up.
+    let acts = [
+        Act::Takes(FIRST, Some(&[5])),
+        Act::Has(FIRST, false),
+        Act::Puts(FIRST, &[4], true),
+    ];
+    let left = [(FIRST, Some([5].as_slice())), (SECOND, None)];
+    leaves(&rt, alloc, &mut storage, &acts, &left)?;
+    Ok(())
+}
+
+#[test]
+fn what_is_given_up_is_not_stored(rt: HostRuntime) -> Result<(), Fail> {
+    let alloc = rt.alloc();
     let mut storage = Storage::new(alloc);
-    let mut overlay = storage.overlay();
-    assert!(rt; put(&mut overlay, FIRST, Value::leaf(5))?);
-    assert!(rt; put(&mut overlay, SECOND, Value::words([1, 2].to_vec(alloc)?))?);
-    overlay.discard();
-    assert!(rt; storage.get(&FIRST).is_none() && storage.get(&SECOND).is_none());
+    let acts = [
+        Act::Puts(FIRST, &[5], true),
+        Act::Puts(SECOND, &[1, 2], true),
+    ];
+    leaves(
+        &rt,
+        alloc,
+        &mut storage,
+        &acts,
+        &[(FIRST, None), (SECOND, None)],
+    )?;
     assert!(rt; storage.iter().next().is_none());
     Ok(())
 }
@@ -148,15 +253,14 @@ fn runs_are_kept_and_given_up(rt: HostRuntime) -> Result<(), Fail> {
 #[test]
 fn commits_are_kept_one_by_one(rt: HostRuntime) -> Result<(), Fail> {
     let alloc = rt.alloc();
-    let mut storage = Storage::new(alloc);
-    let mut overlay = storage.overlay();
-    assert!(rt; put(&mut overlay, FIRST, Value::leaf(5))?);
-    overlay.commit()?;
-    assert!(rt; is_taken(&mut overlay, &FIRST, &[5])?);
-    assert!(rt; put(&mut overlay, SECOND, Value::leaf(6))?);
-    overlay.discard();
-    assert_eq!(rt; storage.get(&FIRST), Some([5].as_slice()));
-    assert!(rt; storage.get(&SECOND).is_none());
+    let acts = [
+        Act::Puts(FIRST, &[5], true),
+        Act::Commits,
+        Act::Takes(FIRST, Some(&[5])),
+        Act::Puts(SECOND, &[6], true),
+    ];
+    let left = [(FIRST, Some([5].as_slice())), (SECOND, None)];
+    leaves(&rt, alloc, &mut Storage::new(alloc), &acts, &left)?;
     Ok(())
 }
 
@@ -164,59 +268,86 @@ fn commits_are_kept_one_by_one(rt: HostRuntime) -> Result<(), Fail> {
 fn values_are_edited_in_place(rt: HostRuntime) -> Result<(), Fail> {
     let alloc = rt.alloc();
     let mut storage = Storage::new(alloc);
-    let value = Value::words([1, 2, 3].to_vec(alloc)?);
-    assert!(rt; run(&mut storage, FIRST, value)?);
-    let mut overlay = storage.overlay();
-    assert!(rt; overlay.write(&FIRST, 1, &[7, 8])?);
-    assert!(rt; overlay.write(&FIRST, 0, &[6])?);
-    assert!(rt; !overlay.write(&FIRST, 2, &[0, 0])?);
-    assert!(rt; !overlay.write(&SECOND, 0, &[0])?);
-    assert_eq!(rt; view(&overlay, &FIRST, 0, 3), Some([6, 7, 8].as_slice()));
-    assert!(rt; view(&overlay, &FIRST, 2, 2).is_none());
+    assert!(rt; run(&mut storage, FIRST, value_of(alloc, &[1, 2, 3])?)?);
+    let acts = [
+        Act::Writes(FIRST, 1, &[7, 8], true),
+        Act::Writes(FIRST, 0, &[6], true),
+        Act::Writes(FIRST, 2, &[0, 0], false),
+        Act::Writes(SECOND, 0, &[0], false),
+        Act::Shows(FIRST, 0, 3, Some(&[6, 7, 8])),
+        Act::Shows(FIRST, 2, 2, None),
+        Act::Commits,
+    ];
+    leaves(
+        &rt,
+        alloc,
+        &mut storage,
+        &acts,
+        &[(FIRST, Some(&[6, 7, 8]))],
+    )?;
+    Ok(())
+}
+
+#[test]
+fn keys_are_those_of_stored_values(rt: HostRuntime) -> Result<(), Fail> {
+    let mut storage = Storage::new(rt.alloc());
+    assert!(rt; run(&mut storage, FIRST, Value::leaf(5))?);
+    let overlay = storage.overlay();
     assert!(rt; overlay.key_at(7, 0, 0) == Some(FIRST));
     assert!(rt; overlay.key_at(7, 65536, 0).is_none());
-    overlay.commit()?;
     overlay.discard();
-    assert_eq!(rt; storage.get(&FIRST), Some([6, 7, 8].as_slice()));
     Ok(())
 }
 
 #[test]
 fn values_are_put_and_taken_again(rt: HostRuntime) -> Result<(), Fail> {
     let alloc = rt.alloc();
-    let mut storage = Storage::new(alloc);
-    let mut overlay = storage.overlay();
-    assert!(rt; put(&mut overlay, FIRST, Value::leaf(5))?);
-    assert!(rt; put(&mut overlay, SECOND, Value::words([1, 2].to_vec(alloc)?))?);
-    assert!(rt; !put(&mut overlay, SECOND, Value::leaf(0))?);
-    assert!(rt; overlay.write(&FIRST, 0, &[6])?);
-    assert!(rt; overlay.write(&SECOND, 1, &[9])?);
-    assert!(rt; is_taken(&mut overlay, &FIRST, &[6])?);
-    assert!(rt; overlay.take(&FIRST)?.is_none());
-    assert!(rt; put(&mut overlay, FIRST, Value::leaf(7))?);
-    assert!(rt; is_taken(&mut overlay, &SECOND, &[1, 9])?);
-    overlay.commit()?;
-    overlay.discard();
-    assert!(rt; storage.get(&SECOND).is_none());
-    assert_eq!(rt; storage.get(&FIRST), Some([7].as_slice()));
+    let acts = [
+        Act::Puts(FIRST, &[5], true),
+        Act::Puts(SECOND, &[1, 2], true),
+        Act::Puts(SECOND, &[0], false),
+        Act::Writes(FIRST, 0, &[6], true),
+        Act::Writes(SECOND, 1, &[9], true),
+        Act::Takes(FIRST, Some(&[6])),
+        Act::Takes(FIRST, None),
+        Act::Puts(FIRST, &[7], true),
+        Act::Takes(SECOND, Some(&[1, 9])),
+        Act::Commits,
+    ];
+    let left = [(FIRST, Some([7].as_slice())), (SECOND, None)];
+    leaves(&rt, alloc, &mut Storage::new(alloc), &acts, &left)?;
     Ok(())
+}
+
+// Two keys in turn have their own values.
+fn follow(
+    rt: &impl Abort,
+    alloc: Global,
+    storage: &mut Storage,
+    (one, value): (Key, u128),
+    (other, other_value): (Key, u128),
+) -> Result<(), AllocError> {
+    let acts = [
+        Act::Reads(one, Some(value)),
+        Act::Reads(other, Some(other_value)),
+        Act::Writes(other, 0, &[other_value], true),
+        Act::Writes(one, 0, &[value], true),
+        Act::Has(other, true),
+    ];
+    leaves(rt, alloc, storage, &acts, &[])
 }
 
 // Each key has its own value, whichever was looked up before it.
 #[test]
 fn keys_follow_one_another(rt: HostRuntime) -> Result<(), Fail> {
-    let mut storage = Storage::new(rt.alloc());
-    let mut overlay = storage.overlay();
+    let alloc = rt.alloc();
+    let mut storage = Storage::new(alloc);
     for (key, value) in VALUES {
-        assert!(rt; put(&mut overlay, key, Value::leaf(value))?);
+        assert!(rt; run(&mut storage, key, Value::leaf(value))?);
     }
-    for (one, value) in VALUES {
-        for (other, other_value) in VALUES {
-            assert_eq!(rt; word(&mut overlay, &one), Some(value));
-            assert_eq!(rt; word(&mut overlay, &other), Some(other_value));
-            assert!(rt; overlay.write(&other, 0, &[other_value])?);
-            assert!(rt; overlay.write(&one, 0, &[value])?);
-            assert!(rt; overlay.exists(&other));
+    for one in VALUES {
+        for other in VALUES {
+            follow(&rt, alloc, &mut storage, one, other)?;
         }
     }
     Ok(())
@@ -227,48 +358,52 @@ fn keys_follow_one_another(rt: HostRuntime) -> Result<(), Fail> {
 fn words_are_lent(rt: HostRuntime) -> Result<(), Fail> {
     let alloc = rt.alloc();
     let mut storage = Storage::new(alloc);
-    let value = Value::words([1, 2, 3].to_vec(alloc)?);
-    assert!(rt; run(&mut storage, FIRST, value)?);
-    let mut overlay = storage.overlay();
-    assert!(rt; edit_first(&mut overlay, &FIRST, 9)?);
-    assert!(rt; !edit_first(&mut overlay, &SECOND, 9)?);
-    assert!(rt; put(&mut overlay, SECOND, Value::leaf(5))?);
-    assert!(rt; edit_first(&mut overlay, &SECOND, 8)?);
-    assert_eq!(rt; view(&overlay, &FIRST, 0, 3), Some([9, 2, 3].as_slice()));
-    overlay.commit()?;
-    overlay.discard();
-    assert_eq!(rt; storage.get(&FIRST), Some([9, 2, 3].as_slice()));
-    assert_eq!(rt; storage.get(&SECOND), Some([8].as_slice()));
+    assert!(rt; run(&mut storage, FIRST, value_of(alloc, &[1, 2, 3])?)?);
+    let acts = [
+        Act::Lends(FIRST, 9, true),
+        Act::Lends(SECOND, 9, false),
+        Act::Puts(SECOND, &[5], true),
+        Act::Lends(SECOND, 8, true),
+        Act::Shows(FIRST, 0, 3, Some(&[9, 2, 3])),
+        Act::Commits,
+    ];
+    let left = [
+        (FIRST, Some([9, 2, 3].as_slice())),
+        (SECOND, Some([8].as_slice())),
+    ];
+    leaves(&rt, alloc, &mut storage, &acts, &left)?;
     Ok(())
 }
 
-// A key that is read, edited, taken and put in turn, with another between.
+// A key that is read, edited, taken and put in turn, with another between. The second goes, and its place is given to another key.
 #[test]
 fn keys_are_used_again(rt: HostRuntime) -> Result<(), Fail> {
     let alloc = rt.alloc();
     let mut storage = Storage::new(alloc);
     assert!(rt; run(&mut storage, FIRST, Value::leaf(5))?);
-    let mut overlay = storage.overlay();
-    assert_eq!(rt; word(&mut overlay, &FIRST), Some(5));
-    assert!(rt; overlay.write(&FIRST, 0, &[6])?);
-    assert!(rt; overlay.take(&FIRST)?.is_some());
-    assert_eq!(rt; word(&mut overlay, &FIRST), None);
-    assert!(rt; !overlay.write(&FIRST, 0, &[7])?);
-    assert!(rt; !overlay.exists(&FIRST));
-    assert!(rt; overlay.take(&FIRST)?.is_none());
-    assert!(rt; put(&mut overlay, FIRST, Value::leaf(8))?);
-    assert!(rt; !put(&mut overlay, FIRST, Value::leaf(9))?);
-    assert!(rt; put(&mut overlay, SECOND, Value::leaf(10))?);
-    assert_eq!(rt; word(&mut overlay, &FIRST), Some(8));
-    assert!(rt; overlay.take(&SECOND)?.is_some());
-    assert!(rt; !put(&mut overlay, FIRST, Value::leaf(11))?);
-    // The second goes, and its place is given to another key.
-    overlay.commit()?;
-    assert!(rt; !overlay.exists(&SECOND));
-    assert!(rt; overlay.put_new(THIRD, Value::leaf(12))?);
-    assert!(rt; !overlay.put_new(THIRD, Value::leaf(13))?);
-    assert_eq!(rt; word(&mut overlay, &SECOND), None);
-    assert_eq!(rt; word(&mut overlay, &FIRST), Some(8));
-    assert_eq!(rt; word(&mut overlay, &THIRD), Some(12));
+    let acts = [
+        Act::Reads(FIRST, Some(5)),
+        Act::Writes(FIRST, 0, &[6], true),
+        Act::Takes(FIRST, Some(&[6])),
+        Act::Reads(FIRST, None),
+        Act::Writes(FIRST, 0, &[7], false),
+        Act::Has(FIRST, false),
+        Act::Takes(FIRST, None),
+        Act::Puts(FIRST, &[8], true),
+        Act::Puts(FIRST, &[9], false),
+        Act::Puts(SECOND, &[10], true),
+        Act::Reads(FIRST, Some(8)),
+        Act::Takes(SECOND, Some(&[10])),
+        Act::Puts(FIRST, &[11], false),
+        Act::Commits,
+        Act::Has(SECOND, false),
+        Act::PutsNew(THIRD, 12, true),
+        Act::PutsNew(THIRD, 13, false),
+        Act::Reads(SECOND, None),
+        Act::Reads(FIRST, Some(8)),
+        Act::Reads(THIRD, Some(12)),
+    ];
+    let left = [(FIRST, Some([8].as_slice())), (SECOND, None), (THIRD, None)];
+    leaves(&rt, alloc, &mut storage, &acts, &left)?;
     Ok(())
 }
