@@ -4,6 +4,7 @@ mod altered;
 mod fakes;
 mod faults;
 mod rows;
+mod saving;
 
 use fakes::{Pieces, Room};
 use moveledger::{EngineError, Ledger, engine};
