@@ -7,6 +7,7 @@
 --   BodyTallies     Reading the tallies of all modules: how far it has come, and what stays.
 --   Extending       What is read at the front of bytes is read there whatever follows.
 --   Unreading       What is not read at the front of bytes, nor at that of longer ones where they are malformed: from the parts to the whole.
+--   Filling         Reading stored values that become storage once all of them are read: how far it has come.
 --   UnreadHead      A head that is not read, nor with more bytes behind it where it is malformed: from its parts to the whole.
 --   BodyEntries     The text of a stored value is read as its key and leaves, and what is read is such a text.
 --   StructParts     What is made of a struct's fields, found by its name.
@@ -32,6 +33,7 @@ pub mod BodyReading
 pub mod BodyTallies
 pub mod Extending
 pub mod Unreading
+pub mod Filling
 pub mod UnreadHead
 pub mod BodyEntries
 pub mod StructParts

@@ -5,6 +5,7 @@
 --   CountRows    Counts of the values of structs, module by module.
 --   Saving       How the values that are stored are written struct by struct.
 --   Steps        The steps of a save, each of which makes the next bytes.
+--   Fillings     Stored values that are read one after the other, and become storage once all of them are read.
 --   Joining      How the tallies of a bundle's modules come to their places.
 pub mod LayoutParts
 pub mod BodyParts
@@ -12,4 +13,5 @@ pub mod LoadedParts
 pub mod CountRows
 pub mod Saving
 pub mod Steps
+pub mod Fillings
 pub mod Joining

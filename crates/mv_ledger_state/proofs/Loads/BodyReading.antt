@@ -1,7 +1,7 @@
 -- Reading what stands after the modules of a saved ledger: how far it has come.
-use Rattle.mv_ledger_state.proofs.Common.{[], ◌++◌, ◌+◌, ◌-◌, ◌<◌, ◌∙◌, ◌∷◌, ◌≡◌, ◌≤◌, Bool, Err, List, None, Ok, Option, Result, Some, ap, append-nil, append_assoc, arith, cond, drop, false, get_or}
-use Rattle.mv_ledger_state.proofs.Common.{length, map, option_map, refl, suc, sym, take, true, ℕ, map-set_same, drop_all, drop_more, map-append, take_more_set, OnErr, is_some, not, slice_set, Module}
-use Rattle.mv_ledger_state.proofs.Common.{◌>>=◌, Definition, Key, LeafKind, number_from, after, Read, FlatStorage, with_words, words_under, FlatEntry, counts_of, entry_from}
+use Rattle.mv_ledger_state.proofs.Common.{[], ◌++◌, ◌+◌, ◌-◌, ◌<◌, ◌∙◌, ◌∷◌, ◌≡◌, ◌≤◌, Err, List, None, Ok, Option, Result, Some, ap, append-nil, append_assoc, arith, drop, false, get_or}
+use Rattle.mv_ledger_state.proofs.Common.{length, map, option_map, refl, suc, sym, take, true, ℕ, map-set_same, drop_all, drop_more, map-append, take_more_set, OnErr, slice_set, Module}
+use Rattle.mv_ledger_state.proofs.Common.{◌>>=◌, Definition, Key, LeafKind, number_from, after, Read, FlatStorage, FlatEntry, counts_of, entry_from}
 use Rattle.mv_ledger_state.proofs.Common.{group_into, groups_into, is_after, leaves_from, rising_into, struct_of, with_entry, leaf_from, Tally}
 use Rattle.mv_module_text.proofs.Entries.{after-nil}
 
@@ -64,14 +64,9 @@ pub RisingOn-start : (each : List ℕ → Read FlatEntry) (n : ℕ) (before : Fl
 RisingOn-start each n before start = let z : n - 0 ≡ n = omega arith in record { goes = ap (λ k. rising_into each k None before start) (sym z) }
 
 -- one more
-pub RisingOn-next : (each : List ℕ → Read FlatEntry) (n i : ℕ) (before : FlatStorage) (start : List ℕ) (last : Option Key) (storage : FlatStorage) (cur next : List ℕ) (e : FlatEntry) (done : Bool)
-    (more : FlatStorage)
-    → i < n → each cur ≡ Some (e, next) → is_after last e.key ≡ true → done ≡ not (is_some (words_under storage e.key)) → more ≡ cond done (with_words storage e.key e.words) storage
-    → RisingOn each n i before start last storage cur → RisingOn each n (i + 1) before start (Some e.key) more next
-RisingOn-next each n i before start last storage cur next e done more lt e_is rises done_is more_is g =
-    let k : n - i ≡ suc (n - (i + 1)) = omega arith in
-    let put : with_entry storage e ≡ more = grind arith in
-    record { goes = g.goes ∙ rw (k, e_is, rises) (ap (λ s. rising_into each (n - (i + 1)) (Some e.key) s next) put) }
+pub RisingOn-next : (each : List ℕ → Read FlatEntry) (n i : ℕ) (before : FlatStorage) (start : List ℕ) (last : Option Key) (storage : FlatStorage) (cur next : List ℕ) (e : FlatEntry)
+    → i < n → each cur ≡ Some (e, next) → is_after last e.key ≡ true → RisingOn each n i before start last storage cur → RisingOn each n (i + 1) before start (Some e.key) (with_entry storage e) next
+RisingOn-next each n i before start last storage cur next e lt e_is rises g = let k : n - i ≡ suc (n - (i + 1)) = omega arith in record { goes = g.goes ∙ rw (k, e_is, rises) refl }
 
 -- the values after their number
 group-at : (each : List ℕ → Read FlatEntry) (n : ℕ) (before : FlatStorage) (bytes start : List ℕ) → number_from 18446744073709551615 bytes ≡ Some (n, start)

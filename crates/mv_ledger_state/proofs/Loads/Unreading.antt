@@ -1,6 +1,6 @@
 -- What is not read at the front of bytes, nor at that of longer ones where they are malformed: from the parts to the whole.
-use Rattle.mv_ledger_state.proofs.Common.{[], ◌++◌, ◌+◌, ◌*◌, ◌-◌, ◌/◌, ◌<◌, ◌∙◌, ◌∷◌, ◌≡◌, ◌≤◌, Bool, List, None, Option, Some, ap, append-nil, arith, drop, eq-eqb, false, get_or, inl, inr, le-leb}
-use Rattle.mv_ledger_state.proofs.Common.{cond, is_some, not, with_words, words_under, length, lt-ltb, map, option_map, refl, subst, suc, sym, true, ℕ, cases_eq, drop-set-lt, drop_more, none-some, some_pair_parts, then_some, nat_le, option_and_then, slice_set, Module}
+use Rattle.mv_ledger_state.proofs.Common.{[], ◌++◌, ◌+◌, ◌*◌, ◌-◌, ◌/◌, ◌<◌, ◌∙◌, ◌∷◌, ◌≡◌, ◌≤◌, List, None, Option, Some, ap, append-nil, arith, drop, eq-eqb, false, get_or, inl, inr, le-leb}
+use Rattle.mv_ledger_state.proofs.Common.{length, lt-ltb, map, option_map, refl, subst, suc, sym, true, ℕ, cases_eq, drop-set-lt, drop_more, none-some, some_pair_parts, then_some, nat_le, option_and_then, slice_set, Module}
 use Rattle.mv_ledger_state.proofs.Common.{◌>>=◌, Definition, FlatEntry, FlatStorage, Key, LeafKind, number_from, after, Read, byte_from, entries_from, entry_from, group_into, groups_into, is_after}
 use Rattle.mv_ledger_state.proofs.Common.{leaf_from, leaves_from, rising_into, with_entry, Form, body_from, IsNoBody, Tally, all_of, lists_of, struct_of, with_items, Global, Vec, address_from, count_from, tally_from}
 use Rattle.mv_ledger_state.specs.Layouts.{kinds_under}
@@ -105,15 +105,14 @@ rising-at each k n last storage bytes rest e is read =
     ap (λ z. rising_into each z last storage bytes) is
     ∙ ap (λ o. o >>= λ e. then_some (is_after last e.0.key) e.1 >>= rising_into each n (Some e.0.key) (with_entry storage e.0)) read
 
-pub rising-onward : {A : Type 0} (all : List ℕ → Option A) (start : List ℕ) (each : List ℕ → Read FlatEntry) (n i : ℕ) (last : Option Key) (storage put : FlatStorage) (cur next : List ℕ) (e : FlatEntry)
-    → Extends each → i < n → each cur ≡ Some (e, next) → is_after last e.key ≡ true → with_entry storage e ≡ put
-    → Onward all start (rising_into each (n - i) last storage) cur → Onward all start (rising_into each (n - (i + 1)) (Some e.key) put) next
-rising-onward all start each n i last storage put cur next e extends lt is rises put_is =
+pub rising-onward : {A : Type 0} (all : List ℕ → Option A) (start : List ℕ) (each : List ℕ → Read FlatEntry) (n i : ℕ) (last : Option Key) (storage : FlatStorage) (cur next : List ℕ) (e : FlatEntry)
+    → Extends each → i < n → each cur ≡ Some (e, next) → is_after last e.key ≡ true
+    → Onward all start (rising_into each (n - i) last storage) cur → Onward all start (rising_into each (n - (i + 1)) (Some e.key) (with_entry storage e)) next
+rising-onward all start each n i last storage cur next e extends lt is rises =
     let k : n - i ≡ suc (n - (i + 1)) = omega arith in
-    onward-next all start (rising_into each (n - i) last storage) cur (rising_into each (n - (i + 1)) (Some e.key) put) next (λ more none.
+    onward-next all start (rising_into each (n - i) last storage) cur (rising_into each (n - (i + 1)) (Some e.key) (with_entry storage e)) next (λ more none.
     rising-at each (n - i) (n - (i + 1)) last storage (cur ++ more) (next ++ more) e k (extends cur next more e is)
-    ∙ ap (λ b. then_some b (next ++ more) >>= rising_into each (n - (i + 1)) (Some e.key) (with_entry storage e)) rises
-    ∙ ap (λ s. rising_into each (n - (i + 1)) (Some e.key) s (next ++ more)) put_is ∙ none)
+    ∙ ap (λ b. then_some b (next ++ more) >>= rising_into each (n - (i + 1)) (Some e.key) (with_entry storage e)) rises ∙ none)
 
 pub rising-unread : (each : List ℕ → Read FlatEntry) (n i : ℕ) (last : Option Key) (storage : FlatStorage) (cur : List ℕ) (e : Unread) → i < n → IsUnread each cur e
     → IsUnread (rising_into each (n - i) last storage) cur e
@@ -369,9 +368,3 @@ left-over form modules count bytes rest body is more some = λ other whole.
 pub more-left : (rest more : List ℕ) → (rest ≡ [] → ⊥) → rest ++ more ≡ [] → ⊥
 more-left [] more some is = some refl
 more-left (b ∷ rest) more some is = absurd cc
-
--- ---- an entry that was put where none is under its key
-
-pub put-is : (storage more : FlatStorage) (e : FlatEntry) (done : Bool) → done ≡ not (is_some (words_under storage e.key)) → more ≡ cond done (with_words storage e.key e.words) storage
-    → with_entry storage e ≡ more
-put-is storage more e done done_is more_is = grind arith

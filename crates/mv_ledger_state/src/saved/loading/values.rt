@@ -1,7 +1,7 @@
 // Reading the stored values of a saved ledger.
-ghost use Rattle.std.specs.Prelude.{◌≡◌, [], Some, IfOk, IfErr, OnOk, cond, is_some, not};
-ghost use Rattle.mv_storage.specs.FlatStorage.{words_under, with_words};
+ghost use Rattle.std.specs.Prelude.{◌≡◌, [], Some, IfOk, IfErr, OnOk};
 ghost use Rattle.mv_ledger_state.specs.Parts.BodyParts.{form_of, leaves_from, struct_from, entry_from, is_after, group_into, groups_into, storage_into};
+ghost use Rattle.mv_ledger_state.specs.Parts.Fillings.{Fills, IsUnfilled};
 ghost use Rattle.mv_ledger_state.specs.Payloads.{leaf_from};
 ghost use Rattle.mv_ledger_state.specs.Unread.{IsUnread};
 
@@ -11,11 +11,11 @@ use crate::saved::loading::head::SavedForm;
 use crate::unread::{Unread, number};
 use mv_module_text::Reader;
 use mv_move_types::{Definition, Key, LeafKind};
-use mv_storage::{Overlay, Storage, Value};
+use mv_storage::{Filling, Storage, Value};
 use std::alloc::{AllocError, Global};
 
-// After this many values, those put so far are committed, so that the overlay's notes of them take little room.
-const KEPT_AFTER: u64 = 4096;
+// Room for so many values of a group is taken at once at most, since their number may be a lie.
+const ROOM_AT_ONCE: u64 = 4096;
 
 // The greatest place of a module, and the greatest index of a struct.
 const MOST_INDEX: u64 = 65535;
@@ -132,63 +132,63 @@ fn follows(last: Option<Key>, key: &Key) -> bool
     }
 }
 
-/// Puts the value of a number where none is stored under its key, and says whether it did.
-fn put(overlay: &mut Overlay<'_>, number: u64, next: Stored) -> Result<bool, AllocError>
-    ensures done { IfOk result (λ done. done ≡ not (is_some (words_under overlay.old.storage.now.current next.key))) }
-    ensures current { IfOk result (λ done. overlay.new.storage.now.current ≡ cond done (with_words overlay.old.storage.now.current next.key next.value) overlay.old.storage.now.current) }
-    ensures marks { overlay.new.storage.now.marks ≡ overlay.old.storage.now.marks }
-    ensures loan { overlay.new.storage.ghost_name ≡ overlay.old.storage.ghost_name }
-{
-    let done = overlay.put_new(next.key, next.value)?;
-    if number % KEPT_AFTER == 0 {
-        overlay.commit()?;
-    }
-    Ok(done)
-}
-
-/// Reads values by ascending key after their number, and puts them into the storage of an overlay.
+/// Reads values by ascending key after their number, and adds them to those that are to be stored.
 fn group(
     alloc: Global,
     layouts: &Layouts<'_>,
     reader: &mut Reader<'_>,
     known: Option<Definition>,
-    overlay: &mut Overlay<'_>,
+    filling: &mut Filling,
 ) -> Result<(), Unread>
-    ensures ok { OnOk result (group_into (entry_from layouts.now known) overlay.old.storage.now.current reader.old ≡ Some (overlay.new.storage.now.current, reader.new)) }
-    ensures refused { IfErr result (IsUnread (group_into (entry_from layouts.now known) overlay.old.storage.now.current) reader.old) }
-    ensures marks { overlay.new.storage.now.marks ≡ overlay.old.storage.now.marks }
-    ensures loan { overlay.new.storage.ghost_name ≡ overlay.old.storage.ghost_name }
+    ensures ok { OnOk result (Fills (group_into (entry_from layouts.now known)) filling.old reader.old filling.new reader.new) }
+    ensures refused { IfErr result (IsUnfilled (group_into (entry_from layouts.now known)) filling.old reader.old) }
 {
     let count = number(reader, u64::MAX)?;
+    filling.reserve(count.min(ROOM_AT_ONCE) as usize)?;
     let mut last = None;
-    'each: for number in 0..count {
+    'each: for _number in 0..count {
         let next = entry(alloc, layouts, reader, known)?;
         if !follows(last, &next.key) {
             return Err(Unread::Malformed);
         }
         last = Some(next.key);
-        put(overlay, number, next)?;
+        filling.add(next.key, next.value)?;
     }
     Ok(())
 }
 
-/// Reads the values of each of these structs, and puts them into the storage of an overlay.
+/// Reads the values of each of these structs, and adds them to those that are to be stored.
 fn groups(
     alloc: Global,
     layouts: &Layouts<'_>,
     reader: &mut Reader<'_>,
     structs: &[Definition],
-    overlay: &mut Overlay<'_>,
+    filling: &mut Filling,
 ) -> Result<(), Unread>
-    ensures ok { OnOk result (groups_into layouts.now structs.now overlay.old.storage.now.current reader.old ≡ Some (overlay.new.storage.now.current, reader.new)) }
-    ensures refused { IfErr result (IsUnread (groups_into layouts.now structs.now overlay.old.storage.now.current) reader.old) }
-    ensures marks { overlay.new.storage.now.marks ≡ overlay.old.storage.now.marks }
-    ensures loan { overlay.new.storage.ghost_name ≡ overlay.old.storage.ghost_name }
+    ensures ok { OnOk result (Fills (groups_into layouts.now structs.now) filling.old reader.old filling.new reader.new) }
+    ensures refused { IfErr result (IsUnfilled (groups_into layouts.now structs.now) filling.old reader.old) }
 {
     'each: for at in structs {
-        group(alloc, layouts, reader, Some(*at), overlay)?;
+        group(alloc, layouts, reader, Some(*at), filling)?;
     }
     Ok(())
+}
+
+/// Reads all values that are to be stored.
+fn fill(
+    alloc: Global,
+    layouts: &Layouts<'_>,
+    reader: &mut Reader<'_>,
+    form: SavedForm,
+    filling: &mut Filling,
+) -> Result<(), Unread>
+    ensures ok { OnOk result (Fills (storage_into layouts.now (form_of form)) filling.old reader.old filling.new reader.new) }
+    ensures refused { IfErr result (IsUnfilled (storage_into layouts.now (form_of form)) filling.old reader.old) }
+{
+    match form {
+        SavedForm::First => group(alloc, layouts, reader, None, filling),
+        SavedForm::Second => groups(alloc, layouts, reader, layouts.keyed(), filling),
+    }
 }
 
 /// Reads all stored values.
@@ -206,28 +206,8 @@ pub fn read_storage(
     ensures refused { IfErr result (IsUnread (storage_into layouts.now (form_of form) []) reader.old) }
     ensures closed { IfOk result (λ s. s.marks ≡ []) }
 {
-    let mut storage = Storage::new(alloc);
-    fill(alloc, layouts, reader, form, &mut storage)?;
+    let mut filling = Filling::new(alloc);
+    fill(alloc, layouts, reader, form, &mut filling)?;
+    let storage = filling.into_storage()?;
     Ok(storage)
-}
-
-/// Reads all stored values into a storage that holds none.
-fn fill(
-    alloc: Global,
-    layouts: &Layouts<'_>,
-    reader: &mut Reader<'_>,
-    form: SavedForm,
-    storage: &mut Storage,
-) -> Result<(), Unread>
-    ensures ok { OnOk result (storage_into layouts.now (form_of form) storage.old.committed reader.old ≡ Some (storage.new.committed, reader.new)) }
-    ensures refused { IfErr result (IsUnread (storage_into layouts.now (form_of form) storage.old.committed) reader.old) }
-    ensures marks { storage.new.marks ≡ storage.old.marks }
-{
-    let mut overlay = storage.overlay();
-    match form {
-        SavedForm::First => group(alloc, layouts, reader, None, &mut overlay)?,
-        SavedForm::Second => groups(alloc, layouts, reader, layouts.keyed(), &mut overlay)?,
-    }
-    overlay.commit()?;
-    Ok(())
 }
