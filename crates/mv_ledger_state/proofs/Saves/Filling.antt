@@ -5,7 +5,7 @@ use Rattle.mv_ledger_state.proofs.Common.{second_so, filter, list_all, option_ma
 use Rattle.mv_ledger_state.proofs.Common.{on_bind, address_text, address_fits, FlatEntry, flat, storage_of, value_under, Entry, abilities_at, is_fine_entry, is_of_struct, some-of, then_found, IsStore}
 use Rattle.mv_ledger_state.proofs.Common.{tables_in, fine_words-typed, on_found, typed_is_fine, IsFineWords, AreLeaves, coded, is_keyed, kinds_under, leaf_kinds, IsOfStore, AddsValue, AreSections}
 use Rattle.mv_ledger_state.proofs.Common.{HasOneMore, IsAdded, IsSection, KnowsKinds, definition_at, is_same_definition, section_at, stored_in, addressed_text, is_under, leaves_text, Section}
-use Rattle.mv_ledger_state.specs.Parts.Saving.{struct_under}
+use Rattle.mv_ledger_state.specs.Parts.Saving.{is_between, stored_between, struct_under}
 use Rattle.mv_ledger_state.proofs.Accepted.Stores.{accepted_store}
 use Rattle.mv_ledger_state.proofs.Loads.LeafKinds.{HasLeaves, struct-leaves}
 use Rattle.mv_binary_format.proofs.Back.{filter-shorter}
@@ -112,6 +112,20 @@ module _ (modules : List Module) where
           let own : kinds_under modules d ≡ Some kinds = subst (λ (x : Definition). kinds_under modules x ≡ Some kinds) one kinds_is in
           subst (IsSection modules (done ++ e ∷ []) d) is (section-more done e d o t kinds same own old more)
       each d s false other at o o_is t t_is more = section-same done e d s other (are.each d s (sym (added.others d other) ∙ at))
+
+  -- ---- some of what is stored
+
+  -- a value that is wanted
+  pub between-more : (first last : Definition) (entries rest : List FlatEntry) (e : FlatEntry) → entries ≡ e ∷ rest → is_between first last (struct_under e.key) ≡ true
+      → stored_between first last entries ≡ e ∷ stored_between first last rest
+  between-more first last entries rest e at is =
+      ap (stored_between first last) at ∙ ap (λ (b : Bool). cond b (e ∷ stored_between first last rest) (stored_between first last rest)) is
+
+  -- one that is not
+  pub between-past : (first last : Definition) (entries rest : List FlatEntry) (e : FlatEntry) → entries ≡ e ∷ rest → is_between first last (struct_under e.key) ≡ false
+      → stored_between first last entries ≡ stored_between first last rest
+  between-past first last entries rest e at is =
+      ap (stored_between first last) at ∙ ap (λ (b : Bool). cond b (e ∷ stored_between first last rest) (stored_between first last rest)) is
 
   -- ---- so many were put
 
