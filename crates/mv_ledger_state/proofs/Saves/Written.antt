@@ -161,6 +161,17 @@ written-from runs published stored tallies modules ds n rows shown text head cou
     last ∙ ap (λ (l : List Definition). counts ++ flat_map (struct_text (storage_of modules stored)) l) ds_are
     ∙ ap₂ (λ (l : List ℕ) (ms : List Module). l ++ flat_map (struct_text (storage_of ms stored)) (keyed_from 0 ms)) before modules_are
 
+-- some structs with key
+pub structs-from : (modules : List Module) (stored : List FlatEntry) (i j : ℕ) (ds part : List Definition) (rows shown : List (Vec Section Global)) (none text : List ℕ) → ds ≡ keyed_from 0 modules
+    → part ≡ slice_range ds i j → HaveSections modules stored (sections_of rows) (slice_range (keyed_from 0 modules) i j) → shown ≡ rows → none ≡ []
+    → ((ms : List Module) (entries : List FlatEntry) → HaveSections ms entries (sections_of shown) part → text ≡ none ++ flat_map (struct_text (storage_of ms entries)) part)
+    → text ≡ flat_map (struct_text (storage_of modules stored)) (slice_range (keyed_from 0 modules) i j)
+structs-from modules stored i j ds part rows shown none text ds_are part_is have shown_is none_is put =
+    let all : slice_range (keyed_from 0 modules) i j ≡ part = ap (λ (l : List Definition). slice_range l i j) (sym ds_are) ∙ sym part_is in
+    let here : HaveSections modules stored (sections_of rows) part = subst (λ (l : List Definition). HaveSections modules stored (sections_of rows) l) all have in
+    put modules stored (subst (λ (l : List (Vec Section Global)). HaveSections modules stored (sections_of l) part) (sym shown_is) here)
+    ∙ ap₂ (λ (t : List ℕ) (l : List Definition). t ++ flat_map (struct_text (storage_of modules stored)) l) none_is (sym all)
+
 -- what is written of a sound ledger within its limits is its saved text, if memory did not run out
 pub saved-so : {E : Type 0} (r : Result (Vec ℕ Global) E) (runs : ℕ) (published : List PublishedModule) (stored : List FlatEntry) (tallies : List Tally) (v : LedgerView)
     → view_of published stored tallies runs ≡ v → IsSoundLedger (state_of v) → IsSavable (state_of v)

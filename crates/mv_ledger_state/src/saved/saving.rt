@@ -282,9 +282,10 @@ fn sections_between(
             place: key.place,
             index: key.index,
         };
-        if is_between(first, last, d) {
-            add_to(alloc, layouts, &mut rows, key, words)?;
+        if !is_between(first, last, d) {
+            continue;
         }
+        add_to(alloc, layouts, &mut rows, key, words)?;
     }
     Ok(rows)
 }
