@@ -1,6 +1,6 @@
 -- Some of the structs with key, one after the other: in which order they stand, and what is stored of them.
 use Rattle.mv_ledger_state.proofs.Common.{[], ◌++◌, ◌+◌, ◌-◌, ◌<◌, ◌∙◌, ◌∷◌, ◌≡◌, ◌≤◌, Bool, Err, List, Ok, Result, ap, arith, cond, drop, eq-eqb, false, flat_map, get_or, le-leb, length, lt-ltb}
-use Rattle.mv_ledger_state.proofs.Common.{map, min, refl, subst, suc, sym, take, true, zero, ℕ, and_from, false≢true, AllByRecursion, filter, ◌&&◌, ◌==◌, nat_le, nat_lt, All, IfOk, IsSome, Global, Vec}
+use Rattle.mv_ledger_state.proofs.Common.{map, refl, subst, suc, sym, take, true, zero, ℕ, and_from, false≢true, AllByRecursion, filter, ◌&&◌, ◌==◌, nat_le, nat_lt, IfOk, IsSome, Global, Vec}
 use Rattle.mv_ledger_state.proofs.Common.{Module, Definition, FlatEntry, Storage, some-of, AreSections, definition_at, section_at, sections_of, stored_in, addressed_text, is_under, keyed_from, keyed_indices, Section}
 use Rattle.std.specs.Prelude.{slice_range}
 use Rattle.std.proofs.lemmas.Bool.{or_left, or_right}

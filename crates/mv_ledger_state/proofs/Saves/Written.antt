@@ -2,7 +2,7 @@
 use Rattle.mv_ledger_state.proofs.Common.{[], ◌++◌, ◌+◌, ◌-◌, ◌<◌, ◌∙◌, ◌∷◌, ◌≡◌, ◌≤◌, Err, List, None, Ok, Option, Result, Some, ap, append-nil, append_assoc, ap₂, arith, flat_map, get_or, length, map, refl}
 use Rattle.mv_ledger_state.proofs.Common.{subst, suc, sym, take, zero, ℕ, flat_map_more, length-map, map_more, take_all, take_more, flat_map-append, All-weaker, get_or_from_slice_get, none-some, same_Some}
 use Rattle.mv_ledger_state.proofs.Common.{unwrap_or-slice_get, AllByRecursion, All, IfOk, IfSome, IsSome, slice_get, unwrap_or, Global, Vec, Module, StructDefinition}
-use Rattle.mv_ledger_state.proofs.Common.{PublishedModule, Definition, uleb, counted, FlatEntry, storage_of, some-of, then_found, element_at, tables_in, IsSoundLedger, IsSection, IsWritable}
+use Rattle.mv_ledger_state.proofs.Common.{PublishedModule, Definition, uleb, counted, FlatEntry, storage_of, then_found, element_at, tables_in, IsSoundLedger, IsSection, IsWritable}
 use Rattle.mv_ledger_state.proofs.Common.{counts_text, definition_at, section_at, sections_of, written, offered, offer_text, sized, IsSavable, IsSavedText, Second, head_text, keyed_from}
 use Rattle.mv_ledger_state.proofs.Common.{keyed_indices, saved_text, struct_text, tally_text, IsSmall, LedgerView, all_of, state_of, tallied, view_of, Section, Tally}
 use Rattle.std.specs.Prelude.{slice_range}

@@ -1,5 +1,5 @@
-use Rattle.mv_ledger_state.proofs.Common.{arith, sections_of, Definition}
-use Rattle.mv_ledger_state.proofs.Saves.Batches.{sections-none, sections-so}
+use Rattle.mv_ledger_state.proofs.Common.{Definition}
+use Rattle.mv_ledger_state.proofs.Saves.Batches.{sections-so}
 use Rattle.mv_ledger_state.proofs.saved.saving.sections_in.Goals as goal
 
 -- no struct
