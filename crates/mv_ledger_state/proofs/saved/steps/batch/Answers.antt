@@ -1,5 +1,4 @@
-use Rattle.mv_ledger_state.proofs.Common.{arith}
-use Rattle.mv_ledger_state.proofs.Saves.Steps.{batch-comes, batch-ends}
+use Rattle.mv_ledger_state.proofs.Saves.Steps.{batch-comes}
 use Rattle.mv_ledger_state.proofs.saved.steps.batch.Goals as goal
 
 pub returns : goal.returns
