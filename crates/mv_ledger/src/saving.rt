@@ -8,9 +8,9 @@ use mv_ledger_state::Saving;
 use std::alloc::AllocError;
 
 impl Ledger {
-    /// The next bytes of the ledger's text, in the second form, at most 65,536; None at its end. It takes memory for no more than a
-    /// piece, what the modules' structs need, and one value. What is left is of the ledger as it is now: if it was changed since the
-    /// last piece, the pieces are no text of it.
+    /// The next bytes of the ledger's text, in the second form, at most 65,536; None at its end. It takes memory for a few
+    /// pieces, for the modules' structs (at most some 110 bytes for each), and for one value. What is left is of the ledger as it is now: if
+    /// it was changed since the last piece, the pieces are no text of it.
     ///
     /// # Errors
     ///

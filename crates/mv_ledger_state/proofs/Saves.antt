@@ -5,6 +5,7 @@
 --   Sections      Sections of structs: empty ones, and one with one value more.
 --   Filling       What is stored, as it is put into the sections of its structs.
 --   Written       The parts of a saved ledger, as they are written one after the other.
+--   Batches       Some of the structs with key: in which order they stand, and what is stored of them.
 --   Steps         The steps of a save: what each makes comes next, and then what is left.
 --   SavedStored   A saved storage can be told from what follows it, in both forms.
 --   Saved         A ledger has one text of each form, and a text is of one ledger.
@@ -17,6 +18,7 @@ pub mod Coding
 pub mod Sections
 pub mod Filling
 pub mod Written
+pub mod Batches
 pub mod Steps
 pub mod SavedStored
 pub mod Saved

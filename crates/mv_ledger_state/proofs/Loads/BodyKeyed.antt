@@ -12,7 +12,8 @@ use Rattle.mv_ledger_state.proofs.Lists.{all-weaker, all-append}
 abbrev pub keyed_after : Module → ℕ → List StructDefinition → List ℕ
 keyed_after m k ds = map (λ (p : ℕ × StructDefinition). p.0) (filter (λ p. has_key m p.1) (enumerate_from k ds))
 
-abbrev IsUp : List ℕ → Type 0
+-- indices ascend
+abbrev pub IsUp : List ℕ → Type 0
 IsUp [] = Unit {0}
 IsUp (i ∷ is) = AllByRecursion (λ j. i < j) is × IsUp is
 
@@ -20,12 +21,12 @@ least : (m : Module) (k : ℕ) (ds : List StructDefinition) → AllByRecursion (
 least m k [] = tt
 least m k (d ∷ ds) = grind (arith, all-weaker (λ j. k + 1 ≤ j) (λ j. k ≤ j) (λ j h. omega (arith, h)) (keyed_after m (k + 1) ds) (least m (k + 1) ds))
 
-keyed-up : (m : Module) (k : ℕ) (ds : List StructDefinition) → IsUp (keyed_after m k ds)
+pub keyed-up : (m : Module) (k : ℕ) (ds : List StructDefinition) → IsUp (keyed_after m k ds)
 keyed-up m k [] = tt
 keyed-up m k (d ∷ ds) = grind (arith, all-weaker (λ j. k + 1 ≤ j) (λ j. k < j) (λ j h. omega (arith, h)) (keyed_after m (k + 1) ds) (least m (k + 1) ds), keyed-up m (k + 1) ds)
 
 -- they are those of the module at a place
-abbrev placed : ℕ → List ℕ → List Definition
+abbrev pub placed : ℕ → List ℕ → List Definition
 placed place is = map (λ i. record { place = place; index = i }) is
 
 row-apart : (place i : ℕ) (is : List ℕ) → AllByRecursion (λ j. i < j) is → IsApart (record { place = place; index = i }) (placed place is)
@@ -38,7 +39,7 @@ row-low : (place : ℕ) (is : List ℕ) → AllByRecursion (λ (d : Definition).
 row-low place [] = tt
 row-low place (i ∷ is) = (omega arith, row-low place is)
 
-keyed-low : (place : ℕ) (ms : List Module) → AllByRecursion (λ (d : Definition). place ≤ d.place) (keyed_from place ms)
+pub keyed-low : (place : ℕ) (ms : List Module) → AllByRecursion (λ (d : Definition). place ≤ d.place) (keyed_from place ms)
 keyed-low place [] = tt
 keyed-low place (m ∷ ms) =
     all-append (λ (d : Definition). place ≤ d.place) (placed place (keyed_indices m)) (keyed_from (place + 1) ms) (row-low place (keyed_indices m))

@@ -5,7 +5,8 @@ use Rattle.mv_ledger_state.proofs.Common.{second_so, filter, list_all, option_ma
 use Rattle.mv_ledger_state.proofs.Common.{on_bind, address_text, address_fits, FlatEntry, flat, storage_of, value_under, Entry, abilities_at, is_fine_entry, is_of_struct, some-of, then_found, IsStore}
 use Rattle.mv_ledger_state.proofs.Common.{tables_in, fine_words-typed, on_found, typed_is_fine, IsFineWords, AreLeaves, coded, is_keyed, kinds_under, leaf_kinds, IsOfStore, AddsValue, AreSections}
 use Rattle.mv_ledger_state.proofs.Common.{HasOneMore, IsAdded, IsSection, KnowsKinds, definition_at, is_same_definition, section_at, stored_in, addressed_text, is_under, leaves_text, Section}
-use Rattle.mv_ledger_state.specs.Parts.Saving.{struct_under}
+use Rattle.std.proofs.lemmas.List.Elements.{All-filter}
+use Rattle.mv_ledger_state.specs.Parts.Saving.{is_between, stored_between, struct_under}
 use Rattle.mv_ledger_state.proofs.Accepted.Stores.{accepted_store}
 use Rattle.mv_ledger_state.proofs.Loads.LeafKinds.{HasLeaves, struct-leaves}
 use Rattle.mv_binary_format.proofs.Back.{filter-shorter}
@@ -162,3 +163,31 @@ module _ (modules : List Module) where
         h.1 ∙ ap (λ l. h.0 ++ l) at ∙ sym (append_assoc h.0 (e ∷ []) rest),
         sections-more h.0 e adds.kinds rows after h.2 (fill-there storage entries rows (struct_under e.key) is.keyed h) adds.kinds_are more,
       )
+
+  -- ---- some of what is stored was put
+
+  module _ (first last : Definition) (storage entries rest : List FlatEntry) (rows : List (List Section)) (e : FlatEntry) (at : entries ≡ e ∷ rest)
+      (h : IsFilled (stored_between first last storage) (stored_between first last entries) rows) where
+    module _ (is : is_between first last (struct_under e.key) ≡ true) where
+      more : stored_between first last entries ≡ e ∷ stored_between first last rest
+      more = ap (stored_between first last) at ∙ ap (λ (b : Bool). cond b (e ∷ stored_between first last rest) (stored_between first last rest)) is
+
+      -- a value that is wanted can be read
+      pub between-readable : IsOfStore modules → All (IsFineWords modules) storage → IsReadable modules e
+      between-readable of fine =
+          readable modules of e (fill-fine (stored_between first last storage) (stored_between first last entries) (stored_between first last rest) rows e more
+          (All-filter (λ (f : FlatEntry). is_between first last (struct_under f.key)) (IsFineWords modules) storage fine) h)
+
+      pub between-more : (after : List (List Section)) → IsReadable modules e → AddsValue modules rows e.key e.words after
+          → IsFilled (stored_between first last storage) (stored_between first last rest) after
+      between-more after own = fill-more (stored_between first last storage) (stored_between first last entries) (stored_between first last rest) rows after e more own h
+
+    -- one that is not is passed over
+    pub between-past : is_between first last (struct_under e.key) ≡ false → IsFilled (stored_between first last storage) (stored_between first last rest) rows
+    between-past is =
+        subst (λ (l : List FlatEntry). IsFilled (stored_between first last storage) l rows)
+        (ap (stored_between first last) at ∙ ap (λ (b : Bool). cond b (e ∷ stored_between first last rest) (stored_between first last rest)) is) h
+
+  -- fewer are wanted than are stored
+  pub between-few : (first last : Definition) (storage : List FlatEntry) → length storage < 2 ^ 63 → length (stored_between first last storage) < 2 ^ 63
+  between-few first last storage few = omega (arith, few, filter-shorter (λ (f : FlatEntry). is_between first last (struct_under f.key)) storage)

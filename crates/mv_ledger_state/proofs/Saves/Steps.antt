@@ -1,20 +1,22 @@
 -- The steps of a save: what each makes comes next, and then what is left.
-use Rattle.mv_ledger_state.proofs.Common.{[], ◌++◌, ◌+◌, ◌<◌, ◌^◌, ◌∙◌, ◌∷◌, ◌≡◌, ◌≤◌, Bool, List, None, Option, Some, add-one, ap, append-nil, append_assoc, ap₂, arith, cond, drop, drop_all, false}
+use Rattle.mv_ledger_state.proofs.Common.{[], ◌++◌, ◌+◌, ◌<◌, ◌^◌, ◌∙◌, ◌∷◌, ◌≡◌, ◌≤◌, Bool, List, None, Option, Some, ap, append-nil, append_assoc, ap₂, arith, cond, drop, drop_all, false}
 use Rattle.mv_ledger_state.proofs.Common.{filter, flat_map, flat_map-append, flat_map-map, get_or, get_or_from_slice_get, le-leb, length, length-map, suc, zero, slice_get_read, slice_get_within, map, refl, subst, sym, true, ℕ, ◌&&◌, ◌==◌, nat_le}
 use Rattle.mv_ledger_state.proofs.Common.{All, All-cons, All-head, All-nil, All-tail, All-weaker, Err, IfOk, IfSome, IsSome, Ok, Result, option_map_or, slice_get, false≢true, first_so, Module, PublishedModule, Definition}
 use Rattle.mv_ledger_state.proofs.Common.{LeafKind, Tally, uleb, address_text, FlatEntry, storage_of, Entry, Storage, LedgerState, modules_of, element_at, IsFineWords, AreLeaves, coded, is_keyed, kinds_under}
 use Rattle.mv_ledger_state.proofs.Common.{IsOfStore, AreStored, count_at, definition_at, counts_text, offered, offer_text, sized, Second, addressed_text, body_text, is_under, keyed_from, struct_text}
-use Rattle.mv_ledger_state.proofs.Common.{storage_text, tally_text, tallied, value_under, leaves_text}
+use Rattle.mv_ledger_state.proofs.Common.{storage_text, tally_text, tallied}
+use Rattle.std.specs.Prelude.{slice_range}
+use Rattle.std.proofs.lemmas.List.Folds.{drop_split}
 use Rattle.mv_storage.specs.Pages.{is_own, values_from}
 use Rattle.mv_ledger_state.specs.Flowing.{keyed_of, left_in, left_of, sections_after, values_text, SavingView}
 use Rattle.mv_ledger_state.specs.Parts.CountRows.{stored_of}
 use Rattle.mv_ledger_state.specs.Parts.Saving.{struct_under}
-use Rattle.mv_ledger_state.specs.Parts.Steps.{is_end, ranks, rank, values_coded, Comes, IsStored}
+use Rattle.mv_ledger_state.specs.Parts.Steps.{is_end, rank, values_coded, Comes, IsStored}
 use Rattle.mv_ledger_state.specs.declared.saved.position.Position.{Position}
 use Rattle.mv_ledger_state.specs.declared.saved.steps.PageText.{PageText}
 use Rattle.mv_ledger_state.specs.declared.saved.position.Position.TheVariants.{Head, Modules, Counts, Sections, Values, End}
 use Rattle.mv_ledger_state.proofs.Saves.Coding.{dropped}
-use Rattle.mv_ledger_state.proofs.Saves.Filling.{IsReadable, read, readable}
+use Rattle.mv_ledger_state.proofs.Saves.Filling.{read, readable}
 use Rattle.mv_ledger_state.proofs.Saves.LayoutParts.{name-there}
 use Rattle.mv_ledger_state.proofs.Saves.Written.{counts-are, keyed-defined-at}
 use Rattle.mv_binary_format.proofs.Back.{filter-shorter}
@@ -351,6 +353,27 @@ module _ (modules : List Module) (stored : List FlatEntry) where
         text = sections-are modules stored s is i ∙ h.text_is ∙ ap (λ (l : List Definition). text ++ flat_map text_under l) (drop_all at (keyed_from 0 modules) few);
         nearer = omega arith;
       }
+
+-- ---- some structs at once
+
+module _ (modules : List Module) (stored : List FlatEntry) (s : LedgerState) (is : IsStored modules stored s) (i end : ℕ) (lt : i < end) (within : end ≤ length (keyed_from 0 modules)) (text : List ℕ)
+    (text_is : text ≡ flat_map (struct_text (storage_of modules stored)) (slice_range (keyed_from 0 modules) i end)) where
+  pub batch-comes : Comes s (Sections i) text (Sections end)
+  batch-comes =
+      let f : Definition → List ℕ = struct_text (storage_of modules stored) in
+      let ds : List Definition = keyed_from 0 modules in
+      record {
+        text = sections-are modules stored s is i ∙ ap (flat_map f) (drop_split ds i end (omega (arith, lt))) ∙ flat_map-append f (slice_range ds i end) (drop end ds)
+            ∙ ap₂ (λ (x y : List ℕ). x ++ y) (sym text_is) (sym (sections-are modules stored s is end));
+        nearer = omega (arith, lt, within, ap length (keyed-are modules stored s is));
+      }
+
+  -- the last ones
+  pub batch-ends : length (keyed_from 0 modules) ≤ end → Comes s (Sections i) text End
+  batch-ends le = record {
+    text = batch-comes.text ∙ ap (λ l. text ++ l) (sections-are modules stored s is end ∙ ap (flat_map (struct_text (storage_of modules stored))) (drop_all end (keyed_from 0 modules) le));
+    nearer = omega arith;
+  }
 
 -- ---- one call after the other
 

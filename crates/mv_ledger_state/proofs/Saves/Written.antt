@@ -1,10 +1,13 @@
 -- The parts of a saved ledger, as they are written one after the other.
-use Rattle.mv_ledger_state.proofs.Common.{[], ◌++◌, ◌+◌, ◌<◌, ◌∙◌, ◌∷◌, ◌≡◌, ◌≤◌, Err, List, None, Ok, Option, Result, Some, ap, append-nil, append_assoc, ap₂, arith, flat_map, get_or, length, map, refl}
-use Rattle.mv_ledger_state.proofs.Common.{subst, suc, sym, take, zero, ℕ, flat_map_more, length-map, map_more, take_all, take_more, flat_map-append, All-weaker, get_or_from_slice_get, none-some}
+use Rattle.mv_ledger_state.proofs.Common.{[], ◌++◌, ◌+◌, ◌-◌, ◌<◌, ◌∙◌, ◌∷◌, ◌≡◌, ◌≤◌, Err, List, None, Ok, Option, Result, Some, ap, append-nil, append_assoc, ap₂, arith, flat_map, get_or, length, map, refl}
+use Rattle.mv_ledger_state.proofs.Common.{subst, suc, sym, take, zero, ℕ, flat_map_more, length-map, map_more, take_all, take_more, flat_map-append, All-weaker, get_or_from_slice_get, none-some, same_Some}
 use Rattle.mv_ledger_state.proofs.Common.{unwrap_or-slice_get, AllByRecursion, All, IfOk, IfSome, IsSome, slice_get, unwrap_or, Global, Vec, Module, StructDefinition}
-use Rattle.mv_ledger_state.proofs.Common.{PublishedModule, Definition, uleb, counted, FlatEntry, storage_of, some-of, then_found, element_at, tables_in, IsSoundLedger, AreSections, IsSection, IsWritable}
+use Rattle.mv_ledger_state.proofs.Common.{PublishedModule, Definition, uleb, counted, FlatEntry, storage_of, then_found, element_at, tables_in, IsSoundLedger, IsSection, IsWritable}
 use Rattle.mv_ledger_state.proofs.Common.{counts_text, definition_at, section_at, sections_of, written, offered, offer_text, sized, IsSavable, IsSavedText, Second, head_text, keyed_from}
 use Rattle.mv_ledger_state.proofs.Common.{keyed_indices, saved_text, struct_text, tally_text, IsSmall, LedgerView, all_of, state_of, tallied, view_of, Section, Tally}
+use Rattle.std.specs.Prelude.{slice_range}
+use Rattle.std.proofs.lemmas.List.Elements.{All-get_or}
+use Rattle.mv_ledger_state.specs.Parts.Saving.{HasSection, HaveSections}
 use Rattle.mv_ledger_state.proofs.Lists.{all-weaker, all-append}
 use Rattle.mv_ledger_state.proofs.Saves.SavedLoads.{text-saves}
 use Rattle.mv_ledger_state.proofs.Runs.TalliesByModule.{all-at}
@@ -12,7 +15,8 @@ use Rattle.mv_ledger_state.proofs.Loads.BodyKeyed.{keyed_after}
 
 -- ---- each struct with key is defined where it says
 
-each-at : {A : Type 0} (P : A → Type 0) (xs : List A) (i : ℕ) (x : A) → i < length xs → AllByRecursion P xs → P (get_or xs i x)
+-- what all have, the one at an index has
+pub each-at : {A : Type 0} (P : A → Type 0) (xs : List A) (i : ℕ) (x : A) → i < length xs → AllByRecursion P xs → P (get_or xs i x)
 each-at P [] i x lt h = absurd (omega (arith, lt))
 each-at P (y ∷ xs) zero x lt h = h.0
 each-at P (y ∷ xs) (suc i) x lt h = each-at P xs i x (omega (arith, lt)) h.1
@@ -106,31 +110,26 @@ all-writable runs ts few = All-weaker (IsSmall runs) IsWritable (λ t small. rec
 
 -- ---- what is stored, struct by struct
 
-module _ (modules : List Module) (entries : List FlatEntry) (rows : List (List Section)) (are : AreSections modules entries rows) where
+module _ (modules : List Module) (entries : List FlatEntry) (rows : List (List Section)) (ds : List Definition) (have : HaveSections modules entries rows ds) (i : ℕ) (e : Definition) (lt : i < length ds) where
   -- the text of one struct's values
   abbrev text_under : Definition → List ℕ
   text_under = struct_text (storage_of modules entries)
 
-  module _ (ds : List Definition) (ds_are : ds ≡ keyed_from 0 modules) (i : ℕ) (e : Definition) (lt : i < length ds) where
-    within : i < length (keyed_from 0 modules)
-    within = subst (λ (l : List Definition). i < length l) ds_are lt
+  own : HasSection modules entries rows (get_or ds i e)
+  own = All-get_or (HasSection modules entries rows) ds i e lt have
 
-    -- the section of one struct more
-    pub sections-next : (s : Section) (old text after : List ℕ) → section_at rows (get_or ds i e) ≡ Some s → text ≡ old ++ flat_map text_under (take i (keyed_from 0 modules))
-        → after ≡ text ++ (uleb s.count ++ s.text.items) → after ≡ old ++ flat_map text_under (take (i + 1) (keyed_from 0 modules))
-    sections-next s old text after s_is so_far added =
-        let d : Definition = get_or (keyed_from 0 modules) i e in
-        let is : IsSection modules entries d s = are.each d s (subst (λ (l : List Definition). section_at rows (get_or l i e) ≡ Some s) ds_are s_is) in
-        let own : uleb s.count ++ s.text.items ≡ text_under d = ap₂ (λ (n : ℕ) (l : List ℕ). uleb n ++ l) is.count is.text in
-        added ∙ ap₂ (λ (x y : List ℕ). x ++ y) so_far own ∙ flat_map_more text_under old (take i (keyed_from 0 modules)) d
-        ∙ sym (ap (λ (l : List Definition). old ++ flat_map text_under l) (take_more (keyed_from 0 modules) i e within))
+  -- the section of one struct more
+  pub sections-next : (s : Section) (old text after : List ℕ) → section_at rows (get_or ds i e) ≡ Some s → text ≡ old ++ flat_map text_under (take i ds)
+      → after ≡ text ++ (uleb s.count ++ s.text.items) → after ≡ old ++ flat_map text_under (take (i + 1) ds)
+  sections-next s old text after s_is so_far added =
+      let d : Definition = get_or ds i e in
+      let is : IsSection modules entries d s = subst (IsSection modules entries d) (same_Some own.section s (sym own.section_is ∙ s_is)) own.is in
+      let bytes : uleb s.count ++ s.text.items ≡ text_under d = ap₂ (λ (n : ℕ) (l : List ℕ). uleb n ++ l) is.count is.text in
+      added ∙ ap₂ (λ (x y : List ℕ). x ++ y) so_far bytes ∙ flat_map_more text_under old (take i ds) d ∙ sym (ap (λ (l : List Definition). old ++ flat_map text_under l) (take_more ds i e lt))
 
-    -- each struct with key has a section
-    pub sections-there : section_at rows (get_or ds i e) ≡ None → ⊥
-    sections-there none =
-        let d : Definition = get_or (keyed_from 0 modules) i e in
-        let s = some-of (section_at rows d) (are.there d (keyed-defined-at modules i e within)) in
-        none-some s.0 (sym (subst (λ (l : List Definition). section_at rows (get_or l i e) ≡ None) ds_are none) ∙ s.1)
+  -- each struct has a section
+  pub sections-there : section_at rows (get_or ds i e) ≡ None → ⊥
+  sections-there none = none-some own.section (sym none ∙ own.section_is)
 
 -- ---- the whole
 
@@ -147,16 +146,31 @@ written-is runs published stored tallies =
     append_assoc head (counts_text tallies) sections ∙ ap (λ l. head ++ (l ++ sections)) (counts-are (tables_in published) tallies)
 
 -- what is written in turn
-pub written-from : (runs : ℕ) (published : List PublishedModule) (stored : List FlatEntry) (tallies : List Tally) (modules : List Module) (rows shown : List (Vec Section Global))
-    (text head counts whole : List ℕ) → modules ≡ tables_in published → AreSections modules stored (sections_of rows)
+pub written-from : (runs : ℕ) (published : List PublishedModule) (stored : List FlatEntry) (tallies : List Tally) (modules : List Module) (ds : List Definition) (n : ℕ)
+    (rows shown : List (Vec Section Global)) (text head counts whole : List ℕ) → modules ≡ tables_in published → ds ≡ keyed_from 0 modules → n ≡ length ds
+    → HaveSections modules stored (sections_of rows) (slice_range (keyed_from 0 modules) 0 n)
     → shown ≡ rows → text ≡ [] → head ≡ text ++ head_text Second runs (map offered published) → counts ≡ head ++ counts_text tallies
-    → ((entries : List FlatEntry) → AreSections modules entries (sections_of shown) → whole ≡ counts ++ flat_map (struct_text (storage_of modules entries)) (keyed_from 0 modules))
+    → ((ms : List Module) (entries : List FlatEntry) → HaveSections ms entries (sections_of shown) ds → whole ≡ counts ++ flat_map (struct_text (storage_of ms entries)) ds)
     → whole ≡ written runs published stored tallies
-written-from runs published stored tallies modules rows shown text head counts whole modules_are are shown_is none first second third =
-    let last = third stored (subst (λ (l : List (Vec Section Global)). AreSections modules stored (sections_of l)) (sym shown_is) are) in
+written-from runs published stored tallies modules ds n rows shown text head counts whole modules_are ds_are n_is have shown_is none first second third =
+    let all : slice_range (keyed_from 0 modules) 0 n ≡ ds = take_all (n - 0) (keyed_from 0 modules) (omega (arith, n_is, ap length ds_are)) ∙ sym ds_are in
+    let here : HaveSections modules stored (sections_of rows) ds = subst (λ (l : List Definition). HaveSections modules stored (sections_of rows) l) all have in
+    let last = third modules stored (subst (λ (l : List (Vec Section Global)). HaveSections modules stored (sections_of l) ds) (sym shown_is) here) in
     let before : counts ≡ head_text Second runs (map offered published) ++ counts_text tallies = second
     ∙ ap (λ l. l ++ counts_text tallies) (first ∙ ap (λ l. l ++ head_text Second runs (map offered published)) none) in
-    last ∙ ap₂ (λ (l : List ℕ) (ms : List Module). l ++ flat_map (struct_text (storage_of ms stored)) (keyed_from 0 ms)) before modules_are
+    last ∙ ap (λ (l : List Definition). counts ++ flat_map (struct_text (storage_of modules stored)) l) ds_are
+    ∙ ap₂ (λ (l : List ℕ) (ms : List Module). l ++ flat_map (struct_text (storage_of ms stored)) (keyed_from 0 ms)) before modules_are
+
+-- some structs with key
+pub structs-from : (modules : List Module) (stored : List FlatEntry) (i j : ℕ) (ds part : List Definition) (rows shown : List (Vec Section Global)) (none text : List ℕ) → ds ≡ keyed_from 0 modules
+    → part ≡ slice_range ds i j → HaveSections modules stored (sections_of rows) (slice_range (keyed_from 0 modules) i j) → shown ≡ rows → none ≡ []
+    → ((ms : List Module) (entries : List FlatEntry) → HaveSections ms entries (sections_of shown) part → text ≡ none ++ flat_map (struct_text (storage_of ms entries)) part)
+    → text ≡ flat_map (struct_text (storage_of modules stored)) (slice_range (keyed_from 0 modules) i j)
+structs-from modules stored i j ds part rows shown none text ds_are part_is have shown_is none_is put =
+    let all : slice_range (keyed_from 0 modules) i j ≡ part = ap (λ (l : List Definition). slice_range l i j) (sym ds_are) ∙ sym part_is in
+    let here : HaveSections modules stored (sections_of rows) part = subst (λ (l : List Definition). HaveSections modules stored (sections_of rows) l) all have in
+    put modules stored (subst (λ (l : List (Vec Section Global)). HaveSections modules stored (sections_of l) part) (sym shown_is) here)
+    ∙ ap₂ (λ (t : List ℕ) (l : List Definition). t ++ flat_map (struct_text (storage_of modules stored)) l) none_is (sym all)
 
 -- what is written of a sound ledger within its limits is its saved text, if memory did not run out
 pub saved-so : {E : Type 0} (r : Result (Vec ℕ Global) E) (runs : ℕ) (published : List PublishedModule) (stored : List FlatEntry) (tallies : List Tally) (v : LedgerView)

@@ -3,13 +3,16 @@
 --   sections_of rows                        the sections of the structs of each module
 --   section_at rows d                       the section of a struct
 --   stored_in modules entries d             the values that are stored of a struct
+--   is_between first last d                 whether a struct stands between two others, or where one of them does
+--   stored_between first last entries       the values that are stored of such structs
 --   AreSections modules entries rows        each struct's section has their number and their text
+--   HaveSections modules entries rows ds    so have the sections of these structs
 --   KnowsKinds modules d s                  a section that a value is in has the kinds of its leaves
 --   IsAdded rows d kinds bytes after        one struct's section has one value more
 --   AddsValue modules rows key words after  so has that of a key's struct, with these words
 --   counts_text tallies                     what was made and what was taken apart of each struct
 --   written runs published stored tallies   a ledger with these parts, as it is written
-use Rattle.std.specs.Prelude.{◌≡◌, ℕ, ◌+◌, ◌^◌, ◌<◌, false, List, [], ◌++◌, map, length, Option, Some, slice_get}
+use Rattle.std.specs.Prelude.{◌≡◌, ℕ, ◌+◌, ◌^◌, ◌<◌, ◌&&◌, ◌||◌, ◌==◌, nat_lt, nat_le, Bool, false, All, List, [], ◌++◌, map, length, Option, Some, slice_get}
 use Rattle.std.specs.List.{flat_map, filter}
 use Rattle.std.specs.Option.{IsSome}
 use Rattle.std.specs.declared.vec.Vec.{Vec}
@@ -57,6 +60,18 @@ stored_in modules entries d = filter (is_under d) (storage_of modules entries)
 abbrev pub struct_under : Key → Definition
 struct_under key = record { place = key.place; index = key.index }
 
+-- whether a struct stands where another does or before it, by the place of its module and its index
+abbrev pub is_by : Definition → Definition → Bool
+is_by d e = nat_lt d.place e.place || ((d.place == e.place) && nat_le d.index e.index)
+
+-- whether a struct stands between two others, or where one of them does
+abbrev pub is_between : Definition → Definition → Definition → Bool
+is_between first last d = is_by first d && is_by d last
+
+-- the values that are stored of the structs from one to another
+abbrev pub stored_between : Definition → Definition → List FlatEntry → List FlatEntry
+stored_between first last entries = filter (λ e. is_between first last (struct_under e.key)) entries
+
 -- a section that a value is in has the kinds of the leaves of its struct's values
 abbrev pub KnowsKinds : List Module → Definition → Section → Type 0
 KnowsKinds modules d s = 0 < s.count → kinds_under modules d ≡ Some s.kinds.items
@@ -71,6 +86,16 @@ pub record IsSection (modules : List Module) (entries : List FlatEntry) (d : Def
 pub record AreSections (modules : List Module) (entries : List FlatEntry) (rows : List (List Section)) : Type 0 where
   pub there : (d : Definition) → IsSome (definition_at modules d) → IsSome (section_at rows d)
   pub each : (d : Definition) (s : Section) → section_at rows d ≡ Some s → IsSection modules entries d s
+
+-- a struct has its section
+pub record HasSection (modules : List Module) (entries : List FlatEntry) (rows : List (List Section)) (d : Definition) : Type 0 where
+  pub section : Section
+  pub section_is : section_at rows d ≡ Some section
+  pub is : IsSection modules entries d section
+
+-- each of these structs has
+abbrev pub HaveSections : List Module → List FlatEntry → List (List Section) → List Definition → Type 0
+HaveSections modules entries rows ds = All (HasSection modules entries rows) ds
 
 -- one section is another with these bytes as one value more, of leaves of these kinds
 pub record HasOneMore (s : Section) (kinds : List LeafKind) (bytes : List ℕ) (t : Section) : Type 0 where

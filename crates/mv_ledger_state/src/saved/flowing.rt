@@ -137,8 +137,8 @@ impl Saving {
     }
 
     /// The next bytes of the text, in the second form, of a ledger with these parts: at most 65,536; None at the end of the text. What
-    /// is left is of the ledger with these parts, whatever they were before. It takes memory for no more than a piece, what the
-    /// modules' structs need, and one value.
+    /// is left is of the ledger with these parts, whatever they were before. It takes memory for a few pieces, for the modules' structs
+    /// (at most some 110 bytes for each), and for one value.
     ///
     /// # Errors
     ///

@@ -1,7 +1,8 @@
 // A ledger as bytes: the runs had, the modules, the tallies, and what is stored, struct by struct.
-ghost use Rattle.std.specs.Prelude.{◌≡◌, ◌+◌, ◌*◌, ◌^◌, ◌<◌, ◌≤◌, [], ◌++◌, All, IsTrue, IsSome, List, length, map, option_copied, IfOk, IfSome, OnOk};
+ghost use Rattle.std.specs.Prelude.{◌≡◌, ◌+◌, ◌*◌, ◌^◌, ◌<◌, ◌≤◌, [], ◌++◌, All, IsTrue, IsSome, List, length, map, option_copied, slice_range, IfOk, IfSome, OnOk};
 ghost use Rattle.std.specs.List.{flat_map};
 ghost use Rattle.mv_uleb.specs.Uleb.{uleb};
+ghost use Rattle.mv_move_types.specs.Module.{Module as Tables};
 ghost use Rattle.mv_move_types.specs.Tokens.{width_bits};
 ghost use Rattle.mv_module_text.specs.Entries.{address_text, counted, number_text};
 ghost use Rattle.mv_machine.specs.Flat.{FlatEntry, storage_of};
@@ -13,7 +14,7 @@ ghost use Rattle.mv_interface.specs.Shapes.{structs_in};
 ghost use Rattle.mv_ledger_state.specs.Publishing.{offered};
 ghost use Rattle.mv_ledger_state.specs.RecordText.{leaf_bytes, offer_text, sized};
 ghost use Rattle.mv_ledger_state.specs.SavedText.{head_text, keyed_from, struct_text, Second};
-ghost use Rattle.mv_ledger_state.specs.Parts.Saving.{counts_text, leaf_length, section_at, sections_of, struct_under, AddsValue, AreSections, IsEmpty, IsWritable, KnowsKinds, written};
+ghost use Rattle.mv_ledger_state.specs.Parts.Saving.{counts_text, is_between, is_by, leaf_length, section_at, sections_of, stored_between, struct_under, AddsValue, AreSections, HaveSections, IsEmpty, IsWritable, KnowsKinds, written};
 ghost use Rattle.mv_machine.specs.Tallies.{all_of};
 
 use crate::saved::counts::{Counts, stored_counts};
@@ -34,7 +35,7 @@ pub const MARK: &[u8] = b"MVL2";
 const ADDRESS_BYTES: usize = 16;
 
 // The most bytes of a count, a number of runs or a length.
-const COUNT_BYTES: usize = 10;
+pub const COUNT_BYTES: usize = 10;
 
 /// The values that are stored of one struct: how many are expected, how many are there, the kinds of the leaves of each, which
 /// are found with the first one, and the text of each after the other.
@@ -246,24 +247,67 @@ fn empty_rows(
     Ok(rows)
 }
 
-/// What is stored, struct by struct.
+/// Whether a struct stands where another does or before it, by the place of its module and its index.
+fn is_by(d: Definition, e: Definition) -> bool
+    ensures { result ≡ is_by d e }
+{
+    d.place < e.place || d.place == e.place && d.index <= e.index
+}
+
+/// Whether a struct stands between two others, or where one of them does.
+fn is_between(first: Definition, last: Definition, d: Definition) -> bool
+    ensures { result ≡ is_between first last d }
+{
+    is_by(first, d) && is_by(d, last)
+}
+
+/// What is stored of the structs from one to another, struct by struct.
+fn sections_between(
+    alloc: Global,
+    layouts: &Layouts<'_>,
+    storage: &Storage,
+    counts: &Counts,
+    first: Definition,
+    last: Definition,
+) -> Result<Vec<Vec<Section>>, AllocError>
+    requires { All (IsFineWords layouts.now) storage.now.committed }
+    ensures { IfOk result (λ v. AreSections layouts.now (stored_between first last storage.now.committed) (sections_of v.items)) }
+{
+    // For the prover: the modules are a store's, so each stored value has the leaves that its struct says.
+    let _modules = layouts.len();
+    let mut rows = empty_rows(alloc, layouts, counts)?;
+    let mut entries = storage.iter();
+    'each: while let Some((key, words)) = entries.next() {
+        let d = Definition {
+            place: key.place,
+            index: key.index,
+        };
+        if !is_between(first, last, d) {
+            continue;
+        }
+        add_to(alloc, layouts, &mut rows, key, words)?;
+    }
+    Ok(rows)
+}
+
+/// What is stored of the structs with key from one on, up to another, struct by struct.
 fn sections_in(
     alloc: Global,
     layouts: &Layouts<'_>,
     storage: &Storage,
+    counts: &Counts,
+    i: usize,
+    j: usize,
 ) -> Result<Vec<Vec<Section>>, AllocError>
-    requires { All (IsFineWords layouts.now) storage.now.committed }
-    ensures { IfOk result (λ v. AreSections layouts.now storage.now.committed (sections_of v.items)) }
+    requires fine { All (IsFineWords layouts.now) storage.now.committed }
+    requires within { j ≤ length (keyed_from 0 layouts.now) }
+    ensures { IfOk result (λ v. HaveSections layouts.now storage.now.committed (sections_of v.items) (slice_range (keyed_from 0 layouts.now) i j)) }
 {
-    // For the prover: the modules are a store's, so each stored value has the leaves that its struct says.
-    let _modules = layouts.len();
-    let counts = stored_counts(alloc, layouts, storage)?;
-    let mut rows = empty_rows(alloc, layouts, &counts)?;
-    let mut entries = storage.iter();
-    'each: while let Some((key, words)) = entries.next() {
-        add_to(alloc, layouts, &mut rows, key, words)?;
+    if i >= j {
+        return Ok(Vec::new(alloc));
     }
-    Ok(rows)
+    let keyed = layouts.keyed();
+    sections_between(alloc, layouts, storage, counts, keyed[i], keyed[j - 1])
 }
 
 /// The section of a struct.
@@ -282,21 +326,46 @@ fn put_section(text: &mut Vec<u8>, section: &Section) -> Result<(), AllocError>
     text.extend_from_slice(&section.text)
 }
 
-/// Appends the sections of the structs that have key.
+/// Appends the sections of structs.
 fn put_sections(
     text: &mut Vec<u8>,
-    layouts: &Layouts<'_>,
+    structs: &[Definition],
     rows: &[Vec<Section>],
 ) -> Result<(), AllocError>
-    ensures { OnOk result ((entries : List FlatEntry) → AreSections layouts.now entries (sections_of rows.now)
-        → text.new.items ≡ text.old.items ++ flat_map (struct_text (storage_of layouts.now entries)) (keyed_from 0 layouts.now)) }
+    ensures { OnOk result ((modules : List Tables) (entries : List FlatEntry) → HaveSections modules entries (sections_of rows.now) structs.now
+        → text.new.items ≡ text.old.items ++ flat_map (struct_text (storage_of modules entries)) structs.now) }
 {
-    'each: for d in layouts.keyed() {
+    'each: for d in structs {
         if let Some(section) = section_of(rows, *d) {
             put_section(text, section)?;
         }
     }
     Ok(())
+}
+
+/// The values of the structs with key from one on, up to another: of each their number, and then the values. It goes over all that is
+/// stored once, and needs memory for what it gives twice, and for a section of each struct of the modules.
+///
+/// # Errors
+///
+/// If an allocation failed.
+pub fn structs_text(
+    alloc: Global,
+    layouts: &Layouts<'_>,
+    storage: &Storage,
+    counts: &Counts,
+    i: usize,
+    j: usize,
+) -> Result<Vec<u8>, AllocError>
+    requires fine { All (IsFineWords layouts.now) storage.now.committed }
+    requires order { i ≤ j }
+    requires within { j ≤ length (keyed_from 0 layouts.now) }
+    ensures { IfOk result (λ text. text.items ≡ flat_map (struct_text (storage_of layouts.now storage.now.committed)) (slice_range (keyed_from 0 layouts.now) i j)) }
+{
+    let rows = sections_in(alloc, layouts, storage, counts, i, j)?;
+    let mut text = Vec::new(alloc);
+    put_sections(&mut text, &layouts.keyed()[i..j], &rows)?;
+    Ok(text)
 }
 
 /// Appends bytes after their number.
@@ -401,10 +470,12 @@ pub fn text_of(
     ensures { IfOk result (λ v. v.items ≡ written runs store.now storage.now.committed (all_of tallies.now)) }
 {
     let layouts = Layouts::new(alloc, store)?;
-    let rows = sections_in(alloc, &layouts, storage)?;
+    let counts = stored_counts(alloc, &layouts, storage)?;
+    let keyed = layouts.keyed();
+    let rows = sections_in(alloc, &layouts, storage, &counts, 0, keyed.len())?;
     let mut text = Vec::with_capacity(alloc, room_for(store, tallies, &rows))?;
     put_head(&mut text, runs, store)?;
     put_tallies(&mut text, tallies)?;
-    put_sections(&mut text, &layouts, &rows)?;
+    put_sections(&mut text, keyed, &rows)?;
     Ok(text)
 }

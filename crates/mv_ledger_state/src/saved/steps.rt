@@ -9,6 +9,7 @@ ghost use Rattle.mv_soundness.specs.Words.{IsFineWords};
 ghost use Rattle.mv_storage.specs.Pages.{is_own, values_from};
 ghost use Rattle.mv_ledger_state.specs.Flowing.{values_text};
 ghost use Rattle.mv_ledger_state.specs.Layouts.{AreLeaves};
+ghost use Rattle.mv_ledger_state.specs.SavedText.{keyed_from};
 ghost use Rattle.mv_ledger_state.specs.View.{state_of, view_of};
 ghost use Rattle.mv_ledger_state.specs.Parts.CountRows.{AreStored};
 ghost use Rattle.mv_ledger_state.specs.Parts.Saving.{IsWritable};
@@ -18,7 +19,9 @@ ghost use Rattle.mv_ledger_state.specs.declared.saved.position.Position.TheVaria
 use crate::saved::counts::{Counts as StoredCounts, stored_counts};
 use crate::saved::layouts::Layouts;
 use crate::saved::position::Position;
-use crate::saved::saving::{MARK, put_leaves, put_sized, put_tallies, value_size};
+use crate::saved::saving::{
+    COUNT_BYTES, MARK, put_leaves, put_sized, put_tallies, structs_text, value_size,
+};
 use crate::tallies::Tallies;
 use mv_linker::Store;
 use mv_module_text::write_address;
@@ -26,7 +29,7 @@ use mv_move_types::{Address, Definition, LeafKind};
 use mv_storage::{Page, Storage};
 use std::alloc::{AllocError, Global};
 
-// So many bytes of values are made at once, unless one value has more.
+// So many bytes of values are made at once, unless one value has more: of one struct, or of several.
 const PAGE_BYTES: usize = 65_536;
 
 /// The next bytes of a save, and from where on the others are to be written.
@@ -131,16 +134,89 @@ fn counts_from(
     })
 }
 
-/// The same, once the stored values are counted.
+/// How many bytes the text of a struct has at most, of which so many values are stored.
+fn text_size(
+    alloc: Global,
+    layouts: &Layouts<'_>,
+    d: Definition,
+    count: u128,
+) -> Result<usize, AllocError> {
+    if count == 0 {
+        return Ok(1);
+    }
+    let Some(kinds) = layouts.kinds(alloc, d)? else {
+        return Ok(COUNT_BYTES);
+    };
+    let values = count.saturating_mul(value_size(&kinds) as u128);
+    let values = usize::try_from(values).unwrap_or(usize::MAX);
+    Ok(values.saturating_add(COUNT_BYTES))
+}
+
+/// Up to which struct with key, from one on, the texts of all together fit into a page. It looks at none after the first that
+/// doesn't.
+fn batch_end(
+    alloc: Global,
+    layouts: &Layouts<'_>,
+    counts: &StoredCounts,
+    i: usize,
+) -> Result<usize, AllocError>
+    ensures { IfOk result (λ end. end ≤ length (keyed_from 0 layouts.now)) }
+{
+    let keyed = layouts.keyed();
+    let mut room = PAGE_BYTES;
+    'fits: for at in i..keyed.len() {
+        let size = text_size(alloc, layouts, keyed[at], counts.at(keyed[at]))?;
+        if size > room {
+            return Ok(at);
+        }
+        room -= size;
+    }
+    Ok(keyed.len())
+}
+
+/// The values of the structs with key from one on, up to another: of each their number, and then the values.
+fn batch(
+    alloc: Global,
+    layouts: &Layouts<'_>,
+    storage: &Storage,
+    counts: &StoredCounts,
+    i: usize,
+    end: usize,
+) -> Result<Step, AllocError>
+    requires fine { All (IsFineWords layouts.now) storage.now.committed }
+    requires some { i < end }
+    requires within { end ≤ length (keyed_from 0 layouts.now) }
+    ensures { IfOk result (λ step. (s : LedgerState) → IsStored layouts.now storage.now.committed s → Comes s (Sections i) step.text.items step.next) }
+{
+    let text = structs_text(alloc, layouts, storage, counts, i, end)?;
+    if end >= layouts.keyed().len() {
+        return Ok(Step {
+            text,
+            next: Position::End,
+        });
+    }
+    Ok(Step {
+        text,
+        next: Position::Sections(end),
+    })
+}
+
+/// The values of the structs with key from one on that fit into a page together; or, where those of the first don't, how many they
+/// are.
 fn sections(
     alloc: Global,
     layouts: &Layouts<'_>,
     storage: &Storage,
     i: usize,
 ) -> Result<Step, AllocError>
+    requires { All (IsFineWords layouts.now) storage.now.committed }
     ensures { IfOk result (λ step. (s : LedgerState) → IsStored layouts.now storage.now.committed s → Comes s (Sections i) step.text.items step.next) }
 {
     let counts = stored_counts(alloc, layouts, storage)?;
+    let end = batch_end(alloc, layouts, &counts, i)?;
+    if i < end {
+        return batch(alloc, layouts, storage, &counts, i, end);
+    }
     let step = counts_from(alloc, layouts, &counts, storage, i)?;
     Ok(step)
 }
@@ -238,7 +314,8 @@ fn sections_of(
     storage: &Storage,
     i: usize,
 ) -> Result<Step, AllocError>
-    requires { length store.now ≤ 65536 }
+    requires few { length store.now ≤ 65536 }
+    requires fine { All (IsFineWords (tables_in store.now)) storage.now.committed }
     ensures { IfOk result (λ step. (s : LedgerState) → IsStored (tables_in store.now) storage.now.committed s → Comes s (Sections i) step.text.items step.next) }
 {
     let layouts = Layouts::new(alloc, store)?;
@@ -263,8 +340,8 @@ fn values_of(
     Ok(step)
 }
 
-/// The next bytes of the text of a ledger with these parts, from a position on. It takes memory for no more than those, and for the
-/// structs of the modules.
+/// The next bytes of the text of a ledger with these parts, from a position on. It takes memory for a few times those; for the structs of
+/// the modules, at most some 110 bytes for each; and for one value.
 ///
 /// # Errors
 ///
