@@ -148,7 +148,7 @@ pub fn admitted(store: &Store, runs: u64, asked: RunRecord<'_>) -> Result<Call, 
 }
 
 /// Keeps what a run has made of the storage, if it ended by a return; otherwise gives it up.
-fn settle(mut overlay: Overlay<'_>, ending: Ending) -> Result<(), AllocError>
+fn end_run(mut overlay: Overlay<'_>, ending: Ending) -> Result<(), AllocError>
     ensures left { OnOk result (overlay.exit.0.now.committed ≡ left_by ending overlay.entry.storage.now) }
     ensures marks { overlay.exit.0.now.marks ≡ overlay.entry.storage.now.marks }
     ensures err { OnErr result (overlay.exit.0.now.committed ≡ overlay.entry.storage.now.committed) }
@@ -194,7 +194,7 @@ fn run_over(
     if ended.0.ending == Ending::Returned {
         published.make_room(&ended.1)?;
     }
-    settle(overlay, ended.0.ending)?;
+    end_run(overlay, ended.0.ending)?;
     Ok(ended)
 }
 
