@@ -132,6 +132,8 @@ enum Act<'a> {
     Takes(Key, Option<&'a [u128]>),
     // Words are written over those of a value from one on, if there are as many.
     Writes(Key, usize, &'a [u128], bool),
+    // A word is written over the first one of a value, which is there.
+    Sets(Key, u128),
     // The first word of a value is changed where it stands, if there is one.
     Lends(Key, u128, bool),
     // What a value of one word reads.
@@ -158,6 +160,7 @@ impl<'a> Act<'a> {
             Act::Writes(key, from, words, wanted) => {
                 Ok(overlay.write(&key, from, words)? == wanted)
             }
+            Act::Sets(key, word) => overlay.write(&key, 0, &[word]),
             Act::Lends(key, word, wanted) => Ok(edit_first(overlay, &key, word)? == wanted),
             Act::Reads(key, wanted) => Ok(word(overlay, &key) == wanted),
             Act::Shows(key, from, width, wanted) => Ok(view(overlay, &key, from, width) == wanted),
@@ -330,8 +333,8 @@ fn follow(
     let acts = [
         Act::Reads(one, Some(value)),
         Act::Reads(other, Some(other_value)),
-        Act::Writes(other, 0, &[other_value], true),
-        Act::Writes(one, 0, &[value], true),
+        Act::Sets(other, other_value),
+        Act::Sets(one, value),
         Act::Has(other, true),
     ];
     leaves(rt, alloc, storage, &acts, &[])
