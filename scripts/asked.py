@@ -142,5 +142,6 @@ OPEN: Dict[str, str] = {
     "mv_certificate::Cert": "a list of functions, each with two lists behind `Stated`",
     "mv_storage::Overlay::put": "a run goes by `put_new`, a load by `Filling`; tests call it",
     "mv_storage::Overlay::edit": "a run goes by `write`",
+    "mv_storage::Overlay::discard": "a run that didn't return ends by the overlay's `Drop`",
     "moveledger::engine": "the program goes by `report` and the library by `answer_on`, which run the same loop, `answer_from`, and carry the same clause; tests call it",
 }

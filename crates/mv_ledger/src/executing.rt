@@ -147,18 +147,16 @@ pub fn admitted(store: &Store, runs: u64, asked: RunRecord<'_>) -> Result<Call, 
     })
 }
 
-/// Keeps what a run has made of the storage, if it ended by a return; otherwise gives it up.
-fn end_run(mut overlay: Overlay<'_>, ending: Ending) -> Result<(), AllocError>
-    ensures left { OnOk result (overlay.exit.0.now.committed ≡ left_by ending overlay.entry.storage.now) }
-    ensures marks { overlay.exit.0.now.marks ≡ overlay.entry.storage.now.marks }
-    ensures err { OnErr result (overlay.exit.0.now.committed ≡ overlay.entry.storage.now.committed) }
+/// Keeps what a run has made of the storage, if it ended by a return.
+fn keep_returned(overlay: &mut Overlay<'_>, ending: Ending) -> Result<(), AllocError>
+    ensures left { OnOk result (overlay.new.storage.now.committed ≡ left_by ending overlay.old.storage.now) }
+    ensures marks { overlay.new.storage.now.marks ≡ overlay.old.storage.now.marks }
+    ensures loan { overlay.new.storage.ghost_name ≡ overlay.old.storage.ghost_name }
+    ensures err { OnErr result (overlay.new.storage.now.committed ≡ overlay.old.storage.now.committed) }
 {
     match ending {
         Ending::Returned => overlay.commit(),
-        Ending::Aborted(_, _) | Ending::Exhausted(_) => {
-            overlay.discard();
-            Ok(())
-        }
+        Ending::Aborted(_, _) | Ending::Exhausted(_) => Ok(()),
     }
 }
 
@@ -194,7 +192,7 @@ fn run_over(
     if ended.0.ending == Ending::Returned {
         published.make_room(&ended.1)?;
     }
-    end_run(overlay, ended.0.ending)?;
+    keep_returned(&mut overlay, ended.0.ending)?;
     Ok(ended)
 }
 
