@@ -64,6 +64,10 @@ impl<R: Read, W: Write, A: AfterRecord<Counted<R>, W>> AfterRecord<Counted<R>, W
     ghost does = { λ number reader old before end new after. A.does number reader old.inner before end new.inner after
         × MatchResult end (λ _. new.bytes ≡ reader.bytes) (λ _. new.bytes ≡ old.bytes) };
 
+    fn make_room(&self, writer: &mut W) -> Result<(), AllocError> {
+        self.inner.make_room(writer)
+    }
+
     fn answered(
         &mut self,
         number: u64,
@@ -291,6 +295,10 @@ impl<'a> Meter<'a> {
 impl<R: Read, W: Write> AfterRecord<Counted<R>, W> for Meter<'_> {
     // It never fails, and leaves the writer as it is. What it shows on the screen no contract sees.
     ghost does = { λ number reader old before end new after. (end ≡ Ok tt) × (after ≡ before) };
+
+    fn make_room(&self, _writer: &mut W) -> Result<(), AllocError> {
+        Ok(())
+    }
 
     fn answered(
         &mut self,
