@@ -13,7 +13,7 @@ use std::alloc::Global;
 use std::io::Read;
 
 /// The next byte, or None at the end.
-fn read_byte<R: Read>(reader: &mut R) -> Result<Option<u8>, EngineError>
+pub fn read_byte<R: Read>(reader: &mut R) -> Result<Option<u8>, EngineError>
     ensures ok { IfOk result (λ byte. MatchOption byte
         (Consumes (R.remaining reader.old) (R.remaining reader.new) [] × IsAtEnd (R.remaining reader.new))
         (λ b. Consumes (R.remaining reader.old) (R.remaining reader.new) (b ∷ []))) }
@@ -123,17 +123,14 @@ pub enum Next {
     Record(u8, Vec<u8>),
 }
 
-/// Reads the next record.
-pub fn next_record<R: Read>(alloc: Global, reader: &mut R) -> Result<Next, EngineError>
+/// Reads what stands behind the kind of a record.
+pub fn rest_of_record<R: Read>(alloc: Global, reader: &mut R, kind: u8) -> Result<Next, EngineError>
     ensures ok { IfOk result (λ next. (took : List ℕ)
         × Consumes (R.remaining reader.old) (R.remaining reader.new) took
-        × IsNext took (left_of (R.remaining reader.new)) next) }
+        × IsNext (kind ∷ took) (left_of (R.remaining reader.new)) next) }
     ensures err { IfErr result (λ e. (e ≢ EngineError.Write) × (took : List ℕ)
-        × Consumes (R.remaining reader.old) (R.remaining reader.new) took × IsUnfinished took) }
+        × Consumes (R.remaining reader.old) (R.remaining reader.new) took × IsUnfinished (kind ∷ took)) }
 {
-    let Some(kind) = read_byte(reader)? else {
-        return Ok(Next::End);
-    };
     let Some(len) = read_length(reader)? else {
         return Ok(Next::Cut);
     };

@@ -13,7 +13,7 @@ ghost use Rattle.moveledger.specs.Pacing.{IsDoneForAll, IsDoneUntil, IsFailed};
 
 use crate::answering::{answer, write_reply};
 use crate::pacing::{AfterRecord, Gathering, MOST_LINE_BYTES};
-use crate::reading::{Next, next_record};
+use crate::reading::{Next, read_byte, rest_of_record};
 use mv_ledger::{Ledger, Reply};
 use std::alloc::{AllocError, Global};
 use std::io::{Read, Write};
@@ -88,8 +88,21 @@ pub fn engine<R: Read, W: Write>(
     }
 }
 
-/// Reads the next record once there is room for its line, where it is made and where it is written to: what is then done for a publish
-/// or a run record needs no memory to be told.
+/// Makes room for the line of a record, where it is made and where it is written to.
+fn make_room<R, W: Write, A: AfterRecord<R, W>>(
+    writer: &mut W,
+    line: &mut Vec<u8>,
+    after: &A,
+) -> Result<(), AllocError>
+    ensures { W.contents writer.new ≡ W.contents writer.old }
+{
+    line.clear();
+    line.reserve(MOST_LINE_BYTES)?;
+    after.make_room(writer)
+}
+
+/// Reads the next record, and makes room for its line once it begins: what is then done for a publish or a run record needs no memory
+/// to be told.
 fn next_with_room<R: Read, W: Write, A: AfterRecord<R, W>>(
     alloc: Global,
     reader: &mut R,
@@ -104,10 +117,11 @@ fn next_with_room<R: Read, W: Write, A: AfterRecord<R, W>>(
         × Consumes (R.remaining reader.old) (R.remaining reader.new) took × IsUnfinished took) }
     ensures kept { W.contents writer.new ≡ W.contents writer.old }
 {
-    line.clear();
-    line.reserve(MOST_LINE_BYTES)?;
-    after.make_room(writer)?;
-    next_record(alloc, reader)
+    let Some(kind) = read_byte(reader)? else {
+        return Ok(Next::End);
+    };
+    make_room(writer, line, after)?;
+    rest_of_record(alloc, reader, kind)
 }
 
 /// Answers the records of an input, each before the next is read, and numbers the first one `answered + 1`: the one loop of
