@@ -13,7 +13,7 @@ use std::io::Read;
 /// # Errors
 ///
 /// As `engine`. The count is then that of the records whose lines were all written. Proved is that the ledger is as these left it, or the
-/// next one; since room for a record's line is taken before the record is read, it is as these left it.
+/// next one; since room for a record's line is taken before anything is done for it, it is as these left it.
 pub fn answer_on<R: Read>(
     reader: &mut R,
     report: &mut Vec<u8>,

@@ -17,7 +17,7 @@ pub trait AfterRecord<R, W: Write> {
     /// and the writer after.
     ghost does: { ℕ → R → Self → W → Result (Unit {0}) EngineError → Self → W → Type 0 } = { λ _ _ _ _ _ _ _. ⊤ };
 
-    /// Is called before a record is read. It may take room for a line of `MOST_LINE_BYTES` bytes, and writes nothing.
+    /// Is called when a record begins, before the rest of it is read. It may take room for a line of `MOST_LINE_BYTES` bytes, and writes nothing.
     ///
     /// # Errors
     ///
