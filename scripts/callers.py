@@ -4,6 +4,7 @@ in those below it, so too much may be reached, and never too little."""
 
 import re
 from dataclasses import dataclass
+from functools import lru_cache
 from pathlib import Path
 from typing import Dict, Iterator, List, Mapping, Set
 
@@ -29,9 +30,16 @@ class Function:
     is_of_trait: bool
 
 
+@lru_cache(maxsize=None)
 def code_of(file: Path) -> List[str]:
     """The lines of a file without comments."""
     return [re.sub(r"(?<!:)//.*", "", line) for line in file.read_text(encoding="utf-8").split("\n")]
+
+
+@lru_cache(maxsize=None)
+def text_of(file: Path) -> str:
+    """The text of a file without comments."""
+    return "\n".join(code_of(file))
 
 
 def body_of(lines: List[str]) -> str:
@@ -112,7 +120,7 @@ def calls(function: Function, crate: str, name: str) -> int:
         return len(re.findall(rf"(?:\.|\b{owner}::|Self::){method}(?:::<[^(]*>)?\(", function.body))
     if function.crate == crate:
         return len(re.findall(rf"(?<![.\w])(?:\w+::)*(?<!fn ){name}(?:::<[^(]*>)?\(", function.body))
-    text = "\n".join(code_of(function.file))
+    text = text_of(function.file)
     brought = re.search(rf"^use (?:\w+::)*{crate}(?:::\w+)*(?:::\{{[^}}]*\b{name}\b(?! as)[^}}]*\}}|::{name});", text, re.M)
     as_other = re.search(rf"^use {crate}(?:::\w+)*::\{{?[^}};]*\b{name} as (\w+)", text, re.M)
     count = len(re.findall(rf"\b{crate}::(?:\w+::)*{name}(?:::<[^(]*>)?\(", function.body))
