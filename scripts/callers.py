@@ -6,7 +6,7 @@ import re
 from dataclasses import dataclass
 from functools import lru_cache
 from pathlib import Path
-from typing import Dict, Iterator, List, Mapping, Set
+from typing import Dict, Iterator, List, Mapping, Set, Tuple
 
 from common import CRATES, crates
 from must_fail import functions_of
@@ -113,6 +113,17 @@ def reached() -> List[Function]:
     return kept
 
 
+@lru_cache(maxsize=None)
+def brought_into(file: Path, crate: str, name: str) -> Tuple[bool, str]:
+    """Whether a file brings in a name of a crate, and the other name under which it does, if there is one."""
+    text = text_of(file)
+    if crate not in text:
+        return False, ""
+    brought = re.search(rf"^use (?:\w+::)*{crate}(?:::\w+)*(?:::\{{[^}}]*\b{name}\b(?! as)[^}}]*\}}|::{name});", text, re.M)
+    as_other = re.search(rf"^use {crate}(?:::\w+)*::\{{?[^}};]*\b{name} as (\w+)", text, re.M)
+    return bool(brought), as_other[1] if as_other else ""
+
+
 def calls(function: Function, crate: str, name: str) -> int:
     """How often a function calls one of this name of a crate, or a method of a type of it."""
     owner, _, method = name.rpartition("::")
@@ -120,14 +131,12 @@ def calls(function: Function, crate: str, name: str) -> int:
         return len(re.findall(rf"(?:\.|\b{owner}::|Self::){method}(?:::<[^(]*>)?\(", function.body))
     if function.crate == crate:
         return len(re.findall(rf"(?<![.\w])(?:\w+::)*(?<!fn ){name}(?:::<[^(]*>)?\(", function.body))
-    text = text_of(function.file)
-    brought = re.search(rf"^use (?:\w+::)*{crate}(?:::\w+)*(?:::\{{[^}}]*\b{name}\b(?! as)[^}}]*\}}|::{name});", text, re.M)
-    as_other = re.search(rf"^use {crate}(?:::\w+)*::\{{?[^}};]*\b{name} as (\w+)", text, re.M)
+    brought, as_other = brought_into(function.file, crate, name)
     count = len(re.findall(rf"\b{crate}::(?:\w+::)*{name}(?:::<[^(]*>)?\(", function.body))
     if brought:
         count += len(re.findall(rf"(?<![.\w:]){name}(?:::<[^(]*>)?\(", function.body))
     if as_other:
-        count += len(re.findall(rf"(?<![.\w:]){as_other[1]}(?:::<[^(]*>)?\(", function.body))
+        count += len(re.findall(rf"(?<![.\w:]){as_other}(?:::<[^(]*>)?\(", function.body))
     return count
 
 
