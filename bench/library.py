@@ -83,7 +83,7 @@ def tell_asked(best: List[Asked], many: int) -> None:
     print(f"library: all of them in {pages.calls:,} pages: {of_many:.0f} microseconds a page, "
           f"{pages.seconds / pages.values * 1e6:.2f} a value (no aim)")
     print(f"library: a block of {IN_BLOCK:,} mints begun, answered and taken back beside them: {of_block:.0f} microseconds, and the mints alone "
-          f"{of_kept:.0f}, {of_block / of_kept:.2f} times by the clock, which has the caches' share (no aim)", flush=True)
+          f"{of_kept:.0f}, {of_block / of_kept:.2f} times by the clock, which has the caches' share (aim: {MOST_OF_BLOCK} or less)", flush=True)
 
 
 def tell_blocks(folder: Path, measuring: Path) -> None:
@@ -93,7 +93,7 @@ def tell_blocks(folder: Path, measuring: Path) -> None:
     taken_back, kept = difference(blocks, half), difference(parts, half)
     if taken_back is not None and kept is not None:
         print(f"library: a block of {IN_BLOCK:,} mints begun, answered and taken back: {taken_back / kept:.2f} times the machine instructions of "
-              f"the mints alone (aim: {MOST_OF_BLOCK} or less)", flush=True)
+              f"the mints alone (no aim)", flush=True)
 
 
 def tell_pieces(folder: Path, measuring: Path, many: int) -> None:
