@@ -1,6 +1,6 @@
 """What records cost whose size says little of it: upgrades among few and many modules and under few and many dependants, modules
-that name many others, names that collide, shows of values of large modules, and the dearest records of 1 MB that are known, beside
-the mean of publishing 1 MB of ordinary modules. A time is the processor's, the least of several tries, and memory the most that the
+that name many others, names that collide, shows of values of large modules, the dearest records of 1 MB that are known, beside
+the mean of publishing 1 MB of ordinary modules, and a step of a search for a certificate. A time is the processor's, the least of several tries, and memory the most that the
 process held, both less what the program takes for the records before.
 
 usage: python3 bench/costs.py PROGRAM FOLDER    FOLDER is kept; machine instructions are counted where there is a valgrind"""
@@ -77,6 +77,29 @@ class Program:
         (self.folder / "costs.module").write_bytes(text)
         out = subprocess.run([self.path, "prove", "costs.module"], check=True, capture_output=True, text=True, cwd=self.folder).stdout
         return bytes.fromhex(out.strip())
+
+    def proves_within(self, steps: int) -> bool:
+        """Whether a search for the certificate of the module that was asked for last ends within so many steps."""
+        out = subprocess.run([self.path, "prove", "--steps", str(steps), "costs.module"], capture_output=True, text=True, cwd=self.folder)
+        return "too long" not in out.stdout + out.stderr
+
+    def steps(self, text: bytes) -> int:
+        """How many steps the search for a module's certificate takes."""
+        (self.folder / "costs.module").write_bytes(text)
+        enough = 1
+        while not self.proves_within(enough):
+            enough *= 2
+        too_few = enough // 2
+        while enough - too_few > 1:
+            middle = (too_few + enough) // 2
+            enough, too_few = (middle, too_few) if self.proves_within(middle) else (enough, middle)
+        return enough
+
+    def search(self, text: bytes) -> Tuple[float, Optional[int]]:
+        """The least seconds of the processor, and the machine instructions, of the search for a module's certificate."""
+        (self.folder / "costs.module").write_bytes(text)
+        command = [str(self.path), "prove", "costs.module"]
+        return min(process.seconds_of(process.used(command, self.folder)) for _ in range(TRIES)), process.instructions(command, self.folder)
 
     def published(self, *modules: bytes) -> bytes:
         """The record that publishes modules in one bundle, and what it is answered."""
@@ -787,6 +810,46 @@ def tell_dearest(program: Program) -> None:
               f"{per_megabyte / mean:.0f} times the mean for as many bytes{instructions} (aim: 100 or less, or 60 ms for 16 KB)", flush=True)
 
 
+# Locals of a module whose search is long: a struct, a condition, and references, of which each gets an edge for each field.
+STRUCT, CONDITION, FIRST = 0, 1, 2
+LABELS, REFERENCES = 32, 32
+
+
+def branching(blocks: int, depth: int) -> bytes:
+    """A module with so many blocks of two instructions, each with 1,024 edges ahead of it and two successors: 32 references lead to 32
+    fields of a local each, which lie so many structs deep."""
+    m = Module()
+    m.struct("S0", "has copy, drop", "; ".join(f"f{n}: u64" for n in range(LABELS)))
+    for n in range(1, depth):
+        m.struct(f"S{n}", "has copy, drop", "; ".join(f"f{k}: u64" for k in range(LABELS - 1)) + f"; inner: S{n - 1}")
+    inwards = "".join(f"ImmBorrowField S{n}.inner;" for n in range(depth - 1, 0, -1))
+
+    def borrowed(label: int) -> str:
+        return f"ImmBorrowLoc {STRUCT}; {inwards} ImmBorrowField S0.f{label}; StLoc {FIRST}; Branch joined;"
+
+    code = "".join(f"CopyLoc {CONDITION}; BrTrue arm{n};" for n in range(1, LABELS)) + borrowed(0)
+    code += "".join(f"arm{n}: {borrowed(n)}" for n in range(1, LABELS))
+    code += "joined: " + "".join(f"CopyLoc {FIRST}; StLoc {FIRST + n};" for n in range(1, REFERENCES)) + "Branch block0;"
+    code += "".join(f"block{n}: CopyLoc {CONDITION}; BrTrue block0;" for n in range(blocks))
+    m.function("f", f"S{depth - 1}; bool", "", "; ".join(["&u64"] * REFERENCES), code + "Ret", entry=False)
+    return m.bytes()
+
+
+def tell_steps(program: Program) -> None:
+    """What a step of a search for a certificate takes: of ordinary code, and of the dearest that is known."""
+    dearest = "1,000 blocks of two instructions with 1,024 edges ahead of each"
+    for what, text in (
+        ("ordinary code", inputs.all_families(inputs.LARGE, 5).bytes()),
+        (f"{dearest}, whose labels have one position", branching(1_000, 1)),
+        (f"{dearest}, whose labels have seven positions", branching(1_000, 7)),
+    ):
+        steps = program.steps(text)
+        seconds, count = program.search(text)
+        counted = f" and {count / steps:,.0f} machine instructions" if count is not None else ""
+        print(f"costs: the search for a certificate of {what}, {len(text)} bytes: {steps} steps, {seconds:.3f} s, "
+              f"{seconds / steps * 1e6:.2f} us{counted} a step", flush=True)
+
+
 def tell(program: Path, folder: Path) -> None:
     """Prints a line for each measurement."""
     os.makedirs(folder, exist_ok=True)
@@ -797,6 +860,7 @@ def tell(program: Path, folder: Path) -> None:
     tell_colliding(measured)
     tell_shows(measured)
     tell_dearest(measured)
+    tell_steps(measured)
 
 
 if __name__ == "__main__":
