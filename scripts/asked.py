@@ -101,7 +101,7 @@ ASKED: List[Row] = [
     Row("mv_ledger", "LoadError", "enum { Head, Module, Link, Body, Tally, Memory }"),
     Row("mv_ledger", "migrate", "fn(&[u8]) -> Result<Vec<u8>, LoadError>", "moveledger"),
     Row("mv_ledger", "Reply", "enum { Published(u64), Refused(u8), Rejected(u8), Ran(Outcome), Memory }"),
-    Row("moveledger", "engine", "fn<R: Read, W: Write>(&mut R, &mut W, &mut Ledger) -> Result<u64, EngineError>", "moveledger_program"),
+    Row("moveledger", "engine", "fn<R: Read, W: Write>(&mut R, &mut W, &mut Ledger) -> Result<u64, EngineError>", "moveledger"),
     Row("moveledger", "EngineError", "enum { Read, Write, Memory }"),
     Row("moveledger", "command", "fn(&'a [&'a str]) -> Result<Task<'a>, LineError>", "moveledger_program"),
     Row(
@@ -137,11 +137,4 @@ LIBRARIES = [
     Library("thiserror", "derives public error types", {"mv_move_types": "use thiserror::Error;"}),
 ]
 # Asked names that don't stand so yet, where no decision says why, each with what there is. One that is mended goes from here.
-OPEN: Dict[str, str] = {
-    "mv_binary_format::code": "the cursor borrows the module's list of instructions, so it has another lifetime, and only tests call it",
-    "mv_certificate::Cert": "a list of functions, each with two lists behind `Stated`",
-    "mv_storage::Overlay::put": "a run goes by `put_new`, a load by `Filling`; tests call it",
-    "mv_storage::Overlay::edit": "a run goes by `write`",
-    "mv_storage::Overlay::discard": "a run that didn't return ends by the overlay's `Drop`",
-    "moveledger::engine": "the program goes by `report` and the library by `answer_on`, which run the same loop, `answer_from`, and carry the same clause; tests call it",
-}
+OPEN: Dict[str, str] = {}
