@@ -1,12 +1,14 @@
 -- Instructions that are read one by one.
-use Rattle.mv_binary_format.proofs.Common.{[], ℕ, ◌++◌, ◌+◌, ◌-◌, ◌<◌, ◌≤◌, ◌∙◌, ◌∷◌, ◌≡◌, List, None, Option, Some, ap, arith, option_map, refl, suc, sym, true, ◌>>=◌}
-use Rattle.mv_binary_format.proofs.Common.{Read, counted_from, entries_from, number_from}
+use Rattle.mv_binary_format.proofs.Common.{[], ℕ, ◌++◌, ◌+◌, ◌-◌, ◌<◌, ◌≤◌, ◌∙◌, ◌∷◌, ◌≡◌, List, None, Option, Some, ap, arith, refl, suc, sym, true, ◌>>=◌}
+use Rattle.mv_binary_format.proofs.Common.{Err, Result, Phase, Read, counted_from, entries_from, number_from, subst, zero}
 use Rattle.std.proofs.lemmas.Bool.{false≢true}
 use Rattle.std.proofs.Common.{is_some}
 use Rattle.std.specs.Option.{option_map_or}
 use Rattle.mv_move_types.specs.declared.instruction.Instruction.{Instruction}
+use Rattle.mv_move_types.specs.declared.refusal.Refusal.{Refusal}
 use Rattle.mv_module_text.specs.Parsing.{instruction_from}
-use Rattle.mv_module_text.proofs.Entries.{ReadsOn, ReadsOn-start, ReadsOn-next, ReadsOn-stops, ReadsOn-end, after}
+use Rattle.mv_module_text.specs.Reads.{Reads}
+use Rattle.mv_module_text.proofs.Entries.{ReadsOn, ReadsOn-start, ReadsOn-next, ReadsOn-stops, ReadsOn-end}
 unfoldable use Rattle.mv_binary_format.specs.Code.{instructions_in, instructions_stand}
 
 -- the first i of n entries were read and passed over
@@ -46,9 +48,15 @@ pub none-left : (version : ℕ) (bytes : List ℕ) → instructions_in version 0
 unfolding instructions_in
 none-left version bytes = refl
 
--- a list's first, and the others
-first-of : {A : Type 0} (x : A) (o : Read (List A)) → is_some (o >>= λ xs. Some (x ∷ xs.0, xs.1)) ≡ true
-    → (is_some o ≡ true) × (option_map_or (λ r. r.0) (o >>= λ xs. Some (x ∷ xs.0, xs.1)) [] ≡ x ∷ option_map_or (λ r. r.0) o [])
+-- an entry before others
+abbrev before : {A : Type 0} → A → Read (List A) → Read (List A)
+before x o = o >>= λ xs. Some (x ∷ xs.0, xs.1)
+
+-- the entries that were read
+abbrev listed : {A : Type 0} → Read (List A) → List A
+listed o = option_map_or (λ r. r.0) o []
+
+first-of : {A : Type 0} (x : A) (o : Read (List A)) → is_some (before x o) ≡ true → (is_some o ≡ true) × (listed (before x o) ≡ x ∷ listed o)
 first-of x None e = absurd (false≢true e)
 first-of x (Some r) e = (refl, refl)
 
@@ -57,9 +65,9 @@ pub next-read : (version n : ℕ) (bytes rest : List ℕ) (i : Instruction) → 
     → (instructions_stand version n rest ≡ true) × (instructions_in version (suc n) bytes ≡ i ∷ instructions_in version n rest)
 unfolding instructions_in instructions_stand
 next-read version n bytes rest i e there =
-    let next : entries_from (instruction_from version) (suc n) bytes ≡ (entries_from (instruction_from version) n rest >>= λ xs. Some (i ∷ xs.0, xs.1)) = rw e refl in
+    let next : entries_from (instruction_from version) (suc n) bytes ≡ before i (entries_from (instruction_from version) n rest) = rw e refl in
     let both = first-of i (entries_from (instruction_from version) n rest) (sym (ap is_some next) ∙ there) in
-    (both.0, ap (λ o. option_map_or (λ r. r.0) o []) next ∙ both.1)
+    (both.0, ap listed next ∙ both.1)
 
 -- there is a next one
 pub next-stands : (version n : ℕ) (bytes : List ℕ) → instructions_stand version (suc n) bytes ≡ true → instruction_from version bytes ≡ None → ⊥
@@ -67,3 +75,18 @@ unfolding instructions_stand
 next-stands version n bytes there e =
     let none : entries_from (instruction_from version) (suc n) bytes ≡ None = rw e refl in
     false≢true (sym (ap is_some none) ∙ there)
+
+-- one is read of those that are left
+pub advances : (version left : ℕ) (bytes rest : List ℕ) (i : Instruction) → (left ≡ 0 → ⊥) → instruction_from version bytes ≡ Some (i, rest) → instructions_stand version left bytes ≡ true
+    → (instructions_stand version (left - 1) rest ≡ true) × (instructions_in version left bytes ≡ i ∷ instructions_in version (left - 1) rest)
+advances version zero bytes rest i some e there = absurd (some refl)
+advances version (suc n) bytes rest i some e there = let less : suc n - 1 ≡ n = omega arith in rw less (next-read version n bytes rest i e there)
+
+-- one can be read where some are left
+pub stands : (version left : ℕ) (bytes : List ℕ) → (left ≡ 0 → ⊥) → instructions_stand version left bytes ≡ true → instruction_from version bytes ≡ None → ⊥
+stands version zero bytes some there e = some refl
+stands version (suc n) bytes some there e = next-stands version n bytes there e
+
+-- what is refused in phase 2
+pub Reads-refused : {A : Type 0} (from : List ℕ → Read A) (old new : List ℕ) (r : Result A Refusal) → r ≡ Err (Phase 2) → from old ≡ None → Reads from old r new
+Reads-refused from old new r r_is none = subst (λ z. Reads from old z new) (sym r_is) (refl, none)

@@ -53,7 +53,7 @@ impl<'a> Cursor<'a> {
     }
 
     // Another cursor over the same instructions.
-    pub(crate) fn copied(&self) -> Cursor<'a>
+    pub(crate) fn another(&self) -> Cursor<'a>
         ensures { result ≡ self.now }
     {
         Cursor {

@@ -125,7 +125,7 @@ impl<'a> FunctionDefinition<'a> {
     pub fn code(&self) -> Cursor<'a>
         ensures { result ≡ self.now.code }
     {
-        self.code.copied()
+        self.code.another()
     }
 }
 
