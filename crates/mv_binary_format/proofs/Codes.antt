@@ -1,5 +1,5 @@
 -- Instructions that are read one by one.
-use Rattle.mv_binary_format.proofs.Common.{[], ℕ, ◌++◌, ◌+◌, ◌-◌, ◌<◌, ◌≤◌, ◌∙◌, ◌∷◌, ◌≡◌, List, None, Option, Some, ap, arith, refl, suc, sym, true, ◌>>=◌}
+use Rattle.mv_binary_format.proofs.Common.{[], ℕ, ◌++◌, ◌+◌, ◌-◌, ◌<◌, ◌≤◌, ◌∙◌, ◌∷◌, ◌≡◌, List, None, Some, ap, arith, refl, suc, sym, true, ◌>>=◌}
 use Rattle.mv_binary_format.proofs.Common.{Err, Result, Phase, Read, counted_from, entries_from, number_from, subst, zero}
 use Rattle.std.proofs.lemmas.Bool.{false≢true}
 use Rattle.std.proofs.Common.{is_some}

@@ -39,11 +39,7 @@ impl<'a> Model for Bounded<'a> {
 impl<'a> Bounded<'a> {
     /// A module that passes phases 3 and 4, with the definition of each function handle that has one and the instructions of each
     /// function. `mv_bounds::check` is what finds this out.
-    pub fn new(
-        m: Module<'a>,
-        places: Vec<Option<usize>>,
-        codes: Vec<Vec<Instruction>>,
-    ) -> Self
+    pub fn new(m: Module<'a>, places: Vec<Option<usize>>, codes: Vec<Vec<Instruction>>) -> Self
         requires { IsBounded m places.items (map (λ c. c.items) codes.items) }
         ensures { result ≡ m.entry }
     {
