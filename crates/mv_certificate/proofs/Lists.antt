@@ -1,7 +1,16 @@
--- The texts of the elements of a list, written one after another.
+-- The lists of functions, and the texts of the elements of a list, written one after another.
 use Rattle.mv_certificate.proofs.Common.{[], ℕ, ◌++◌, ◌+◌, ◌<◌, ◌∙◌, ◌∷◌, ◌≡◌, ◌≤◌, List, ap, append-nil, append_assoc, flat_map, get_or, length, map, sym, take, flat_map-append, take_all}
 use Rattle.mv_certificate.proofs.Common.{take_more, uleb, counted}
-use Rattle.std.proofs.lemmas.List.{map_more}
+use Rattle.mv_certificate.proofs.Common.{Certificate, Global, Known, Option, Vec}
+use Rattle.std.proofs.lemmas.List.{map-append, map_more}
+
+-- the lists of so many functions
+abbrev pub lists : List (Vec (Option Known) Global) → Certificate
+lists functions = map (λ f. f.items) functions
+
+-- one more is pushed
+pub lists-more : (functions new : List (Vec (Option Known) Global)) (one : Vec (Option Known) Global) → new ≡ functions ++ one ∷ [] → lists new ≡ lists functions ++ one.items ∷ []
+lists-more functions new one pushed = ap lists pushed ∙ map-append (λ (f : Vec (Option Known) Global). f.items) functions (one ∷ [])
 
 -- one more is written
 pub text-next : {A : Type 0} (text : A → List ℕ) (xs : List A) (i : ℕ) (d x : A) (start out new : List ℕ) → i < length xs → x ≡ get_or xs i d
