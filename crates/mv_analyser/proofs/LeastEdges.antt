@@ -75,55 +75,6 @@ with_these (None ∷ ss) (Some e ∷ es) p = absurd (true≢false (sym p.0))
 with_these (Some k ∷ ss) (None ∷ es) p = absurd (true≢false p.0)
 with_these (Some k ∷ ss) (Some e ∷ es) p = ap (λ r. Some e ∷ r) (with_these ss es p.1)
 
-with_none : (ss : Stated) → with_edges ss [] ≡ []
-with_none [] = refl
-with_none (k ∷ ss) = refl
-
--- what is stated at a place, and after it
-stated_there : (ss : Stated) (n m : ℕ) → length (drop n ss) ≡ suc m → (s : Option Known) × ((slice_get ss n ≡ Some s) × (drop n ss ≡ s ∷ drop (n + 1) ss))
-stated_there [] zero m h = absurd (omega (arith, h))
-stated_there [] (suc n) m h = absurd (omega (arith, h))
-stated_there (s ∷ ss) zero m h = (s, (refl, refl))
-stated_there (s ∷ ss) (suc n) m h =
-    let rest = stated_there ss n m h in
-    let next : suc n + 1 ≡ suc (n + 1) = omega arith in
-    (rest.0, (rest.1.0, rest.1.1 ∙ ap (λ k. rest.0 ∷ drop k (s ∷ ss)) (sym next)))
-
--- some blocks have their edges, and those that are left make the whole with the edges that are left
-pub record IsLeft (ss blocks : Stated) (left : List (Option (List Edge))) (whole : Stated) : Type 0 where
-  pub long : length (drop (length blocks) ss) ≡ length left
-  pub same : blocks ++ with_edges (drop (length blocks) ss) left ≡ whole
-
-pub left_first : (ss blocks : Stated) (left es : List (Option (List Edge))) → blocks ≡ [] → left ≡ es → length es ≡ length ss → IsLeft ss blocks left (with_edges ss es)
-left_first ss blocks left es none is long =
-    subst (λ bs. IsLeft ss bs left (with_edges ss es)) (sym none) (subst (λ xs. IsLeft ss [] xs (with_edges ss es)) (sym is) (record { long = sym long; same = refl }))
-
-module _ (ss blocks : Stated) (left coming : List (Option (List Edge))) (e : Option (List Edge)) (whole : Stated) (is : IsLeft ss blocks coming whole) (taken : coming ≡ e ∷ left) where
-  here : (s : Option Known) × ((slice_get ss (length blocks) ≡ Some s) × (drop (length blocks) ss ≡ s ∷ drop (length blocks + 1) ss))
-  here = stated_there ss (length blocks) (length left) (is.long ∙ ap length taken)
-
-  pub left_low : length blocks < length ss
-  left_low = slice_get_within ss (length blocks) here.0 here.1.0
-
-  pub left_next : (new : Stated) (k : Option Known) → ((known : Option Known) → slice_get ss (length blocks) ≡ Some known → k ≡ known_with known e) → new ≡ blocks ++ k ∷ [] → IsLeft ss new left whole
-  left_next new k made pushed =
-      let behind : drop (length new) ss ≡ drop (length blocks + 1) ss = ap (λ n. drop n ss) (ap length pushed ∙ length_push blocks k) in
-      let all : length (drop (length blocks) ss) ≡ suc (length left) = is.long ∙ ap length taken in
-      let one : length (drop (length blocks) ss) ≡ suc (length (drop (length blocks + 1) ss)) = ap length here.1.1 in
-      record {
-        long = ap length behind ∙ omega (arith, all, one);
-        same =
-            ap (λ z. z ++ with_edges (drop (length new) ss) left) pushed ∙ append_assoc blocks (k ∷ []) (with_edges (drop (length new) ss) left)
-            ∙ ap (λ z. blocks ++ z)
-            (ap (λ x. x ∷ with_edges (drop (length new) ss) left) (made here.0 here.1.0) ∙ ap (λ d. known_with here.0 e ∷ with_edges d left) behind ∙ ap (λ d. with_edges d (e ∷ left)) (sym here.1.1)
-            ∙ ap (with_edges (drop (length blocks) ss)) (sym taken))
-            ∙ is.same;
-      }
-
-pub left_done : (ss blocks : Stated) (left : List (Option (List Edge))) (whole : Stated) → IsLeft ss blocks left whole → left ≡ [] → blocks ≡ whole
-left_done ss blocks left whole is none =
-    sym (append-nil blocks) ∙ ap (λ z. blocks ++ z) (sym (ap (with_edges (drop (length blocks) ss)) none ∙ with_none (drop (length blocks) ss))) ∙ is.same
-
 -- ---- the shape
 
 edges_have_shape : (m : Module) (d : FunctionDefinition) (es : List Edge) → may_begin_with m d es ≡ true → list_all (λ e. nat_le (length e.label.path) 8) es ≡ true → list_all (edge_fits m d) es ≡ true
