@@ -35,7 +35,10 @@ fn code_is_read_in_its_version(rt: HostRuntime) -> Result<(), Fail> {
     let bytes = [0x48, 2, 1, 0x02, 0x07];
     let mut six = Reader::new(&bytes);
     let mut five = six.copied();
-    assert_eq!(rt; six.instruction(Version::Six), Ok(Instruction::LdU16(0x0102)));
+    assert_eq!(rt;
+        six.instruction(Version::Six),
+        Ok(Instruction::LdU16(0x0102))
+    );
     assert_eq!(rt; six.instruction(Version::Six), Ok(Instruction::Ret));
     assert_eq!(rt; six.byte(), Ok(0x07));
     assert_eq!(rt; five.instruction(Version::Five), Err(Refusal::Phase(2)));

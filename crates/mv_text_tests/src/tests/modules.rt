@@ -75,7 +75,10 @@ fn modules_have_what_their_bytes_say(rt: HostRuntime) -> Result<(), Fail> {
         Instruction::Ret,
     ];
     let function = m.functions().first().ok_or("function")?;
-    assert_eq!(rt; function.code().to_vec(rt.alloc())?.as_slice(), mint.as_slice());
+    assert_eq!(rt;
+        function.code().to_vec(rt.alloc())?.as_slice(),
+        mint.as_slice()
+    );
     Ok(())
 }
 
@@ -97,7 +100,11 @@ fn first_code<'a>(alloc: Global, bytes: &'a [u8]) -> Result<Option<Cursor<'a>>, 
 #[test]
 fn code_is_read_from_the_bytes(rt: HostRuntime) -> Result<(), Fail> {
     let alloc = rt.alloc();
-    let text = altered(alloc, &text_of(alloc, KINDS_OF_IMMEDIATES, "", 0)?, &[(4, 6)])?;
+    let text = altered(
+        alloc,
+        &text_of(alloc, KINDS_OF_IMMEDIATES, "", 0)?,
+        &[(4, 6)],
+    )?;
     let wanted = [
         Instruction::LdU8(5),
         Instruction::LdU64(0x0807060504030201),
