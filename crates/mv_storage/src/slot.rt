@@ -298,7 +298,7 @@ impl Slot {
     }
 
     // Gives the run its own copy of a committed value. It fails only where memory runs out, and nothing changes then.
-    pub(crate) fn own(&mut self, alloc: Global) -> Result<(), AllocError>
+    fn own(&mut self, alloc: Global) -> Result<(), AllocError>
         requires { is_vacant self.old ≡ false }
         ensures layers { (layer : Layer) → of_layer layer self.new ≡ of_layer layer self.old }
         ensures changed { OnOk result (is_some (of_layer Current self.old) ≡ true → is_change self.new ≡ true) }
@@ -325,15 +325,38 @@ impl Slot {
         }
     }
 
-    // The place, if so many words are there.
+    // A place, if so many words are there.
     #[inline(always)]
-    pub(crate) fn own_piece(&self, place: usize, from: usize, width: usize) -> Option<usize>
+    pub(crate) fn place_if(&self, place: usize, from: usize, width: usize) -> Option<usize>
         ensures { result ≡ cond (is_some (option_and_then (piece from width) (of_layer Current self.now))) (Some place) None }
     {
         if self.holds(from, width) {
             return Some(place);
         }
         None
+    }
+
+    // Makes sure that the run has what it sees to itself, and gives its place, if so many words are there. It fails only where
+    // memory runs out, and nothing changes then.
+    pub(crate) fn own_place(
+        &mut self,
+        place: usize,
+        from: usize,
+        width: usize,
+        alloc: Global,
+    ) -> Result<Option<usize>, AllocError>
+        requires { is_vacant self.old ≡ false }
+        ensures layers { (layer : Layer) → of_layer layer self.new ≡ of_layer layer self.old }
+        ensures place { IfOk result (λ found. found ≡ cond (is_some (option_and_then (piece from width) (of_layer Current self.old))) (Some place) None) }
+        ensures own { IfOk result (λ found. is_some found ≡ true → IsOwn self.new) }
+        ensures used { is_vacant self.new ≡ false }
+        ensures pinned { is_pinned self.old ≡ true → is_pinned self.new ≡ true }
+    {
+        if !self.holds(from, width) {
+            return Ok(None);
+        }
+        self.own(alloc)?;
+        Ok(Some(place))
     }
 
     // So many of the words that the run has to itself, from a place on, one at least, lent.

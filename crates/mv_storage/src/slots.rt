@@ -120,7 +120,7 @@ pub(crate) fn own_in(
 {
     if let Some(place) = known.recalled(&places.tree, key) {
         if places.slots[place].has_versions() {
-            return Ok(places.slots[place].own_piece(place, from, width));
+            return Ok(places.slots[place].place_if(place, from, width));
         }
     }
     own_any(
@@ -168,12 +168,8 @@ fn own_any(
     let Some(at) = places.recall(known, &key) else {
         return Ok(None);
     };
-    if !places.slots[at].holds(from, width) {
-        return Ok(None);
-    }
     note(&places.slots[at], touched, &key, at)?;
-    places.slots[at].own(alloc)?;
-    Ok(Some(at))
+    places.slots[at].own_place(at, from, width, alloc)
 }
 
 // The place of a key, which it has from then on.
@@ -216,15 +212,18 @@ fn place_found(
 {
     let _place = key.place;
     let fresh = places.vacancy()?;
-    let place = match enter_noted(&mut places.tree, touched, key, fresh)? {
+    let had = enter_noted(&mut places.tree, touched, key, fresh)?;
+    match had {
         None => {
             places.fill(fresh, Slot::Empty);
-            fresh
+            known.note(key, fresh);
+            Ok(fresh)
         }
-        Some(place) => place,
-    };
-    known.note(key, place);
-    Ok(place)
+        Some(place) => {
+            known.note(key, place);
+            Ok(place)
+        }
+    }
 }
 
 // Puts a value under a key where the run sees none.
