@@ -1,23 +1,23 @@
-use Rattle.mv_storage.proofs.Common.{◌∙◌, ap, is_some, refl, sym, IfOk-weaker, on_err_weaker, slot_at, Committed, Current}
-use Rattle.std.specs.Prelude.{not}
-use Rattle.mv_storage.proofs.Shown.{shown-same, shown-put}
+use Rattle.mv_storage.proofs.Common.{◌∙◌, ap, refl, sym, on_err_weaker, on_ok_weaker, slot_at, words_under, Committed, Current}
+use Rattle.mv_storage.specs.Map.{Layers}
+use Rattle.mv_storage.proofs.Shown.{shown-same, shown-with}
 use Rattle.mv_undo.specs.Undo.{marks_of}
 use Rattle.mv_storage.specs.Blocks.{back}
 use Rattle.mv_storage.proofs.Steps.{reads, layers-equal}
 use Rattle.mv_storage.proofs.Undoing.{keeps-undoable}
-use Rattle.mv_storage.proofs.storage.Storage.put_new.Goals as goal
+use Rattle.mv_storage.proofs.storage.Storage.put.Goals as goal
 
-pub returns-clause-done : goal.returns-clause-done
-returns-clause-done c =
-    let places = c.self.inside.places in
-    rw (← c.self.view_is) (IfOk-weaker c.put_into.result _ _
-    (λ done is. is ∙ ap (λ o. not (is_some o)) (sym (reads Current places c.args.key (slot_at places c.args.key) c.self.invariant.0.sound.ordered refl))) c.put_into.ensures.done)
+pub put_into-requires-clause-absent : goal.put_into-requires-clause-absent
+put_into-requires-clause-absent c =
+    let m = c.self.inside.places in
+    let k = c.args.key in
+    sym (reads Current m k (slot_at m k) c.self.invariant.0.sound.ordered refl) ∙ ap (λ (l : Layers). words_under l.current k) c.self.view_is ∙ c.requires
 
 pub returns-clause-current : goal.returns-clause-current
 returns-clause-current c =
     let old = c.self.inside.places in
-    rw (← c.self.view_is) (IfOk-weaker c.put_into.result _ _
-    (λ done same. shown-put Current old c.put_into.new.places c.args.key c.args.value done c.self.invariant.0.sound.ordered c.put_into.ensures.tracked.sound.ordered same) c.put_into.ensures.current)
+    rw (← c.self.view_is) (on_ok_weaker c.put_into.result
+    (λ same. shown-with Current old c.put_into.new.places c.args.key c.args.value c.self.invariant.0.sound.ordered c.put_into.ensures.tracked.sound.ordered same) c.put_into.ensures.current)
 
 pub returns-clause-committed : goal.returns-clause-committed
 returns-clause-committed c =
