@@ -1,16 +1,14 @@
 -- What is stated of a function, with the least edges, fits it, and holds.
-use Rattle.std.proofs.Common.{◌≡◌, ◌==◌, ℕ, zero, suc, Bool, true, false, not, ◌&&◌, List, [], ◌∷◌, ◌++◌, length, map, drop, get_or, ◌<◌, ◌+◌}
+use Rattle.std.proofs.Common.{◌≡◌, ◌==◌, ℕ, suc, Bool, true, false, not, ◌&&◌, List, [], ◌∷◌, length, map, drop, get_or}
 use Rattle.std.proofs.Common.{Option, Some, None, IsSome, is_some, option_map, slice_get, nat_le, IsTrue, refl, sym, ap, ◌∙◌, subst, arith}
 use Rattle.std.proofs.Common.{true≢false}
 use Rattle.std.specs.List.{list_all}
 use Rattle.std.specs.Option.{option_map_or}
 use Rattle.std.specs.Prelude.{⊤}
 use Rattle.std.proofs.lemmas.Bool.{and_parts, and_from}
-use Rattle.std.proofs.lemmas.List.{append-nil, append_assoc, length_push}
-use Rattle.std.proofs.lemmas.Option.{same_Some, slice_get_within}
+use Rattle.std.proofs.lemmas.Option.{same_Some}
 use Rattle.mv_move_types.specs.Module.{Module, FunctionDefinition, StructDefinition, local_tokens}
 use Rattle.mv_cfg.specs.declared.Cfg.{Cfg}
-use Rattle.mv_cfg.specs.Blocks.{blocks}
 use Rattle.mv_cfg.specs.FlowGraph.{IsFlowGraph}
 use Rattle.mv_type_rules.specs.TypesHold.{function_is_typed, point_at}
 use Rattle.mv_lattice.specs.Flow.{IsFlow, IsClosed, IsStated, IsFlowBelow}
@@ -33,7 +31,7 @@ use Rattle.mv_certificate.proofs.Holds.{edges_exact_at}
 use Rattle.mv_certificate.proofs.Whole.{marks-fit}
 use Rattle.mv_analyser.specs.Least.{HasLeastLocals, HasLeastEdges, stated_locals, stated_edges}
 use Rattle.mv_analyser.specs.Principal.{HasPlainLocals, HoldsAt}
-use Rattle.mv_analyser.specs.States.{known_with, with_edges, IsSimpleAt}
+use Rattle.mv_analyser.specs.States.{with_edges, IsSimpleAt}
 use Rattle.mv_analyser.proofs.LeastLocals.{at_function}
 use Rattle.mv_analyser.proofs.Marks.{flow-marks}
 

@@ -32,7 +32,7 @@ fn without_edges(alloc: Global, locals: Option<Availabilities>) -> Option<Known>
 
 /// The availabilities, with no edges.
 fn alone(alloc: Global, all: Vec<Option<Availabilities>>) -> Result<Vec<Option<Known>>, AllocError>
-    ensures { IfOk result (λ v. v.items ≡ locals_alone all.entry.items) }
+    ensures { IfOk result (λ v. v.items ≡ locals_alone all.items) }
 {
     let mut blocks = Vec::with_capacity(alloc, all.len())?;
     for locals in all {
