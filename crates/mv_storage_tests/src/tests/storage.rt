@@ -50,14 +50,12 @@ fn run(storage: &mut Storage, key: Key, value: Value) -> Result<bool, AllocError
     Ok(true)
 }
 
-// A run that edits a value and is given up leaves the storage as it was.
-fn try_out(storage: &mut Storage, key: &Key, word: u128)
+// A run that takes a value and is given up leaves the storage as it was.
+fn try_out(storage: &mut Storage, key: &Key)
     ensures { storage.new.committed ≡ storage.old.committed }
 {
     let mut overlay = storage.overlay();
-    if let Ok(Some(words)) = overlay.edit(key, 0, 1) {
-        words.fill(word);
-    }
+    let _ = overlay.take(key);
     overlay.discard();
 }
 
@@ -195,9 +193,10 @@ fn runs_are_kept_and_given_up(rt: HostRuntime) -> Result<(), Fail> {
     let mut storage = Storage::new(alloc);
     assert!(rt; run(&mut storage, FIRST, Value::leaf(5))?);
     assert!(rt; !run(&mut storage, FIRST, Value::leaf(6))?);
-    try_out(&mut storage, &FIRST, 8);
+    try_out(&mut storage, &FIRST);
     let acts = [
-        Act::Takes(FIRST, Some(&[5])),
+        Act::Sets(FIRST, 8),
+        Act::Takes(FIRST, Some(&[8])),
         Act::Has(FIRST, false),
         Act::Puts(FIRST, &[4], true),
     ];
