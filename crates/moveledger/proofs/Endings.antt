@@ -1,10 +1,10 @@
 -- What an end says of what was answered.
-use Rattle.std.proofs.Common.{◌≡◌, ℕ, List, ◌++◌, Option, Result, Ok, Err, Bool, true, false, OnOk, OnErr, refl, inl, inr, arith}
+use Rattle.std.proofs.Common.{◌≡◌, ℕ, List, ◌++◌, Option, Result, Ok, Err, Bool, true, false, IfErr, IfOk, MatchResult, OnOk, OnErr, is_ok, refl, inl, inr, ap, arith, subst, sym}
 use Rattle.std.specs.Io.KnownBytes.{Keeps}
 use Rattle.std.proofs.KnownBytes.{Appends-kept}
 use Rattle.mv_ledger_state.specs.View.{LedgerView}
 use Rattle.moveledger.specs.Headline.{Headline}
-use Rattle.moveledger.specs.Outcome.{Begun, BegunByLines, Ends, GoesOn, ReadsOn, StopsAfter, StopsAt, Unread}
+use Rattle.moveledger.specs.Outcome.{Begun, BegunByLines, Ends, GoesOn, ReadsAll, ReadsOn, Stops, StopsAfter, StopsAt, StopsByLines, StopsReading, Unread}
 use Rattle.moveledger.specs.Status.{end_after}
 use Rattle.moveledger.specs.declared.streaming.EngineError.{EngineError}
 use Rattle.moveledger.specs.declared.streaming.EngineError.TheVariants.{Read, Write, Memory}
@@ -55,3 +55,46 @@ ends_after n (Ok done) true given gives held mid holds old new ok taken err read
 ends_after n (Err Read) true given gives held mid holds old new ok taken err read memory kept = (n, Stops-kept Unread given gives held mid holds old new n (read refl) kept)
 ends_after n (Err Write) true given gives held mid holds old new ok taken err read memory kept = inl (n, Stops-kept (StopsAt Begun) given gives held mid holds old new n err kept)
 ends_after n (Err Memory) true given gives held mid holds old new ok taken err read memory kept = (n, Stops-kept (StopsAt BegunByLines) given gives held mid holds old new n (memory refl) kept)
+
+-- the same after `engine`, which says how many records it answered
+
+Headline-stays : (given held mid holds : Option (List ℕ)) (old new : LedgerView) (n : ℕ) → Headline given held mid old new n → Keeps mid holds
+    → Headline given held holds old new n
+Headline-stays given held mid holds old new n h kept = record {
+  input = h.input;
+  records = h.records;
+  rest = h.rest;
+  text = h.text;
+  told = h.told;
+  read = h.read;
+  all = h.all;
+  answered = h.answered;
+  report = h.report;
+  written = Appends-kept held mid holds h.text h.written kept;
+}
+
+ends_stopped : (e : EngineError) (is_flushed : Bool) (given gives held mid holds : Option (List ℕ)) (old new : LedgerView)
+    → Stops given gives held mid old new → (e ≡ Read → StopsReading given gives held mid old new) → (e ≡ Memory → StopsByLines given gives held mid old new)
+    → Keeps mid holds → Ends (end_after {A = Unit {0}} (Err e) is_flushed) given gives held holds old new
+ends_stopped e false given gives held mid holds old new err read memory kept = inl (err.0, Stops-kept (StopsAt Begun) given gives held mid holds old new err.0 err.1 kept)
+ends_stopped Read true given gives held mid holds old new err read memory kept =
+    let h = read refl in (h.0, Stops-kept Unread given gives held mid holds old new h.0 h.1 kept)
+ends_stopped Write true given gives held mid holds old new err read memory kept = inl (err.0, Stops-kept (StopsAt Begun) given gives held mid holds old new err.0 err.1 kept)
+ends_stopped Memory true given gives held mid holds old new err read memory kept =
+    let h = memory refl in (h.0, Stops-kept (StopsAt BegunByLines) given gives held mid holds old new h.0 h.1 kept)
+
+pub ends_after_engine : (P : ℕ → Type 0) (answered : Result ℕ EngineError) (told : Result (Unit {0}) EngineError) (is_flushed : Bool)
+    (given gives held mid holds : Option (List ℕ)) (old new : LedgerView) → is_ok told ≡ is_ok answered → MatchResult answered P (λ e. told ≡ Err e)
+    → IfOk answered (λ n. Headline given held mid old new n) → IfOk answered (λ n. ReadsAll given gives n) → IfErr answered (λ _. Stops given gives held mid old new)
+    → (answered ≡ Err Read → StopsReading given gives held mid old new) → (answered ≡ Err Memory → StopsByLines given gives held mid old new)
+    → Keeps mid holds → Ends (end_after told is_flushed) given gives held holds old new
+ends_after_engine P (Ok n) (Ok done) false given gives held mid holds old new same is ok taken err read memory kept =
+    inr (n, Headline-stays given held mid holds old new n ok kept, taken)
+ends_after_engine P (Ok n) (Ok done) true given gives held mid holds old new same is ok taken err read memory kept =
+    (n, Headline-stays given held mid holds old new n ok kept, taken)
+ends_after_engine P (Ok n) (Err e) is_flushed given gives held mid holds old new same is ok taken err read memory kept = absurd (cc)
+ends_after_engine P (Err e) told is_flushed given gives held mid holds old new same is ok taken err read memory kept =
+    let read2 : e ≡ Read → StopsReading given gives held mid old new = λ r. read (ap Err r) in
+    let memory2 : e ≡ Memory → StopsByLines given gives held mid old new = λ m. memory (ap Err m) in
+    subst (λ t. Ends (end_after t is_flushed) given gives held holds old new) (sym is)
+    (ends_stopped e is_flushed given gives held mid holds old new err read2 memory2 kept)

@@ -50,6 +50,6 @@ pub use mv_ledger::{
 pub use pacing::{AfterRecord, Gathering, MOST_LINE_BYTES, Prompt, Reserving};
 pub use proving::{prove_text, prove_text_within};
 pub use records::{Front, first_record};
-pub use reporting::report;
+pub use reporting::{report, report_file};
 pub use saved::{end_of_text, loaded, migrated, text_to_keep};
 pub use streaming::{EngineError, answer_from, engine, one_reading, one_report};

@@ -6,7 +6,7 @@ ghost use Rattle.moveledger.specs.Pacing.{EndsBy, IsDoneForAll, IsDoneUntil};
 
 use crate::ending::{End, end_of};
 use crate::pacing::AfterRecord;
-use crate::streaming::answer_from;
+use crate::streaming::{answer_from, engine};
 use mv_ledger::Ledger;
 use std::io::{BufWriter, Read, Write};
 
@@ -34,4 +34,21 @@ pub fn report<R: Read, W: Write + Drop, A: AfterRecord<R, BufWriter<W>>>(
     let answered = answer_from(reader, writer, ledger, &mut count, after);
     let is_flushed = writer.flush().is_ok();
     end_of(answered, is_flushed)
+}
+
+/// Answers the records of a file by `engine`, and writes their lines out at the end, or earlier where the writer's memory is full. It
+/// says how that ended.
+pub fn report_file<R: Read, W: Write + Drop>(
+    reader: &mut R,
+    writer: &mut BufWriter<W>,
+    ledger: &mut Ledger,
+) -> End
+    // What the end says of the records, the report and the ledger: where it is done, the headline.
+    ensures ends { Ends result (R.remaining reader.old) (R.remaining reader.new)
+        (writer_contents W.contents writer.old) (writer_contents W.contents writer.new) ledger.old ledger.new }
+    // Unless a write failed, nothing waits to be written.
+    ensures flushed { result ≢ End.Write → writer_buffer writer.new ≡ [] }
+{
+    let answered = engine(reader, writer, ledger).map(|_| ());
+    end_of(answered, writer.flush().is_ok())
 }

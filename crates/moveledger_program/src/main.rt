@@ -10,6 +10,7 @@
 #![tactic(auto)]
 
 mod files;
+mod following;
 mod kinds;
 mod meter;
 mod program;

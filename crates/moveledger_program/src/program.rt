@@ -3,13 +3,14 @@ use crate::files::{
     Output, STANDARD_INPUT, STANDARD_INPUT_FILE, advice_before, advised, expected_bytes, open,
     regular_size, shown, standard_output,
 };
+use crate::following::Followed;
 use crate::kinds::Kind;
 use crate::meter::{Counted, Meter, Noted, Printing, Reported, Screen, Whole};
 use crate::saving::Saving;
 use crate::told::Told;
 use moveledger::{
-    AfterRecord, End, Gathering, Hold, Ledger, LineError, Prompt, Seen, Sort, Task, check_module,
-    command, end_of_words, ended, loaded, migrated, not_text, prove_module, report,
+    AfterRecord, End, Hold, Ledger, LineError, Prompt, Seen, Sort, Task, check_module, command,
+    end_of_words, ended, loaded, migrated, not_text, prove_module, report, report_file,
 };
 use std::fs::{self, File};
 use std::io::{self, BufReader, BufWriter, ErrorKind, IsTerminal, Read, Write};
@@ -274,8 +275,8 @@ fn warn(saving: Option<&Saving<'_>>) {
     }
 }
 
-/// Answers the records that a source gives. For a regular file, of this size, many lines are written at a time, and if standard
-/// error is a terminal, it shows how far a long run is. For anything else, each record's lines are written before the next
+/// Answers the records that a source gives. For a regular file, of this size, the engine does, and many lines are written at a time;
+/// but if standard error is a terminal, it shows how far a long run is. For anything else, each record's lines are written before the next
 /// record is waited for. Where the first bytes are plainly those of no stream, that is said before.
 fn apply_to<R: Read + Drop>(
     output: &Output<'_>,
@@ -303,7 +304,7 @@ fn apply_to<R: Read + Drop>(
         Some(total) if rt.stderr().is_terminal() => {
             answer(reader, &mut writer, ledger, Meter::new(&screen, total))
         }
-        Some(_) => answer(reader, &mut writer, ledger, Gathering),
+        Some(_) => answer_file(reader, &mut writer, ledger),
     };
     screen.erase();
     Answered {
@@ -343,6 +344,20 @@ fn answer<R: Read + Drop, W: Write + Drop, A: AfterRecord<Counted<R>, BufWriter<
     Answered {
         end,
         is_whole: counted.given() == after.answered_bytes(),
+    }
+}
+
+/// Answers the records of a file by the engine.
+fn answer_file<R: Read + Drop, W: Write + Drop>(
+    reader: R,
+    writer: &mut BufWriter<W>,
+    ledger: &mut Ledger,
+) -> Answered {
+    let mut followed = Followed::new(reader);
+    let end = report_file(&mut followed, writer, ledger);
+    Answered {
+        end,
+        is_whole: followed.is_whole(),
     }
 }
 

@@ -1,16 +1,14 @@
 -- What is stated of a function, with the least edges, fits it, and holds.
-use Rattle.std.proofs.Common.{◌≡◌, ◌==◌, ℕ, zero, suc, Bool, true, false, not, ◌&&◌, List, [], ◌∷◌, ◌++◌, length, map, drop, get_or, ◌<◌, ◌+◌}
+use Rattle.std.proofs.Common.{◌≡◌, ◌==◌, ℕ, suc, Bool, true, false, not, ◌&&◌, List, [], ◌∷◌, length, map, drop, get_or}
 use Rattle.std.proofs.Common.{Option, Some, None, IsSome, is_some, option_map, slice_get, nat_le, IsTrue, refl, sym, ap, ◌∙◌, subst, arith}
 use Rattle.std.proofs.Common.{true≢false}
 use Rattle.std.specs.List.{list_all}
 use Rattle.std.specs.Option.{option_map_or}
 use Rattle.std.specs.Prelude.{⊤}
 use Rattle.std.proofs.lemmas.Bool.{and_parts, and_from}
-use Rattle.std.proofs.lemmas.List.{append-nil, append_assoc, length_push}
-use Rattle.std.proofs.lemmas.Option.{same_Some, slice_get_within}
+use Rattle.std.proofs.lemmas.Option.{same_Some}
 use Rattle.mv_move_types.specs.Module.{Module, FunctionDefinition, StructDefinition, local_tokens}
 use Rattle.mv_cfg.specs.declared.Cfg.{Cfg}
-use Rattle.mv_cfg.specs.Blocks.{blocks}
 use Rattle.mv_cfg.specs.FlowGraph.{IsFlowGraph}
 use Rattle.mv_type_rules.specs.TypesHold.{function_is_typed, point_at}
 use Rattle.mv_lattice.specs.Flow.{IsFlow, IsClosed, IsStated, IsFlowBelow}
@@ -33,7 +31,7 @@ use Rattle.mv_certificate.proofs.Holds.{edges_exact_at}
 use Rattle.mv_certificate.proofs.Whole.{marks-fit}
 use Rattle.mv_analyser.specs.Least.{HasLeastLocals, HasLeastEdges, stated_locals, stated_edges}
 use Rattle.mv_analyser.specs.Principal.{HasPlainLocals, HoldsAt}
-use Rattle.mv_analyser.specs.States.{known_with, with_edges, IsSimpleAt}
+use Rattle.mv_analyser.specs.States.{with_edges, IsSimpleAt}
 use Rattle.mv_analyser.proofs.LeastLocals.{at_function}
 use Rattle.mv_analyser.proofs.Marks.{flow-marks}
 
@@ -74,55 +72,6 @@ with_these (None ∷ ss) (None ∷ es) p = ap (λ r. None ∷ r) (with_these ss 
 with_these (None ∷ ss) (Some e ∷ es) p = absurd (true≢false (sym p.0))
 with_these (Some k ∷ ss) (None ∷ es) p = absurd (true≢false p.0)
 with_these (Some k ∷ ss) (Some e ∷ es) p = ap (λ r. Some e ∷ r) (with_these ss es p.1)
-
-with_none : (ss : Stated) → with_edges ss [] ≡ []
-with_none [] = refl
-with_none (k ∷ ss) = refl
-
--- what is stated at a place, and after it
-stated_there : (ss : Stated) (n m : ℕ) → length (drop n ss) ≡ suc m → (s : Option Known) × ((slice_get ss n ≡ Some s) × (drop n ss ≡ s ∷ drop (n + 1) ss))
-stated_there [] zero m h = absurd (omega (arith, h))
-stated_there [] (suc n) m h = absurd (omega (arith, h))
-stated_there (s ∷ ss) zero m h = (s, (refl, refl))
-stated_there (s ∷ ss) (suc n) m h =
-    let rest = stated_there ss n m h in
-    let next : suc n + 1 ≡ suc (n + 1) = omega arith in
-    (rest.0, (rest.1.0, rest.1.1 ∙ ap (λ k. rest.0 ∷ drop k (s ∷ ss)) (sym next)))
-
--- some blocks have their edges, and those that are left make the whole with the edges that are left
-pub record IsLeft (ss blocks : Stated) (left : List (Option (List Edge))) (whole : Stated) : Type 0 where
-  pub long : length (drop (length blocks) ss) ≡ length left
-  pub same : blocks ++ with_edges (drop (length blocks) ss) left ≡ whole
-
-pub left_first : (ss blocks : Stated) (left es : List (Option (List Edge))) → blocks ≡ [] → left ≡ es → length es ≡ length ss → IsLeft ss blocks left (with_edges ss es)
-left_first ss blocks left es none is long =
-    subst (λ bs. IsLeft ss bs left (with_edges ss es)) (sym none) (subst (λ xs. IsLeft ss [] xs (with_edges ss es)) (sym is) (record { long = sym long; same = refl }))
-
-module _ (ss blocks : Stated) (left coming : List (Option (List Edge))) (e : Option (List Edge)) (whole : Stated) (is : IsLeft ss blocks coming whole) (taken : coming ≡ e ∷ left) where
-  here : (s : Option Known) × ((slice_get ss (length blocks) ≡ Some s) × (drop (length blocks) ss ≡ s ∷ drop (length blocks + 1) ss))
-  here = stated_there ss (length blocks) (length left) (is.long ∙ ap length taken)
-
-  pub left_low : length blocks < length ss
-  left_low = slice_get_within ss (length blocks) here.0 here.1.0
-
-  pub left_next : (new : Stated) (k : Option Known) → ((known : Option Known) → slice_get ss (length blocks) ≡ Some known → k ≡ known_with known e) → new ≡ blocks ++ k ∷ [] → IsLeft ss new left whole
-  left_next new k made pushed =
-      let behind : drop (length new) ss ≡ drop (length blocks + 1) ss = ap (λ n. drop n ss) (ap length pushed ∙ length_push blocks k) in
-      let all : length (drop (length blocks) ss) ≡ suc (length left) = is.long ∙ ap length taken in
-      let one : length (drop (length blocks) ss) ≡ suc (length (drop (length blocks + 1) ss)) = ap length here.1.1 in
-      record {
-        long = ap length behind ∙ omega (arith, all, one);
-        same =
-            ap (λ z. z ++ with_edges (drop (length new) ss) left) pushed ∙ append_assoc blocks (k ∷ []) (with_edges (drop (length new) ss) left)
-            ∙ ap (λ z. blocks ++ z)
-            (ap (λ x. x ∷ with_edges (drop (length new) ss) left) (made here.0 here.1.0) ∙ ap (λ d. known_with here.0 e ∷ with_edges d left) behind ∙ ap (λ d. with_edges d (e ∷ left)) (sym here.1.1)
-            ∙ ap (with_edges (drop (length blocks) ss)) (sym taken))
-            ∙ is.same;
-      }
-
-pub left_done : (ss blocks : Stated) (left : List (Option (List Edge))) (whole : Stated) → IsLeft ss blocks left whole → left ≡ [] → blocks ≡ whole
-left_done ss blocks left whole is none =
-    sym (append-nil blocks) ∙ ap (λ z. blocks ++ z) (sym (ap (with_edges (drop (length blocks) ss)) none ∙ with_none (drop (length blocks) ss))) ∙ is.same
 
 -- ---- the shape
 

@@ -1,5 +1,5 @@
 // The least edges of each function that hold.
-ghost use Rattle.std.specs.Prelude.{◌≡◌, ◌<◌, not, length, Option, Some, slice_get, nat_le, IfOk, IfErr, OnOk, IsTrue};
+ghost use Rattle.std.specs.Prelude.{◌≡◌, ◌<◌, not, length, Some, slice_get, nat_le, IfOk, IfErr, OnOk, IsTrue};
 ghost use Rattle.std.specs.List.{list_all};
 ghost use Rattle.mv_certificate_rules.specs.BorrowRules.{is_reference_token};
 ghost use Rattle.mv_certificate_rules.specs.Certificate.{all_locals_hold, certificate_holds};
@@ -9,12 +9,11 @@ ghost use Rattle.mv_certificate_rules.specs.Shape.{AllStatedFit};
 ghost use Rattle.mv_analyser.specs.Least.{HasLeastLocals, HasLeastEdges, AreLeastLocals, IsLeastCertificate};
 ghost use Rattle.mv_analyser.specs.Principal.{AllBefore, FindsEdges, FindsLocals, IsUnproved};
 ghost use Rattle.mv_analyser.specs.States.{known_with, with_edges, EndsEdges, IsErrorAt, IsComplexAt};
-ghost use Rattle.mv_certificate_rules.specs.Certificate.{Known as KnownRecord};
 
 use crate::watched::{Steps, Watched};
 use crate::{ProveError, error_in};
 use mv_borrow_graph::BorrowDomain;
-use mv_certificate::{Cert, Known, Stated, function_at, function_count, graph_of, has_start};
+use mv_certificate::{Cert, Known, function_at, function_count, graph_of, has_start};
 use mv_lattice::{search_is_least, solve};
 use mv_type_rules::Typed;
 use mv_ways::Borrows;
@@ -23,16 +22,14 @@ use std::alloc::{AllocError, Global};
 /// What is stated of a block, with these edges.
 fn known_and(
     alloc: Global,
-    stated: &Stated,
-    block: usize,
+    stated: &Option<Known>,
     edges: Option<Borrows<'_>>,
 ) -> Result<Option<Known>, AllocError>
-    requires { block < length stated.now }
-    ensures { (known : Option KnownRecord) → slice_get stated.now block ≡ Some known → IfOk result (λ k. k ≡ known_with known edges.entry) }
+    ensures { IfOk result (λ k. k ≡ known_with stated.now edges.entry) }
 {
-    match (stated.at(block), edges) {
-        (Some((locals, _)), Some(edges)) => Ok(Some(Known {
-            locals: locals.copy(alloc)?,
+    match (stated, edges) {
+        (Some(known), Some(edges)) => Ok(Some(Known {
+            locals: known.locals.copy(alloc)?,
             edges: edges.into_list(alloc)?,
         })),
         (_, _) => Ok(None),
@@ -42,16 +39,14 @@ fn known_and(
 /// What is stated of a function's blocks, with these edges.
 fn stated_and(
     alloc: Global,
-    stated: &Stated,
+    stated: &[Option<Known>],
     edges: Vec<Option<Borrows<'_>>>,
-) -> Result<Stated, AllocError>
-    requires { length edges.items ≡ length stated.now }
-    ensures { IfOk result (λ s. s ≡ with_edges stated.now edges.entry.items) }
+) -> Result<Vec<Option<Known>>, AllocError>
+    ensures { IfOk result (λ v. v.items ≡ with_edges stated.now edges.entry.items) }
 {
-    let mut blocks = Stated::new(alloc);
-    for its in edges {
-        let known = known_and(alloc, stated, blocks.len(), its)?;
-        blocks = blocks.with(known)?;
+    let mut blocks = Vec::with_capacity(alloc, stated.len())?;
+    for (known, its) in stated.iter().zip(edges) {
+        blocks.push(known_and(alloc, known, its)?)?;
     }
     Ok(blocks)
 }
@@ -69,18 +64,18 @@ fn state_edges(
     alloc: Global,
     m: &Typed<'_>,
     f: usize,
-    stated: &Stated,
+    stated: &[Option<Known>],
     steps: &Steps,
-) -> Result<Stated, ProveError>
+) -> Result<Vec<Option<Known>>, ProveError>
     requires inside { f < length m.now.functions }
     requires fits { FitsAt m.now f stated.now }
     requires locals { LocalsHoldAt m.now f stated.now }
     requires least { HasLeastLocals m.now f stated.now }
-    ensures fits { IfOk result (FitsAt m.now f) }
-    ensures locals { IfOk result (LocalsHoldAt m.now f) }
-    ensures edges { IfOk result (EdgesHoldAt m.now f) }
-    ensures least_locals { IfOk result (HasLeastLocals m.now f) }
-    ensures least_edges { IfOk result (HasLeastEdges m.now f) }
+    ensures fits { IfOk result (λ v. FitsAt m.now f v.items) }
+    ensures locals { IfOk result (λ v. LocalsHoldAt m.now f v.items) }
+    ensures edges { IfOk result (λ v. EdgesHoldAt m.now f v.items) }
+    ensures least_locals { IfOk result (λ v. HasLeastLocals m.now f v.items) }
+    ensures least_edges { IfOk result (λ v. HasLeastEdges m.now f v.items) }
     ensures found { OnOk result (FindsEdges m.now f) }
     ensures refused { IfErr result (IsErrorAt m.now f 11 (EdgesHoldAt m.now f) (IsComplexAt m.now f)) }
     ensures ends { IfErr result (EndsEdges m.now f) }
@@ -103,7 +98,7 @@ fn state_edges(
 }
 
 /// What is stated of the function at a place.
-fn stated_of(c: &Cert, f: usize) -> &Stated
+fn stated_of(c: &Cert, f: usize) -> &[Option<Known>]
     requires { f < length c.now }
     ensures { slice_get c.entry.now f ≡ Some result.now }
 {
@@ -111,7 +106,7 @@ fn stated_of(c: &Cert, f: usize) -> &Stated
 }
 
 /// What is stated of function `f`, which fits it and whose availabilities hold.
-fn stated_at<'t>(m: &Typed<'_>, c: &'t Cert, f: usize) -> &'t Stated
+fn stated_at<'t>(m: &Typed<'_>, c: &'t Cert, f: usize) -> &'t [Option<Known>]
     requires shape { AllStatedFit m.now m.now.functions c.now }
     requires locals { IsTrue (all_locals_hold m.now c.now) }
     requires least { AreLeastLocals m.now c.now }

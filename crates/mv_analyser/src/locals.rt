@@ -1,46 +1,57 @@
 // The least availabilities of each function that hold.
-ghost use Rattle.std.specs.Prelude.{◌≡◌, ◌<◌, length, IfOk, IfErr, OnOk, IsTrue};
+ghost use Rattle.std.specs.Prelude.{◌≡◌, ◌<◌, length, option_map, IfOk, IfErr, OnOk, IsTrue};
 ghost use Rattle.mv_certificate_rules.specs.Certificate.{all_locals_hold};
 ghost use Rattle.mv_certificate.specs.Functions.{LocalsHoldAt};
 ghost use Rattle.mv_certificate.specs.Reads.{FitsAt};
 ghost use Rattle.mv_certificate_rules.specs.Shape.{AllStatedFit};
 ghost use Rattle.mv_analyser.specs.Least.{HasLeastLocals, AreLeastLocals};
 ghost use Rattle.mv_analyser.specs.Principal.{AllBefore, FindsLocals, IsUnproved};
-ghost use Rattle.mv_analyser.specs.States.{locals_alone, EndsLocals, IsErrorAt};
+ghost use Rattle.mv_analyser.specs.States.{locals_alone, without_edges, EndsLocals, IsErrorAt};
 
 use crate::watched::{Steps, Watched};
 use crate::{ProveError, error_in};
-use mv_certificate::{Cert, Known, Stated, function_at, function_count, graph_of};
+use mv_certificate::{Cert, Known, function_at, function_count, graph_of};
 use mv_edges::Edges;
 use mv_lattice::{search_is_least, solve};
 use mv_locals_safety::{Availabilities, LocalsDomain};
 use mv_type_rules::Typed;
 use std::alloc::{AllocError, Global};
 
-/// The availabilities, with no edges.
-fn alone(alloc: Global, all: &[Option<Availabilities>]) -> Result<Stated, AllocError>
-    ensures { IfOk result (λ s. s ≡ locals_alone all.now) }
+/// The availabilities of a block, with no edges.
+fn without_edges(alloc: Global, locals: Option<Availabilities>) -> Option<Known>
+    ensures { result ≡ option_map without_edges locals }
 {
-    let mut blocks = Stated::new(alloc);
-    for block in all {
-        let known = match block {
-            Some(locals) => Some(Known {
-                locals: locals.copy(alloc)?,
-                edges: Edges::new(alloc),
-            }),
-            None => None,
-        };
-        blocks = blocks.with(known)?;
+    match locals {
+        Some(locals) => Some(Known {
+            locals,
+            edges: Edges::new(alloc),
+        }),
+        None => None,
+    }
+}
+
+/// The availabilities, with no edges.
+fn alone(alloc: Global, all: Vec<Option<Availabilities>>) -> Result<Vec<Option<Known>>, AllocError>
+    ensures { IfOk result (λ v. v.items ≡ locals_alone all.items) }
+{
+    let mut blocks = Vec::with_capacity(alloc, all.len())?;
+    for locals in all {
+        blocks.push(without_edges(alloc, locals))?;
     }
     Ok(blocks)
 }
 
 /// The least availabilities of function `f` that hold, with no edges.
-fn state_locals(alloc: Global, m: &Typed<'_>, f: usize, steps: &Steps) -> Result<Stated, ProveError>
+fn state_locals(
+    alloc: Global,
+    m: &Typed<'_>,
+    f: usize,
+    steps: &Steps,
+) -> Result<Vec<Option<Known>>, ProveError>
     requires { f < length m.now.functions }
-    ensures fits { IfOk result (FitsAt m.now f) }
-    ensures holds { IfOk result (LocalsHoldAt m.now f) }
-    ensures least { IfOk result (HasLeastLocals m.now f) }
+    ensures fits { IfOk result (λ v. FitsAt m.now f v.items) }
+    ensures holds { IfOk result (λ v. LocalsHoldAt m.now f v.items) }
+    ensures least { IfOk result (λ v. HasLeastLocals m.now f v.items) }
     ensures found { OnOk result (FindsLocals m.now f) }
     ensures refused { IfErr result (IsErrorAt m.now f 10 (LocalsHoldAt m.now f) ⊥) }
     ensures ends { IfErr result (EndsLocals m.now f) }
@@ -55,7 +66,7 @@ fn state_locals(alloc: Global, m: &Typed<'_>, f: usize, steps: &Steps) -> Result
         steps,
     };
     match solve(alloc, &watched, graph, &start) {
-        Ok(least) => Ok(alone(alloc, &least)?),
+        Ok(least) => Ok(alone(alloc, least)?),
         Err(e) => Err(error_in(10, e)),
     }
 }

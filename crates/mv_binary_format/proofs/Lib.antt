@@ -14,3 +14,4 @@ pub mod Ordered
 pub mod Fitting
 pub mod Takings
 pub mod Held
+pub mod Codes

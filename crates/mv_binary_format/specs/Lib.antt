@@ -6,3 +6,4 @@ pub mod Tables
 pub mod Laws
 pub mod Written
 pub mod Held
+pub mod Code

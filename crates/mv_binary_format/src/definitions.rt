@@ -3,9 +3,10 @@ ghost use Rattle.std.specs.Prelude.{◌≡◌};
 ghost use Rattle.mv_module_text.specs.Parsing.{struct_definition_from, function_definition_from};
 ghost use Rattle.mv_module_text.specs.Entries.{struct_definition_text, function_definition_text};
 
+use super::cursor::Cursor;
 use super::entries::Entry;
 use mv_module_text::{FunctionParts, Reader, write_function_definition, write_struct_definition};
-use mv_move_types::{Field, Instruction, Refusal, Version, Visibility};
+use mv_move_types::{Field, Refusal, Version, Visibility};
 use std::alloc::{AllocError, Global};
 use std::marker::Model;
 
@@ -58,18 +59,18 @@ impl<'a> Entry<'a> for StructDefinition {
     }
 }
 
-/// A function that a module defines: its handle, who may call it, and its code.
+/// A function that a module defines: its handle, who may call it, and its code, which remains in the module's bytes.
 #[derive(Drop)]
-pub struct FunctionDefinition {
+pub struct FunctionDefinition<'a> {
     handle: u16,
     visibility: Visibility,
     is_entry: bool,
     acquires: Vec<u16>,
     locals: u16,
-    code: Vec<Instruction>,
+    code: Cursor<'a>,
 }
 
-impl Model for FunctionDefinition {
+impl<'a> Model for FunctionDefinition<'a> {
     ghost use Rattle.mv_move_types.specs.Module.{FunctionDefinition as FunctionTable};
 
     ghost Value = { FunctionTable };
@@ -80,11 +81,11 @@ impl Model for FunctionDefinition {
       is_entry = d.is_entry;
       acquires = d.acquires.items;
       locals = d.locals;
-      code = d.code.items;
+      code = d.code;
     } };
 }
 
-impl FunctionDefinition {
+impl<'a> FunctionDefinition<'a> {
     /// The index of its handle.
     pub fn handle(&self) -> u16
         ensures { result ≡ self.now.handle }
@@ -121,14 +122,14 @@ impl FunctionDefinition {
     }
 
     /// Its instructions, in order.
-    pub fn instructions(&self) -> &[Instruction]
-        ensures { result.now ≡ self.now.code }
+    pub fn code(&self) -> Cursor<'a>
+        ensures { result ≡ self.now.code }
     {
-        &self.code
+        self.code.another()
     }
 }
 
-impl<'a> Entry<'a> for FunctionDefinition {
+impl<'a> Entry<'a> for FunctionDefinition<'a> {
     ghost from = { function_definition_from };
 
     ghost text = { function_definition_text };
@@ -140,7 +141,7 @@ impl<'a> Entry<'a> for FunctionDefinition {
         let is_entry = reader.flags()?;
         let acquires = reader.indices(alloc)?;
         let locals = reader.index()?;
-        let code = reader.instructions(alloc, version)?;
+        let code = Cursor::read(version, reader)?;
         Ok(FunctionDefinition {
             handle,
             visibility,
@@ -151,14 +152,15 @@ impl<'a> Entry<'a> for FunctionDefinition {
         })
     }
 
-    fn write(&self, _alloc: Global, out: &mut Vec<u8>) -> Result<(), AllocError> {
+    fn write(&self, alloc: Global, out: &mut Vec<u8>) -> Result<(), AllocError> {
+        let code = self.code().to_vec(alloc)?;
         let parts = FunctionParts {
             handle: self.handle(),
             visibility: self.visibility(),
             is_entry: self.is_entry(),
             acquires: self.acquires(),
             locals: self.locals(),
-            code: self.instructions(),
+            code: &code,
         };
         write_function_definition(parts, out)
     }

@@ -41,7 +41,7 @@ use mv_module_text::Reader;
 use mv_move_types::Refusal;
 use std::alloc::Global;
 
-/// Reads the module that the bytes are a text of; its names and the bytes of its constants remain slices of these bytes.
+/// Reads the module that the bytes are a text of; its names, the bytes of its constants and its code remain slices of these bytes.
 ///
 /// # Errors
 /// [`Refusal::Phase`] with 2 if the bytes aren't the text of a module; [`Refusal::Memory`] if an allocation failed.

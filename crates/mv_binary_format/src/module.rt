@@ -34,12 +34,12 @@ pub(crate) struct Parts<'a> {
     identifiers: Vec<Identifier<'a>>,
     addresses: Vec<Address>,
     structs: Vec<StructDefinition>,
-    functions: Vec<FunctionDefinition>,
+    functions: Vec<FunctionDefinition<'a>>,
     field_handles: Vec<FieldHandle>,
     own: u16,
 }
 
-/// A module that `decode` returned. Names and the bytes of constants are slices of its bytes. Its model is the record of its
+/// A module that `decode` returned. Names, the bytes of constants and code are slices of its bytes. Its model is the record of its
 /// tables, each part of which has a text. Its parts are allocated separately, so that handing the module from phase to phase
 /// doesn't move them. They are the one element of a vector, since a box can't be given a shorter lifetime.
 #[derive(Drop)]
@@ -92,7 +92,7 @@ impl<'a> Module<'a> {
         let identifiers = read_entries(alloc, version, TableKind::Identifiers, t)?;
         let addresses = read_entries(alloc, version, TableKind::Addresses, t)?;
         let structs = read_entries(alloc, version, TableKind::Structs, t)?;
-        let functions: Vec<FunctionDefinition> = read_entries(
+        let functions: Vec<FunctionDefinition<'_>> = read_entries(
             alloc,
             version,
             TableKind::Functions,
@@ -224,7 +224,7 @@ impl<'a> Module<'a> {
     }
 
     /// The functions that it defines, at most 256.
-    pub fn functions(&self) -> &[FunctionDefinition]
+    pub fn functions(&self) -> &[FunctionDefinition<'a>]
         ensures value { result.now ≡ self.now.functions }
         ensures fits { IsTrue (list_all (function_definition_fits self.now.version) self.now.functions) }
         ensures few { IsTrue (nat_le (length self.now.functions) 256) }

@@ -33,7 +33,7 @@ fn stacks_of<'t>(m: &'t Typed<'_>, f: usize, function: &FunctionDefinition) -> &
 pub struct BorrowDomain<'t, 'm> {
     module: &'t Bounded<'m>,
     place: usize,
-    function: &'t FunctionDefinition,
+    function: &'t FunctionDefinition<'m>,
     code: &'t [Instruction],
     stacks: &'t StackTypes,
 }

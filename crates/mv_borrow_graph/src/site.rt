@@ -51,7 +51,7 @@ pub fn leaves_edges(instruction: &Instruction) -> bool
 pub struct Site<'d, 'm> {
     pub module: &'d Bounded<'m>,
     pub place: usize,
-    pub function: &'d FunctionDefinition,
+    pub function: &'d FunctionDefinition<'m>,
     pub stack: &'d [Token],
 }
 

@@ -2,10 +2,10 @@
 use Rattle.mv_bound_rules.proofs.Common.{[], ℕ, ◌&&◌, ◌++◌, ◌+◌, ◌<◌, ◌∙◌, ◌∷◌, ◌≡◌, Bool, Bor, List, None, Some, ap, ap₂, arith, false, get_or, inl, inr, length, map, refl, sym, take, true, ltb-true}
 use Rattle.mv_bound_rules.proofs.Common.{take_more, none-some, slice_get_read, slice_get_within, list_all, slice_get, Contains, suc, zero, subst, and_parts, same_Some, find_index, Option, cond, option_map}
 use Rattle.std.specs.Slice.{IsItemAt}
-use Rattle.std.proofs.lemmas.List.{map-append, get_or_append_left, get_or-append-add}
+use Rattle.std.proofs.lemmas.List.{map-append, get_or_append_left, get_or-append-add, length-map}
 use Rattle.std.proofs.lemmas.List.Folds.{list_all_more, list_all_at}
-use Rattle.std.proofs.lemmas.Option.{slice_get_cases, slice_get_past, get_or_from_slice_get}
-use Rattle.std.proofs.Common.{All, length-append, ◌⊎◌}
+use Rattle.std.proofs.lemmas.Option.{slice_get_cases, slice_get_past, get_or_from_slice_get, slice_get-get_or, slice_get-map}
+use Rattle.std.proofs.Common.{All, IfSome, length-append, ◌⊎◌}
 use Rattle.mv_bound_rules.specs.Bounds.{below}
 
 -- one entry more passes
@@ -109,3 +109,13 @@ last_or_before (z ∷ zs) y (suc k) x e = elim (last_or_before zs y k x e) [ inl
 -- an index below the length, by its test
 pub there_below : {A : Type 0} (xs : List A) (k : ℕ) → below k xs ≡ true → (x : A) × (slice_get xs k ≡ Some x)
 there_below xs k h = element_at xs k (ltb-true k (length xs) h)
+
+-- what is listed of an entry, where it is listed of all
+pub listed_at : {A B X : Type 0} (v : A → B) (h : X → B) (all : List X) (i : ℕ) (x : A) (xs : List A) → map v xs ≡ map h all → i < length all → x ≡ get_or xs i x
+    → IfSome (slice_get all i) (λ d. v x ≡ h d)
+listed_at v h all i x xs is below at =
+    let d = element_at all i below in
+    let within : i < length xs = omega (arith, ap length is, length-map xs v, length-map all h) in
+    let here : Some (v x) ≡ Some (h d.0) =
+    ap (λ t. Some (v t)) at ∙ sym (ap (option_map v) (slice_get-get_or xs i x within)) ∙ sym (slice_get-map v xs i) ∙ ap (λ l. slice_get l i) is ∙ slice_get-map h all i ∙ ap (option_map h) d.1 in
+    rw d.1 (same_Some (v x) (h d.0) here)

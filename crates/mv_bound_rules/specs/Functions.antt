@@ -1,5 +1,6 @@
 -- What a function's index leads to.
-use Rattle.std.specs.Prelude.{◌≡◌, ◌<◌, ℕ, length, slice_get, Some}
+use Rattle.std.specs.Prelude.{◌≡◌, ◌<◌, ℕ, List, length, map, slice_get, Some}
+use Rattle.mv_move_types.specs.declared.instruction.Instruction.{Instruction}
 use Rattle.mv_move_types.specs.declared.tables.FunctionHandle.{FunctionHandle}
 use Rattle.mv_move_types.specs.Module.{Module, FunctionDefinition}
 
@@ -10,3 +11,7 @@ pub record IsDefined (m : Module) (f : ℕ) (d : FunctionDefinition) (h : Functi
   pub parameters : h.parameters < length m.signatures
   pub results : h.results < length m.signatures
   pub locals : d.locals < length m.signatures
+
+-- the code of each function
+abbrev pub codes_of : Module → List (List Instruction)
+codes_of m = map (λ (d : FunctionDefinition). d.code) m.functions

@@ -12,7 +12,7 @@ use mv_move_types::{FunctionHandle, Token};
 
 impl<'a> Bounded<'a> {
     // The definition of function `f`, and its handle.
-    fn defined(&self, f: usize) -> (&FunctionDefinition, &FunctionHandle)
+    fn defined(&self, f: usize) -> (&FunctionDefinition<'a>, &FunctionHandle)
         requires { f < length self.now.functions }
         ensures { IsDefined self.now f result.0.now result.1.now }
     {

@@ -1,9 +1,10 @@
 // Phase 3: every index is below the length of its table.
-ghost use Rattle.std.specs.Prelude.{◌≡◌, ◌↔◌, length, IsTrue};
+ghost use Rattle.std.specs.Prelude.{◌≡◌, ◌↔◌, length, map, IsTrue};
 ghost use Rattle.std.specs.List.{list_all};
 ghost use Rattle.mv_move_types.specs.Module.{Constant as ConstantEntry};
 ghost use Rattle.mv_bound_rules.specs.Bounds.{InBounds, below, value_type_in, token_in, module_handle_in, struct_handle_in, function_handle_in, field_in};
 ghost use Rattle.mv_bound_rules.specs.Bounds.{struct_in, field_handle_in, immediate_in, instruction_in, local_count, function_in};
+ghost use Rattle.mv_bound_rules.specs.Functions.{codes_of};
 
 use mv_binary_format::{FunctionDefinition, Module, StructDefinition};
 use mv_move_types::{
@@ -11,8 +12,9 @@ use mv_move_types::{
     ValueType,
 };
 
-/// Whether every index of a module is below the length of its table.
-pub fn in_bounds(m: &Module) -> bool
+/// Whether every index of a module is below the length of its table. `codes` are the instructions of each function.
+pub fn in_bounds(m: &Module, codes: &[Vec<Instruction>]) -> bool
+    requires { map (λ c. c.items) codes.now ≡ codes_of m.now }
     ensures { IsTrue result ↔ InBounds m.now }
 {
     module_handles_in(m)
@@ -21,7 +23,7 @@ pub fn in_bounds(m: &Module) -> bool
         && signatures_in(m)
         && constants_in(m)
         && structs_in(m)
-        && functions_in(m)
+        && functions_in(m, codes)
         && field_handles_in(m)
         && usize::from(m.own()) < m.module_handles().len()
 }
@@ -217,19 +219,27 @@ fn acquires_in(m: &Module, d: &FunctionDefinition) -> bool
 }
 
 /// Whether a function's handle, locals, acquires list and code name what is there.
-fn function_in(m: &Module, d: &FunctionDefinition) -> bool
+fn function_in(m: &Module, d: &FunctionDefinition, code: &[Instruction]) -> bool
+    requires { code.now ≡ d.now.code }
     ensures { result ≡ function_in m.now d.now }
 {
     let locals = local_count(m, d);
     usize::from(d.handle()) < m.function_handles().len()
         && usize::from(d.locals()) < m.signature_count()
         && acquires_in(m, d)
-        && code_in(m, locals, d.instructions())
+        && code_in(m, locals, code)
 }
 
-/// Whether what the functions name is there.
-fn functions_in(m: &Module) -> bool
+/// Whether what the functions name is there. `codes` are the instructions of each.
+fn functions_in(m: &Module, codes: &[Vec<Instruction>]) -> bool
+    requires { map (λ c. c.items) codes.now ≡ codes_of m.now }
     ensures { result ≡ list_all (function_in m.now) m.now.functions }
 {
-    m.functions().iter().all(|d| function_in(m, d))
+    let functions = m.functions();
+    for f in 0..codes.len() {
+        if !function_in(m, &functions[f], &codes[f]) {
+            return false;
+        }
+    }
+    true
 }

@@ -23,18 +23,20 @@ mod cycles;
 mod duplicates;
 mod indices;
 
-ghost use Rattle.std.specs.Prelude.{◌≡◌, IfOk, IfErr};
+ghost use Rattle.std.specs.Prelude.{◌≡◌, IfOk, IfErr, map};
 ghost use Rattle.mv_bounds.specs.Answers.{IsRefusedByBounds};
+ghost use Rattle.mv_bound_rules.specs.Functions.{codes_of};
 ghost use Rattle.mv_bound_rules.specs.Places.{IsBounded};
 
 pub use cycles::is_acyclic;
 use duplicates::well_defined;
 use indices::in_bounds;
+use mv_binary_format::code;
 pub use mv_bound_rules::{
     Bounded, Constant, FunctionDefinition, Module, StructDefinition, function_places, struct_places,
 };
-use mv_move_types::Refusal;
-use std::alloc::Global;
+use mv_move_types::{Instruction, Refusal};
+use std::alloc::{AllocError, Global};
 
 /// Tries phases 3 and 4 on a module.
 ///
@@ -47,16 +49,35 @@ pub fn check<'a>(alloc: Global, m: Module<'a>) -> Result<Bounded<'a>, Refusal>
     ensures ok { IfOk result (λ b. b ≡ m.entry) }
     ensures refused { IfErr result (IsRefusedByBounds m.entry) }
 {
-    let places = bounded_places(alloc, &m)?;
-    Ok(Bounded::new(m, places))
+    let codes = instructions(alloc, &m)?;
+    let places = bounded_places(alloc, &m, &codes)?;
+    Ok(Bounded::new(m, places, codes))
 }
 
-// Tries both phases, and gives the definition of each function handle, if the module has one.
-fn bounded_places(alloc: Global, m: &Module) -> Result<Vec<Option<usize>>, Refusal>
-    ensures ok { IfOk result (λ v. IsBounded m.now v.items) }
+// The instructions of each function.
+fn instructions(alloc: Global, m: &Module) -> Result<Vec<Vec<Instruction>>, AllocError>
+    ensures { IfOk result (λ v. map (λ c. c.items) v.items ≡ codes_of m.now) }
+{
+    let count = m.functions().len();
+    let mut codes = Vec::with_capacity(alloc, count)?;
+    for f in 0..count {
+        codes.push(code(m, f).to_vec(alloc)?)?;
+    }
+    Ok(codes)
+}
+
+// Tries both phases, and gives the definition of each function handle, if the module has one. `codes` are the instructions of each
+// function.
+fn bounded_places(
+    alloc: Global,
+    m: &Module,
+    codes: &[Vec<Instruction>],
+) -> Result<Vec<Option<usize>>, Refusal>
+    requires { map (λ c. c.items) codes.now ≡ codes_of m.now }
+    ensures ok { IfOk result (λ v. IsBounded m.now v.items (map (λ c. c.items) codes.now)) }
     ensures refused { IfErr result (IsRefusedByBounds m.now) }
 {
-    if !in_bounds(m) {
+    if !in_bounds(m, codes) {
         return Err(Refusal::Phase(3));
     }
     if !well_defined(alloc, m)? {

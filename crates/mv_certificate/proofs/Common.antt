@@ -2,7 +2,7 @@
 pub use borrow.Author.Count.{below_more}
 pub use Rattle.std.proofs.Common.{[], ℕ, ◌&&◌, ◌++◌, ◌+◌, ◌-◌, ◌<◌, ◌==◌, ◌∙◌, ◌∷◌, ◌≡◌, ◌≤◌, Bool, Contains, Err, IsTrue, List, None, Option, Some, ap, append-nil, append_assoc, arith}
 pub use Rattle.std.proofs.Common.{cond, drop, eq-eqb, false, flat_map, get_or, inl, inr, is_some, length, map, nat_le, nat_lt, option_map, refl, rules, slice_get, subst, suc, sym, take}
-pub use Rattle.std.proofs.Common.{true, true≢false, zero}
+pub use Rattle.std.proofs.Common.{Global, Vec, true, true≢false, zero}
 pub use Rattle.std.proofs.lemmas.Bool.{and_from, and_parts, eqb-true, false≢true, le-leb, leb-true}
 pub use Rattle.std.proofs.lemmas.Grind.{common_steps, flat_map-append}
 pub use Rattle.std.proofs.lemmas.List.{length-map, take_all, take_more}

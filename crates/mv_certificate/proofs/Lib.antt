@@ -12,4 +12,3 @@ pub mod Whole
 pub mod Functions
 pub mod Lists
 pub mod OneCertificate
-pub mod Paired

@@ -1,7 +1,17 @@
--- The texts of the elements of a list, written one after another.
+-- The lists of functions, and the texts of the elements of a list, written one after another.
 use Rattle.mv_certificate.proofs.Common.{[], ℕ, ◌++◌, ◌+◌, ◌<◌, ◌∙◌, ◌∷◌, ◌≡◌, ◌≤◌, List, ap, append-nil, append_assoc, flat_map, get_or, length, map, sym, take, flat_map-append, take_all}
 use Rattle.mv_certificate.proofs.Common.{take_more, uleb, counted}
-use Rattle.std.proofs.lemmas.List.{map_more}
+use Rattle.mv_certificate.proofs.Common.{Certificate, Global, Known, Option, Stated, Vec, arith, certificate_text, length-map, stated_text}
+use Rattle.std.proofs.Math.ListN.{get_or-map}
+use Rattle.std.proofs.lemmas.List.{map-append, map_more}
+
+-- the lists of so many functions
+abbrev pub lists : List (Vec (Option Known) Global) → Certificate
+lists functions = map (λ f. f.items) functions
+
+-- one more is pushed
+pub lists-more : (functions new : List (Vec (Option Known) Global)) (one : Vec (Option Known) Global) → new ≡ functions ++ one ∷ [] → lists new ≡ lists functions ++ one.items ∷ []
+lists-more functions new one pushed = ap lists pushed ∙ map-append (λ (f : Vec (Option Known) Global). f.items) functions (one ∷ [])
 
 -- one more is written
 pub text-next : {A : Type 0} (text : A → List ℕ) (xs : List A) (i : ℕ) (d x : A) (start out new : List ℕ) → i < length xs → x ≡ get_or xs i d
@@ -38,3 +48,13 @@ codes-more code xs i d byte start out new lt coded before now =
 -- all are written
 pub codes-end : {A : Type 0} (code : A → ℕ) (xs : List A) (i : ℕ) (start out : List ℕ) → length xs ≤ i → out ≡ start ++ map code (take i xs) → out ≡ start ++ map code xs
 codes-end code xs i start out le before = before ∙ ap (λ z. start ++ map code z) (take_all i xs le)
+
+-- the text of one function more
+pub function-next : (functions : List (Vec (Option Known) Global)) (c : Certificate) (i : ℕ) (one : Vec (Option Known) Global) (stated : Stated) (out new : List ℕ) → i < length functions
+    → one ≡ get_or functions i one → lists functions ≡ c → stated ≡ one.items → out ≡ certificate_text (take i c) → new ≡ out ++ flat_map stated_text stated
+    → new ≡ certificate_text (take (i + 1) c)
+function-next functions c i one stated out new lt at all is before now =
+    let items = λ (f : Vec (Option Known) Global). f.items in
+    let low : i < length c = omega (arith, ap length all, length-map functions items) in
+    let here : stated ≡ get_or c i one.items = is ∙ ap items at ∙ sym (get_or-map items functions i one) ∙ ap (λ z. get_or z i one.items) all in
+    text-next (flat_map stated_text) c i one.items stated [] out new low here before now

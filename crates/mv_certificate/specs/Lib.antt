@@ -4,4 +4,3 @@ pub mod Reads
 pub mod Laws
 pub mod Functions
 pub mod Known
-pub mod Flows

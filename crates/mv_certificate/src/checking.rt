@@ -1,20 +1,20 @@
 // Whether what a certificate states of a module's functions holds.
 
-ghost use Rattle.std.specs.Prelude.{◌≡◌, ◌<◌, ◌⊎◌, length, slice_get, Some, IfOk, IfErr, OnOk, IsTrue};
+ghost use Rattle.std.specs.Prelude.{◌≡◌, ◌<◌, ◌⊎◌, length, option_map, slice_get, Some, IfOk, IfErr, OnOk, IsTrue};
 ghost use Rattle.mv_move_types.specs.Refusals.{IsRefusedIn};
 ghost use Rattle.mv_acquires.specs.Acquires.{AcquiresHold};
+ghost use Rattle.mv_lattice.specs.Flow.{states_of};
 ghost use Rattle.mv_certificate.specs.Answers.{IsRefusedByCertificate};
 ghost use Rattle.mv_certificate_rules.specs.Certificate.{Certificate, all_locals_hold, all_edges_hold, certificate_holds};
 ghost use Rattle.mv_certificate.specs.Functions.{LocalsHoldAt, EdgesHoldAt};
 ghost use Rattle.mv_certificate_rules.specs.Shape.{AllStatedFit};
 ghost use Rattle.mv_certificate.specs.Reads.{FitsAt};
 
-use super::certificate::{Cert, Stated};
+use super::certificate::{Cert, Known};
 use super::shape;
 use mv_borrow_graph::BorrowDomain;
-use mv_edges::Edges;
 use mv_lattice::{StepError, check_flow};
-use mv_locals_safety::LocalsDomain;
+use mv_locals_safety::{Availabilities, LocalsDomain};
 use mv_move_types::Refusal;
 use mv_type_rules::Typed;
 use mv_ways::Borrows;
@@ -30,8 +30,37 @@ fn refusal_in(phase: u8, e: StepError) -> Refusal
     }
 }
 
+/// The availabilities that are stated for a block, copied.
+fn locals_of(alloc: Global, stated: &Option<Known>) -> Result<Option<Availabilities>, AllocError>
+    ensures { IfOk result (λ s. s ≡ option_map (λ k. k.locals) stated.now) }
+{
+    match stated {
+        Some(known) => Ok(Some(known.locals.copy(alloc)?)),
+        None => Ok(None),
+    }
+}
+
+/// The availabilities that are stated for each block, copied.
+fn all_locals(
+    alloc: Global,
+    stated: &[Option<Known>],
+) -> Result<Vec<Option<Availabilities>>, AllocError>
+    ensures { IfOk result (λ v. v.items ≡ states_of (λ k. k.locals) stated.now) }
+{
+    let mut states = Vec::with_capacity(alloc, stated.len())?;
+    for block in stated {
+        states.push(locals_of(alloc, block)?)?;
+    }
+    Ok(states)
+}
+
 /// Phase 10 for function `f`: the stated availabilities are a flow of its locals.
-fn check_locals_of(alloc: Global, m: &Typed<'_>, f: usize, stated: &Stated) -> Result<(), Refusal>
+fn check_locals_of(
+    alloc: Global,
+    m: &Typed<'_>,
+    f: usize,
+    stated: &[Option<Known>],
+) -> Result<(), Refusal>
     requires inside { f < length m.now.functions }
     requires fits { FitsAt m.now f stated.now }
     ensures holds { OnOk result (LocalsHoldAt m.now f stated.now) }
@@ -41,38 +70,44 @@ fn check_locals_of(alloc: Global, m: &Typed<'_>, f: usize, stated: &Stated) -> R
     let start = domain.start(alloc)?;
     let function = shape::function_at(m, f);
     let graph = shape::graph_of(m, f, function);
-    match check_flow(alloc, &domain, graph, &start, stated.locals()) {
+    let states = all_locals(alloc, stated)?;
+    match check_flow(alloc, &domain, graph, &start, &states) {
         Ok(()) => Ok(()),
         Err(e) => Err(refusal_in(10, e)),
     }
 }
 
 /// The edges that are stated for a block, as a state of the domain. They stay where they are.
-fn state_of(edges: &Option<Edges>) -> Option<Borrows<'_>>
-    ensures { result ≡ edges.entry.now }
+fn edges_of(stated: &Option<Known>) -> Option<Borrows<'_>>
+    ensures { result ≡ option_map (λ k. k.edges) stated.entry.now }
 {
-    match edges {
-        Some(edges) => Some(Borrows::of_stated(edges)),
+    match stated {
+        Some(known) => Some(Borrows::of_stated(&known.edges)),
         None => None,
     }
 }
 
 /// The edges that are stated for each block, as states of the domain.
-fn states_of(
+fn all_edges(
     alloc: Global,
-    stated: &[Option<Edges>],
+    stated: &[Option<Known>],
 ) -> Result<Vec<Option<Borrows<'_>>>, AllocError>
-    ensures { IfOk result (λ v. v.items ≡ stated.entry.now) }
+    ensures { IfOk result (λ v. v.items ≡ states_of (λ k. k.edges) stated.entry.now) }
 {
     let mut states = Vec::with_capacity(alloc, stated.len())?;
-    for edges in stated {
-        states.push(state_of(edges))?;
+    for block in stated {
+        states.push(edges_of(block))?;
     }
     Ok(states)
 }
 
 /// Phase 11 for function `f`: the stated edges are a flow of its borrow graph.
-fn check_edges_of(alloc: Global, m: &Typed<'_>, f: usize, stated: &Stated) -> Result<(), Refusal>
+fn check_edges_of(
+    alloc: Global,
+    m: &Typed<'_>,
+    f: usize,
+    stated: &[Option<Known>],
+) -> Result<(), Refusal>
     requires inside { f < length m.now.functions }
     requires fits { FitsAt m.now f stated.now }
     ensures holds { OnOk result (EdgesHoldAt m.now f stated.now) }
@@ -83,7 +118,7 @@ fn check_edges_of(alloc: Global, m: &Typed<'_>, f: usize, stated: &Stated) -> Re
     let function = shape::function_at(m, f);
     let graph = shape::graph_of(m, f, function);
     shape::has_start(m, f, function);
-    let states = states_of(alloc, stated.edges())?;
+    let states = all_edges(alloc, stated)?;
     match check_flow(alloc, &domain, graph, &empty, &states) {
         Ok(()) => Ok(()),
         Err(e) => Err(refusal_in(11, e)),
@@ -91,7 +126,7 @@ fn check_edges_of(alloc: Global, m: &Typed<'_>, f: usize, stated: &Stated) -> Re
 }
 
 /// What is stated of the function at a place.
-fn stated_of(c: &Cert, f: usize) -> &Stated
+fn stated_of(c: &Cert, f: usize) -> &[Option<Known>]
     requires { f < length c.now }
     ensures { slice_get c.entry.now f ≡ Some result.now }
 {
@@ -99,7 +134,7 @@ fn stated_of(c: &Cert, f: usize) -> &Stated
 }
 
 /// What is stated of function `f`, which fits it.
-fn stated_at<'t>(m: &Typed<'_>, c: &'t Cert, f: usize) -> &'t Stated
+fn stated_at<'t>(m: &Typed<'_>, c: &'t Cert, f: usize) -> &'t [Option<Known>]
     requires shape { AllStatedFit m.now m.now.functions c.now }
     requires inside { f < length m.now.functions }
     ensures at { slice_get c.entry.now f ≡ Some result.now }

@@ -30,7 +30,7 @@ ghost use Rattle.mv_certificate_rules.specs.CertificateText.{certificate_text, I
 ghost use Rattle.mv_certificate.specs.Answers.{IsRefusedByCertificate};
 ghost use Rattle.mv_certificate.specs.Laws.{IsReadBackAs};
 
-pub use certificate::{Cert, Known, Stated};
+pub use certificate::{Cert, Known};
 pub use laws::texts_are_of_one_certificate;
 pub use mv_certificate_rules::Verified;
 use mv_move_types::Refusal;

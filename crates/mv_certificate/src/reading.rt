@@ -9,7 +9,7 @@ ghost use Rattle.mv_certificate_rules.specs.Certificate.{Certificate};
 ghost use Rattle.mv_certificate.specs.Reads.{IsReadAt, IsUnreadAt};
 ghost use Rattle.mv_certificate.specs.Parsing.{availability_from, node_from, openness_from, label_from, edge_from, edges_from, block_from, stated_from};
 
-use super::certificate::{Cert, Known, Stated};
+use super::certificate::{Cert, Known};
 use super::shape;
 use mv_binary_format::{FunctionDefinition, Module};
 use mv_cfg::Block;
@@ -191,15 +191,15 @@ fn read_stated(
     m: &Module<'_>,
     d: &FunctionDefinition,
     blocks: &[Block],
-) -> Result<Stated, Refusal>
-    ensures ok { IfOk result (λ v. stated_from m.now d.now (map (λ b. b.reached) blocks.now) reader.old ≡ Some (v, reader.new)) }
+) -> Result<Vec<Option<Known>>, Refusal>
+    ensures ok { IfOk result (λ v. stated_from m.now d.now (map (λ b. b.reached) blocks.now) reader.old ≡ Some (v.items, reader.new)) }
     ensures refused { result ≡ Err (Refusal.Phase 2) → stated_from m.now d.now (map (λ b. b.reached) blocks.now) reader.old ≡ None }
     ensures errors { IfErr result (λ e. (e ≡ Refusal.Phase 2) ⊎ (e ≡ Refusal.Memory)) }
 {
-    let mut stated = Stated::new(alloc);
+    let mut stated = Vec::new(alloc);
     'each: for block in blocks {
         let one = read_block(alloc, reader, m, d, block.reached)?;
-        stated = stated.with(one)?;
+        stated.push(one).map_err(|_| Refusal::Memory)?;
     }
     Ok(stated)
 }
@@ -210,9 +210,9 @@ fn read_function(
     reader: &mut Reader<'_>,
     m: &Typed<'_>,
     f: usize,
-) -> Result<Stated, Refusal>
+) -> Result<Vec<Option<Known>>, Refusal>
     requires { f < length m.now.functions }
-    ensures ok { IfOk result (λ v. IsReadAt m.now f reader.old reader.new v) }
+    ensures ok { IfOk result (λ v. IsReadAt m.now f reader.old reader.new v.items) }
     ensures refused { result ≡ Err (Refusal.Phase 2) → IsUnreadAt m.now f reader.old }
     ensures errors { IfErr result (λ e. (e ≡ Refusal.Phase 2) ⊎ (e ≡ Refusal.Memory)) }
 {

@@ -27,7 +27,7 @@ pub fn function_count(m: &Typed<'_>) -> usize
 }
 
 /// The definition of function `f`, which is well typed and has few locals.
-pub fn function_at<'t>(m: &'t Typed<'_>, f: usize) -> &'t FunctionDefinition
+pub fn function_at<'t, 'm>(m: &'t Typed<'m>, f: usize) -> &'t FunctionDefinition<'m>
     requires { f < length m.now.functions }
     ensures at { slice_get m.entry.now.functions f ≡ Some result.now }
     ensures typed { IsTrue (function_is_typed m.entry.now result.now) }

@@ -1,13 +1,12 @@
 // Writing the parts of a certificate.
 
-ghost use Rattle.std.specs.Prelude.{◌≡◌, ◌<◌, ◌++◌, ◌∷◌, [], length, map, flat_map, slice_get, Option, Some, OnOk};
+ghost use Rattle.std.specs.Prelude.{◌≡◌, ◌++◌, ◌∷◌, [], map, flat_map, OnOk};
 ghost use Rattle.mv_uleb.specs.Uleb.{uleb};
 ghost use Rattle.mv_module_text.specs.Entries.{counted};
 ghost use Rattle.mv_edges.specs.Ascending.{node_kind, node_index};
 ghost use Rattle.mv_certificate_rules.specs.CertificateText.{availability_code, node_text, edge_text, stated_text};
-ghost use Rattle.mv_certificate_rules.specs.Certificate.{Known as KnownRecord};
 
-use super::certificate::Stated;
+use super::certificate::Known;
 use mv_edges::{Edge, Edges};
 use mv_move_types::{Availability, Node};
 use std::alloc::AllocError;
@@ -104,26 +103,25 @@ fn write_edges(edges: &Edges, out: &mut Vec<u8>) -> Result<(), AllocError>
 }
 
 /// Writes what is stated of a block: its mark, and what is known.
-fn write_block(stated: &Stated, block: usize, out: &mut Vec<u8>) -> Result<(), AllocError>
-    requires { block < length stated.now }
-    ensures { (known : Option KnownRecord) → slice_get stated.now block ≡ Some known → OnOk result (out.new.items ≡ out.old.items ++ stated_text known) }
+fn write_block(stated: &Option<Known>, out: &mut Vec<u8>) -> Result<(), AllocError>
+    ensures { OnOk result (out.new.items ≡ out.old.items ++ stated_text stated.now) }
 {
-    match stated.at(block) {
+    match stated {
         None => write_byte(0, out),
-        Some((locals, edges)) => {
+        Some(known) => {
             write_byte(1, out)?;
-            write_availabilities(locals.as_slice(), out)?;
-            write_edges(edges, out)
+            write_availabilities(known.locals.as_slice(), out)?;
+            write_edges(&known.edges, out)
         }
     }
 }
 
 /// Writes what is stated of the blocks of a function.
-pub fn write_stated(stated: &Stated, out: &mut Vec<u8>) -> Result<(), AllocError>
+pub fn write_stated(stated: &[Option<Known>], out: &mut Vec<u8>) -> Result<(), AllocError>
     ensures { OnOk result (out.new.items ≡ out.old.items ++ flat_map stated_text stated.now) }
 {
-    for block in 0..stated.len() {
-        write_block(stated, block, out)?;
+    for block in stated {
+        write_block(block, out)?;
     }
     Ok(())
 }

@@ -163,10 +163,12 @@ fn functions_of(alloc: Global, m: &Module<'_>) -> Result<Vec<FunctionEntry>, All
     ensures value { IfOk result (λ v. v.items ≡ map (function_by m.now) m.now.functions) }
     ensures few { IfOk result (λ v. length v.items ≤ 256) }
 {
-    m.functions()
-        .iter()
-        .map(|d| function_entry(m, d))
-        .collect(alloc)
+    let functions = m.functions();
+    let mut entries = Vec::with_capacity(alloc, functions.len())?;
+    for d in functions {
+        entries.push(function_entry(m, d))?;
+    }
+    Ok(entries)
 }
 
 // The names of fields, at the end of an empty list.

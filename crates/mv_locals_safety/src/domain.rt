@@ -30,7 +30,7 @@ fn signatures_of<'t>(
 }
 
 /// The definition of function `f`.
-fn function_at<'t>(home: &'t Module<'_>, f: usize) -> &'t FunctionDefinition
+fn function_at<'t, 'm>(home: &'t Module<'m>, f: usize) -> &'t FunctionDefinition<'m>
     requires { f < length home.now.functions }
     ensures { slice_get home.entry.now.functions f ≡ Some result.now }
 {
@@ -61,7 +61,7 @@ fn may_all_remain(m: &Bounded<'_>, locals: &[Token], s: &[Availability]) -> bool
 #[derive(Drop)]
 pub struct LocalsDomain<'t, 'm> {
     bounded: &'t Bounded<'m>,
-    function: &'t FunctionDefinition,
+    function: &'t FunctionDefinition<'m>,
     code: &'t [Instruction],
     parameters: usize,
     locals: Vec<Token>,

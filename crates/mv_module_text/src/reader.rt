@@ -13,7 +13,7 @@ ghost use Rattle.mv_module_text.specs.Reads.{Reads, ReadsAs, Marks, Collects};
 
 use crate::{Constant, codes};
 use byteorder::{BigEndian, ByteOrder, LittleEndian};
-use mv_move_types::limits::{MOST_FIELDS, MOST_INSTRUCTIONS, MOST_NAME_BYTES, MOST_TYPES};
+use mv_move_types::limits::{MOST_FIELDS, MOST_NAME_BYTES, MOST_TYPES};
 use mv_move_types::{
     Address, Field, FieldHandle, FunctionHandle, Instruction, LeafKind, ModuleHandle, Refusal,
     StructHandle, Token, ValueType, Version, Visibility, Width,
@@ -50,6 +50,14 @@ impl<'a> Reader<'a> {
         ensures { result ≡ bytes.now }
     {
         Reader { rest: bytes }
+    }
+
+    /// Another reader of the bytes that are left.
+    #[inline]
+    pub fn copied(&self) -> Reader<'a>
+        ensures { result ≡ self.now }
+    {
+        Reader { rest: self.rest }
     }
 
     /// Whether no bytes are left.
@@ -416,21 +424,6 @@ impl<'a> Reader<'a> {
         self.collect(alloc, Version::Five, MOST_INDEX)
     }
 
-    /// Reads the code of a function: its instructions, as the version has them, after their number, which is at most
-    /// 4,096.
-    ///
-    /// # Errors
-    /// As [`Reader::signature`].
-    pub fn instructions(
-        &mut self,
-        alloc: Global,
-        version: Version,
-    ) -> Result<Vec<Instruction>, Refusal>
-        ensures { Collects (counted_from 4096 (instruction_from (version_number version))) self.old result self.new }
-    {
-        self.collect(alloc, version, MOST_INSTRUCTIONS)
-    }
-
     // Reads entries after their number, which is at most `most`.
     fn collect<T: Entry>(
         &mut self,
@@ -486,14 +479,5 @@ impl Entry for u16 {
     #[inline(always)]
     fn read(reader: &mut Reader, _: Version) -> Result<Self, Refusal> {
         reader.index()
-    }
-}
-
-impl Entry for Instruction {
-    ghost from = { instruction_from };
-
-    #[inline(always)]
-    fn read(reader: &mut Reader, version: Version) -> Result<Self, Refusal> {
-        reader.instruction(version)
     }
 }

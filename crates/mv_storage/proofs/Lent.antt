@@ -7,7 +7,8 @@ use Rattle.std.proofs.lemmas.Bool.{le-leb}
 use Rattle.std.specs.Option.{option_map, option_map_or, option_and_then}
 use Rattle.mv_storage.proofs.Common.{Key, FlatEntry, IsTracked, words_under, of_layer, layer_at, value_at, is_vacant, key_cmp, slot_at, Places, Slot, Committed, Current}
 use Rattle.mv_storage.specs.declared.slot.Slot.TheVariants.{Vacant, Gone, Empty, One, Many, AddedOne, AddedMany, Changed}
-use Rattle.mv_storage.specs.WordLists.{laid_over}
+use Rattle.mv_storage.specs.WordLists.{laid_over, piece}
+use Rattle.mv_storage.proofs.Pieces.{piece-fits, piece-is}
 use Rattle.mv_storage.specs.Map.{Layers, written, written_if}
 use Rattle.mv_storage.specs.Slots.{is_pinned, IsOwn, IsOwnAt, KeepsPinned, ShowsSame, layers, written_at, written_slot}
 use Rattle.mv_storage.specs.declared.slot.Layer.{Layer}
@@ -124,28 +125,35 @@ get-within (x ∷ xs) zero s e = omega arith
 get-within (x ∷ xs) (suc i) s e = omega (arith, get-within xs i s e)
 
 module _ (m₀ m : Places) (touched : List (Key × ℕ)) (had : IsTracked m touched) (ordered : IsOrdered key_cmp m₀.tree) (same : (layer : Layer) → ShowsSame layer m₀ m) (key : Key) (from width : ℕ)
-    (fits : IfSome (words_under (layers m₀).current key) (λ old. from + width ≤ length old)) where
+    (own : Result (Option ℕ) AllocError) (there : IfOk own (λ found. is_some found ≡ is_some (option_and_then (piece from width) (value_at Current m₀ key)))) where
   layers-kept : layers m ≡ layers m₀
   layers-kept = layers-equal (layers m) (layers m₀) (shown-same Committed Committed m₀ m ordered had.sound.ordered (same Committed)) (shown-same Current Current m₀ m ordered had.sound.ordered (same Current)) refl
 
-  owned : (p : ℕ) (own : Result (Option ℕ) AllocError) → IfOk own (λ found. IfSome found (IsOwnAt m key)) → own ≡ Ok (Some p) → IsOwnAt m key p
-  owned p own h e = subst (λ o. IfOk o (λ found. IfSome found (IsOwnAt m key))) e h
+  owned : (p : ℕ) → IfOk own (λ found. IfSome found (IsOwnAt m key)) → own ≡ Ok (Some p) → IsOwnAt m key p
+  owned p h e = subst (λ o. IfOk o (λ found. IfSome found (IsOwnAt m key))) e h
+
+  -- as many words as are asked for are there
+  fits : (p : ℕ) → own ≡ Ok (Some p) → IfSome (words_under (layers m₀).current key) (λ old. from + width ≤ length old)
+  fits p e =
+      let found : is_some (Some p) ≡ is_some (option_and_then (piece from width) (value_at Current m₀ key)) =
+      subst (λ o. IfOk o (λ found. is_some found ≡ is_some (option_and_then (piece from width) (value_at Current m₀ key)))) e there in
+      subst (λ (o : Option (List ℕ)). IfSome o (λ old. from + width ≤ length old)) (sym (words_under-shown Current m₀ key ordered)) (piece-fits from width (value_at Current m₀ key) (sym found))
 
   under : (p : ℕ) (s : Slot) → get key_cmp m.tree key ≡ Some p → slice_get m.slots.items p ≡ Some s → of_layer Current s ≡ words_under (layers m₀).current key
   under p s at there =
       let here : slot_at m key ≡ Some s = ap (λ x. option_and_then (slice_get m.slots.items) x) at ∙ there in
       ap (layer_at Current) (sym here) ∙ same Current key ∙ sym (words_under-shown Current m₀ key ordered)
 
-  fitting : (p : ℕ) (s : Slot) → get key_cmp m.tree key ≡ Some p → slice_get m.slots.items p ≡ Some s → IfSome (of_layer Current s) (λ old. from + width ≤ length old)
-  fitting p s at there = subst (λ (o : Option (List ℕ)). IfSome o (λ old. from + width ≤ length old)) (sym (under p s at there)) fits
+  fitting : (p : ℕ) (s : Slot) → own ≡ Ok (Some p) → get key_cmp m.tree key ≡ Some p → slice_get m.slots.items p ≡ Some s → IfSome (of_layer Current s) (λ old. from + width ≤ length old)
+  fitting p s found at stands = subst (λ (o : Option (List ℕ)). IfSome o (λ old. from + width ≤ length old)) (sym (under p s at stands)) (fits p found)
 
   -- the words there can be lent
-  pub can-lend : (place : Option ℕ) (lent : Bool) (own : Result (Option ℕ) AllocError) → Found m key width place lent own
+  pub can-lend : (place : Option ℕ) (lent : Bool) → Found m key width place lent own
       → IfSome place (λ p. (1 ≤ width) × (p < length m.slots.items) × ((s : Slot) → slice_get m.slots.items p ≡ Some s → IsOwn s × IfSome (of_layer Current s) (λ old. from + width ≤ length old)))
-  can-lend None lent own f = tt
-  can-lend (Some p) lent own f =
-      let o = owned p own f.0 f.1.0 in
-      (f.1.1, get-within m.slots.items p o.1.0 o.1.1, λ s e. (own-of o.1.0 s (sym o.1.1 ∙ e) o.1.2, fitting p s o.0 e))
+  can-lend None lent f = tt
+  can-lend (Some p) lent f =
+      let o = owned p f.0 f.1.0 in
+      (f.1.1, get-within m.slots.items p o.1.0 o.1.1, λ s e. (own-of o.1.0 s (sym o.1.1 ∙ e) o.1.2, fitting p s f.1.0 o.0 e))
     where
       own-of : (s t : Slot) → Some s ≡ Some t → IsOwn s → IsOwn t
       own-of s t e h = let same : s ≡ t = cc in subst IsOwn same h
@@ -156,32 +164,32 @@ module _ (m₀ m : Places) (touched : List (Key × ℕ)) (had : IsTracked m touc
   no-words false wide h = refl
 
   -- what they leave once they are given back
-  pub opened-layers : (place : Option ℕ) (lent : Bool) (own : Result (Option ℕ) AllocError) → Found m key width place lent own → (words : List ℕ)
+  pub opened-layers : (place : Option ℕ) (lent : Bool) → Found m key width place lent own → (words : List ℕ)
       → layers (written_at m place from words) ≡ written_if lent width (layers m₀) key from words
-  opened-layers None lent own f words = rw (no-words lent (nat_lt 0 width) f.1) layers-kept
-  opened-layers (Some p) lent own f words =
-      let o = owned p own f.0 f.1.0 in
+  opened-layers None lent f words = rw (no-words lent (nat_lt 0 width) f.1) layers-kept
+  opened-layers (Some p) lent f words =
+      let o = owned p f.0 f.1.0 in
       let wide : nat_lt 0 width ≡ true = le-leb 1 width f.1.1 in
       rw (o.1.1, f.1.2, wide)
-      (given-layers m touched had key p o.0 o.1.0 o.1.1 o.1.2 from width f.1.1 (fitting p o.1.0 o.0 o.1.1) words
+      (given-layers m touched had key p o.0 o.1.0 o.1.1 o.1.2 from width f.1.1 (fitting p o.1.0 f.1.0 o.0 o.1.1) words
       ∙ ap (λ (l : Layers). as_layers l.committed (written l.current key from words) l.marks) layers-kept)
     where
       as_layers : List FlatEntry → List FlatEntry → List (List FlatEntry) → Layers
       as_layers x y z = record { committed = x; current = y; marks = z }
 
-  pub opened-pinned : (place : Option ℕ) (lent : Bool) (own : Result (Option ℕ) AllocError) → Found m key width place lent own → (words : List ℕ)
+  pub opened-pinned : (place : Option ℕ) (lent : Bool) → Found m key width place lent own → (words : List ℕ)
       → KeepsPinned m (written_at m place from words)
-  opened-pinned None lent own f words = λ q place h. h
-  opened-pinned (Some p) lent own f words =
-      let o = owned p own f.0 f.1.0 in
-      rw o.1.1 (given-pinned m touched had key p o.0 o.1.0 o.1.1 o.1.2 from width f.1.1 (fitting p o.1.0 o.0 o.1.1) words)
+  opened-pinned None lent f words = λ q place h. h
+  opened-pinned (Some p) lent f words =
+      let o = owned p f.0 f.1.0 in
+      rw o.1.1 (given-pinned m touched had key p o.0 o.1.0 o.1.1 o.1.2 from width f.1.1 (fitting p o.1.0 f.1.0 o.0 o.1.1) words)
 
-  pub opened-tracked : (place : Option ℕ) (lent : Bool) (own : Result (Option ℕ) AllocError) → Found m key width place lent own → (words : List ℕ)
+  pub opened-tracked : (place : Option ℕ) (lent : Bool) → Found m key width place lent own → (words : List ℕ)
       → IsTracked (written_at m place from words) touched
-  opened-tracked None lent own f words = record { sound = record { ordered = had.sound.ordered; fits = had.sound.fits; used = had.sound.used; apart = had.sound.apart }; noted = had.noted; placed = had.placed }
-  opened-tracked (Some p) lent own f words =
-      let o = owned p own f.0 f.1.0 in
-      rw o.1.1 (given-tracked m touched had key p o.0 o.1.0 o.1.1 o.1.2 from width f.1.1 (fitting p o.1.0 o.0 o.1.1) words)
+  opened-tracked None lent f words = record { sound = record { ordered = had.sound.ordered; fits = had.sound.fits; used = had.sound.used; apart = had.sound.apart }; noted = had.noted; placed = had.placed }
+  opened-tracked (Some p) lent f words =
+      let o = owned p f.0 f.1.0 in
+      rw o.1.1 (given-tracked m touched had key p o.0 o.1.0 o.1.1 o.1.2 from width f.1.1 (fitting p o.1.0 f.1.0 o.0 o.1.1) words)
 
   pub opened-tree : (place : Option ℕ) (words : List ℕ) → (written_at m place from words).tree ≡ m.tree
   opened-tree None words = refl
@@ -192,17 +200,19 @@ module _ (m₀ m : Places) (touched : List (Key × ℕ)) (had : IsTracked m touc
       by (Some s) = refl
 
   -- which words they are
-  pub opened-words : (place : Option ℕ) (lent : Bool) (own : Result (Option ℕ) AllocError) → Found m key width place lent own → (now : List ℕ) → (lent ≡ true → (p : ℕ) × (own ≡ Ok (Some p)))
+  pub opened-words : (place : Option ℕ) (lent : Bool) → Found m key width place lent own → (now : List ℕ) → (lent ≡ true → (p : ℕ) × (own ≡ Ok (Some p)))
       → IfSome place (λ p. Some now ≡ option_map (λ old. take width (drop from old)) (option_and_then (of_layer Current) (slice_get m.slots.items p))) → (place ≡ None → now ≡ [])
-      → lent ≡ true → Some now ≡ option_map (λ old. take width (drop from old)) (words_under (layers m₀).current key)
-  opened-words (Some p) lent own f now found words none is =
-      let o = owned p own f.0 f.1.0 in
+      → lent ≡ true → Some now ≡ option_and_then (piece from width) (words_under (layers m₀).current key)
+  opened-words (Some p) lent f now found words none is =
+      let o = owned p f.0 f.1.0 in
       words ∙ ap (λ x. option_map (λ (old : List ℕ). take width (drop from old)) (option_and_then (of_layer Current) x)) o.1.1 ∙ ap (option_map (λ (old : List ℕ). take width (drop from old))) (under p o.1.0 o.0 o.1.1)
-  opened-words None lent own f now found words none is =
+      ∙ sym (piece-is from width (words_under (layers m₀).current key) (fits p f.1.0))
+  opened-words None lent f now found words none is =
       let had-place = found is in
-      let o = owned had-place.0 own f.0 had-place.1 in
+      let o = owned had-place.0 f.0 had-place.1 in
       let narrow : width ≡ 0 = thin width (λ wide. let e : true ≡ false = sym is ∙ f.1 wide in cc) in
       ap Some (none refl) ∙ empty (of_layer Current o.1.0) narrow o.1.2.1 ∙ ap (option_map (λ (old : List ℕ). take width (drop from old))) (under had-place.0 o.1.0 o.0 o.1.1)
+      ∙ sym (piece-is from width (words_under (layers m₀).current key) (fits had-place.0 had-place.1))
     where
       thin : (n : ℕ) → (nat_lt 0 n ≡ true → ⊥) → n ≡ 0
       thin zero h = refl
@@ -212,13 +222,14 @@ module _ (m₀ m : Places) (touched : List (Key × ℕ)) (had : IsTracked m touc
       empty None e h = cc
       empty (Some old) e h = rw e refl
 
--- nothing is stored where that is what was found
-pub none-stored : (m₀ : Places) (key : Key) (ordered : IsOrdered key_cmp m₀.tree) (own : Result (Option ℕ) AllocError) (stored : Bool)
-    → IfOk own (λ found. is_some found ≡ is_some (value_at Current m₀ key)) → IfOk own (λ found. stored ≡ is_some found) → OnErr own (stored ≡ true)
-    → stored ≡ false → words_under (layers m₀).current key ≡ None
-none-stored m₀ key ordered (Ok found) stored none is err e = words_under-shown Current m₀ key ordered ∙ no_value (value_at Current m₀ key) (sym none ∙ sym is ∙ e)
+-- too few are there where that is what was found
+pub none-there : (m₀ : Places) (key : Key) (from width : ℕ) (ordered : IsOrdered key_cmp m₀.tree) (own : Result (Option ℕ) AllocError) (there : Bool)
+    → IfOk own (λ found. is_some found ≡ is_some (option_and_then (piece from width) (value_at Current m₀ key))) → IfOk own (λ found. there ≡ is_some found) → OnErr own (there ≡ true)
+    → there ≡ false → option_and_then (piece from width) (words_under (layers m₀).current key) ≡ None
+none-there m₀ key from width ordered (Ok found) there none is err e =
+    ap (option_and_then (piece from width)) (words_under-shown Current m₀ key ordered) ∙ no_value (option_and_then (piece from width) (value_at Current m₀ key)) (sym none ∙ sym is ∙ e)
   where
     no_value : (o : Option (List ℕ)) → is_some o ≡ false → o ≡ None
     no_value None h = refl
     no_value (Some x) h = cc
-none-stored m₀ key ordered (Err x) stored none is err e = let f : true ≡ false = sym err ∙ e in cc
+none-there m₀ key from width ordered (Err x) there none is err e = let f : true ≡ false = sym err ∙ e in cc

@@ -3,6 +3,7 @@ pub mod Keys
 pub mod KnownLemmas
 pub mod Maps
 pub mod PlaceLemmas
+pub mod Pieces
 pub mod SlotReads
 pub mod Shown
 pub mod Pinned

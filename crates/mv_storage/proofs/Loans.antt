@@ -1,7 +1,7 @@
 -- What the proof of `edit` ends with: what is said of the loan, and what the answer's type is.
-use Rattle.std.specs.Prelude.{IfSome, ◌≤◌, ◌+◌, length, nat_lt}
+use Rattle.std.specs.Prelude.{IfSome, ◌≤◌, ◌+◌, length, nat_lt, is_some, option_and_then}
 use Rattle.std.proofs.Common.{arith}
-use Rattle.std.proofs.Common.{◌≡◌, ℕ, T, Bool, true, false, not, cond, List, [], ◌∷◌, Option, Some, None, Result, Ok, Err, refl, sym, subst, MutBor}
+use Rattle.std.proofs.Common.{◌≡◌, ℕ, T, Bool, true, false, not, cond, List, [], ◌∷◌, Option, Some, None, Result, Ok, Err, refl, sym, ap, subst, MutBor}
 use seplogic.Ra.Ura.{Ura}
 use base.Fraction.{full_share}
 use base.Logic.{ent}
@@ -32,6 +32,8 @@ use Rattle.mv_move_types.specs.declared.tables.Key.{Key}
 use Rattle.mv_storage.specs.Lending.{LendsLent, LendsWords, IsEdited, IsUnedited, over_written, lent_name}
 use Rattle.mv_storage.specs.Map.{Ascends, overwritten, written}
 use Rattle.mv_storage.specs.FlatStorage.{words_under}
+use Rattle.mv_storage.specs.WordLists.{piece}
+use Rattle.mv_storage.proofs.Pieces.{piece-fits}
 use Rattle.mv_storage.proofs.Written.{written-overwritten, none-overwritten}
 use Rattle.mv_storage.specs.contracts.overlay.Overlay as overlay
 use Rattle.mv_storage.specs.declared.overlay.Overlay.{Overlay}
@@ -66,7 +68,7 @@ module _ {M : Type 1} {𝓤 : Ura M} (𝓛 : Logic 𝓤) where
   bool_out b t = qed 𝓛 (‵ ((mem bool).own_at t b 0) ∷ []) ∵ fpick ! (λ vs. fsplit ! $ move ! (1 ∷ []) $ feq_l ! (λ e.
       rewrite ! 0 (λ (ws : List Val). ‵ (cell_at full_share bool.mir ws b 0)) e refl $ use1 𝓛 (‵ (fat full_share ty_bool b 0 (vbool t))) (𝓛.laws.raw_at full_share ty_bool b 0 (vbool t)) $ done !))
 
-  module _ (x : MutBor Overlay) (key : Key) (from width : ℕ) (fits : IfSome (words_under x.now.storage.now.current key) (λ words. from + width ≤ length words)) (ascends : Ascends x.now.storage.now.current) where
+  module _ (x : MutBor Overlay) (key : Key) (from width : ℕ) where
     abbrev Edited : List ℕ → Overlay → Type 0
     Edited w n = IsEdited x.now key from width w n
 
@@ -75,10 +77,10 @@ module _ {M : Type 1} {𝓤 : Ura M} (𝓛 : Logic 𝓤) where
     Ways = (s : (List ℕ → Overlay) × Overlay) × ((w : List ℕ) → Edited w (s.0 w)) × IsUnedited x.now s.1
 
     -- words of the width that stand in place of as many
-    edited : (wide : Bool) → nat_lt 0 width ≡ wide → (w : List ℕ) → length w ≡ width
+    edited : IfSome (words_under x.now.storage.now.current key) (λ words. from + width ≤ length words) → Ascends x.now.storage.now.current → (wide : Bool) → nat_lt 0 width ≡ wide → (w : List ℕ) → length w ≡ width
         → (cond wide (record (x.now.storage.now) { current = written x.now.storage.now.current key from w }) x.now.storage.now).current ≡ overwritten x.now.storage.now.current key from w
-    edited true e w long = written-overwritten x.now.storage.now.current key from width w fits long
-    edited false e w long = sym (none-overwritten x.now.storage.now.current key from width w ascends fits long (grind (arith, e)))
+    edited fits ascends true e w long = written-overwritten x.now.storage.now.current key from width w fits long
+    edited fits ascends false e w long = sym (none-overwritten x.now.storage.now.current key from width w ascends fits long (grind (arith, e)))
 
     kept : (wide : Bool) (w : List ℕ) → (cond wide (record (x.now.storage.now) { current = written x.now.storage.now.current key from w }) x.now.storage.now).committed ≡ x.now.storage.now.committed
     kept true w = refl
@@ -88,32 +90,44 @@ module _ {M : Type 1} {𝓤 : Ura M} (𝓛 : Logic 𝓤) where
     still true w = refl
     still false w = refl
 
-    abbrev way : Ways
-    way = ((over_written true width x.now key from, x.now), (λ w. record { current = edited (nat_lt 0 width) refl w; committed = kept (nat_lt 0 width) w; marks = still (nat_lt 0 width) w; loan = refl }), record { same = refl; loan = refl })
+    abbrev way : IfSome (words_under x.now.storage.now.current key) (λ words. from + width ≤ length words) → Ascends x.now.storage.now.current → Ways
+    way fits ascends = ((over_written true width x.now key from, x.now), (λ w. record { current = edited fits ascends (nat_lt 0 width) refl w; committed = kept (nat_lt 0 width) w; marks = still (nat_lt 0 width) w; loan = refl }), record { same = refl; loan = refl })
+
+    -- where none are lent none come back
+    abbrev no_way : Ways
+    no_way = (
+      (λ w. record (x.now) { storage = record (x.now.storage) { now = record (x.now.storage.now) { current = overwritten x.now.storage.now.current key from w } } }, x.now),
+      (λ w. record { current = λ _. refl; committed = refl; marks = refl; loan = refl }),
+      record { same = refl; loan = refl },
+    )
 
     -- what follows words that are lent
-    given_words : (r : MutBor (List ℕ)) → ent 𝓤 (sem 𝓛 (LendsLent x key from width true r)) (sem 𝓛 (LendsWords x key from width (Ok (Some r))))
+    given_words : IfSome (words_under x.now.storage.now.current key) (λ words. from + width ≤ length words) → Ascends x.now.storage.now.current → (r : MutBor (List ℕ))
+        → ent 𝓤 (sem 𝓛 (LendsLent x key from width true r)) (sem 𝓛 (LendsWords x key from width (Ok (Some r))))
     unfolding such_by follows_by
-    given_words r = qed 𝓛 (‵ (LendsLent x key from width true r) ∷ []) ∵
-        fpack ! Ways (λ s. follows_by S.Denot (Array u128 0).Denot S.coded.code (Array u128 0).coded.code x.ghost_name (lent_name (Ok (Some r))) s.0.0 s.0.1) way $ done !
+    given_words fits ascends r = qed 𝓛 (‵ (LendsLent x key from width true r) ∷ []) ∵
+        fpack ! Ways (λ s. follows_by S.Denot (Array u128 0).Denot S.coded.code (Array u128 0).coded.code x.ghost_name (lent_name (Ok (Some r))) s.0.0 s.0.1) (way fits ascends) $ done !
 
-    pub nested_words : (lent : Bool) → T lent → (r : MutBor (List ℕ)) (o : Result (Option (MutBor (List ℕ))) AllocError) → o ≡ Ok (Some r)
+    pub nested_words : Ascends x.now.storage.now.current → (lent : Bool) → T lent → (r : MutBor (List ℕ)) (o : Result (Option (MutBor (List ℕ))) AllocError) → o ≡ Ok (Some r)
+        → (lent ≡ true → Some r.now ≡ option_and_then (piece from width) (words_under x.now.storage.now.current key))
         → ent 𝓤 (sem 𝓛 (LendsLent x key from width lent r)) (sem 𝓛 (LendsWords x key from width o))
-    nested_words true t r o e = subst (λ o'. ent 𝓤 (sem 𝓛 (LendsLent x key from width true r)) (sem 𝓛 (LendsWords x key from width o'))) (sym e) (given_words r)
-    nested_words false t r o e = absurd t
+    nested_words ascends true t r o e h =
+        let fits = piece-fits from width (words_under x.now.storage.now.current key) (ap is_some (sym (h refl))) in
+        subst (λ o'. ent 𝓤 (sem 𝓛 (LendsLent x key from width true r)) (sem 𝓛 (LendsWords x key from width o'))) (sym e) (given_words fits ascends r)
+    nested_words ascends false t r o e h = absurd t
 
     -- what none leave
     given_none : (o : Result (Option (MutBor (List ℕ))) AllocError) → lent_name o ≡ mathlib.Core.Option.none → ent 𝓤 (A.res x.ghost_name (S.coded.code x.now)) (sem 𝓛 (LendsWords x key from width o))
     unfolding such_by follows_by
     given_none o e = subst (λ m. ent 𝓤 (A.res x.ghost_name (S.coded.code x.now)) (sem 𝓛 (such_by S.Denot (Array u128 0).Denot S.coded.code (Array u128 0).coded.code x.ghost_name m Edited (IsUnedited x.now)))) (sym e)
         (qed 𝓛 (‵ (fres x.ghost_name (S.coded.code x.now)) ∷ []) ∵
-        fpack ! Ways (λ s. follows_by S.Denot (Array u128 0).Denot S.coded.code (Array u128 0).coded.code x.ghost_name mathlib.Core.Option.none s.0.0 s.0.1) way $ done !)
+        fpack ! Ways (λ s. follows_by S.Denot (Array u128 0).Denot S.coded.code (Array u128 0).coded.code x.ghost_name mathlib.Core.Option.none s.0.0 s.0.1) no_way $ done !)
 
-    no_name : (stored : Bool) → lent_name (cond stored (Err (record {})) (Ok None)) ≡ mathlib.Core.Option.none
+    no_name : (there : Bool) → lent_name (cond there (Err (record {})) (Ok None)) ≡ mathlib.Core.Option.none
     no_name true = refl
     no_name false = refl
 
-    pub nested_none : (lent : Bool) → T (not lent) → (w : List ℕ) (stored : Bool) (o : Result (Option (MutBor (List ℕ))) AllocError) → o ≡ cond stored (Err (record {})) (Ok None)
+    pub nested_none : (lent : Bool) → T (not lent) → (w : List ℕ) (there : Bool) (o : Result (Option (MutBor (List ℕ))) AllocError) → o ≡ cond there (Err (record {})) (Ok None)
         → ent 𝓤 (A.res x.ghost_name (S.coded.code (over_written lent width x.now key from w))) (sem 𝓛 (LendsWords x key from width o))
-    nested_none false t w stored o e = given_none o (subst (λ o'. lent_name o' ≡ mathlib.Core.Option.none) (sym e) (no_name stored))
-    nested_none true t w stored o e = absurd t
+    nested_none false t w there o e = given_none o (subst (λ o'. lent_name o' ≡ mathlib.Core.Option.none) (sym e) (no_name there))
+    nested_none true t w there o e = absurd t

@@ -1,7 +1,7 @@
 -- Slots that are read and written at a place of a list, and the place that was found.
-use Rattle.mv_storage.proofs.Common.{[], ℕ, ◌<◌, ◌∷◌, ◌≡◌, Bool, List, None, Option, Some, ap, arith, cond, false, is_some, length, refl, slice_get, slice_index_or, slice_set, subst, sym, true, get, Key, key_cmp, Places, Slot}
-use Rattle.std.proofs.Common.{suc, zero}
-use Rattle.std.specs.Prelude.{IfOk, IfSome, Result, Ok, Err}
+use Rattle.mv_storage.proofs.Common.{[], ℕ, ◌<◌, ◌∷◌, ◌≡◌, Bool, List, None, Option, Some, ap, arith, cond, false, is_some, length, refl, slice_get, slice_get_within, slice_index_or, slice_set, subst, sym, true, get, IsSound, Key, key_cmp, Places, Slot}
+use Rattle.std.proofs.Common.{suc, vec_len, zero}
+use Rattle.std.specs.Prelude.{IfOk, IfSome, OnErr, Result, Ok, Err}
 use Rattle.std.specs.declared.alloc.AllocError.{AllocError}
 use Rattle.mv_storage.specs.Slots.{IsOwn, IsOwnAt}
 
@@ -26,3 +26,14 @@ own-at n key p t b (Err x) at there e own = tt
 own-at n key p t b (Ok None) at there e own = tt
 own-at n key p t true (Ok (Some q)) at there e own = let same : p ≡ q = cc in subst (IsOwnAt n key) same (at, (t, there, own refl))
 own-at n key p t false (Ok (Some q)) at there e own = cc
+
+-- a key's place is in the list
+pub place-within : (m : Places) (k : Key) (p : ℕ) → IsSound m → get key_cmp m.tree k ≡ Some p → p < vec_len m.slots
+place-within m k p sound at =
+    let there = sound.used k p at in
+    subst (λ (n : ℕ). p < n) (sym m.slots.ok.0) (slice_get_within m.slots.items p there.0 there.1)
+
+-- what holds in any case holds where there is an error
+pub at-err : {T E : Type 0} (r : Result T E) (P : Type 0) → P → OnErr r P
+at-err (Ok t) P p = tt
+at-err (Err e) P p = p

@@ -12,13 +12,11 @@
 //!     overlay.take(&key)?;
 //!     overlay.discard();
 //!     let mut overlay = storage.overlay();
-//!     if !overlay.exists(&key) {
+//!     if !overlay.claim(&key)? {
 //!         overlay.put(key, Value::leaf(7))?;
 //!     }
-//!     if overlay.len(&key) == Some(1) {
-//!         if let Some(words) = overlay.edit(&key, 0, 1)? {
-//!             words.fill(8);
-//!         }
+//!     if let Some(words) = overlay.edit(&key, 0, 1)? {
+//!         words.fill(8);
 //!     }
 //!     overlay.commit()
 //! }

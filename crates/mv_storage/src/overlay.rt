@@ -1,9 +1,9 @@
 // What a run sees of the storage, and what it does to it.
-ghost use Rattle.std.specs.Prelude.{◌≡◌, ◌≤◌, ◌+◌, length, [], cond, not, take, drop, None, is_some, IfOk, IfSome, IsOk, OnOk, OnErr, MatchOption, option_copied, option_and_then, option_map, slice_get};
+ghost use Rattle.std.specs.Prelude.{◌≡◌, ◌≤◌, ◌+◌, length, [], cond, take, drop, None, is_some, IfOk, IfSome, IsOk, OnOk, OnErr, MatchOption, option_copied, option_and_then, option_map, slice_get};
 ghost use Rattle.mv_move_types.specs.declared.tables.Key.{Key};
-ghost use Rattle.mv_storage.specs.WordLists.{spliced};
+ghost use Rattle.mv_storage.specs.WordLists.{piece};
 ghost use Rattle.mv_storage.specs.FlatStorage.{words_under, with_words, without_words};
-ghost use Rattle.mv_storage.specs.Map.{overwritten, Ascends};
+ghost use Rattle.mv_storage.specs.Map.{Ascends};
 ghost use Rattle.std.specs.Prelude.{true, false, Some, Ok, Err};
 ghost use Rattle.std.specs.Borrow.{sem};
 ghost use Rattle.mv_storage.specs.Lending.{LendsLent, LendsWords, lent_words};
@@ -30,17 +30,19 @@ impl Drop for Overlay<'_> {
 }
 
 // The answer where words are lent.
+#[inline(always)]
 fn lent(words: &mut [u128]) -> Result<Option<&mut [u128]>, AllocError>
     ensures { result ≡ Ok (Some words.entry) }
 {
     Ok(Some(words))
 }
 
-// The answer where none are lent: nothing is stored, or memory ran out.
-fn refused<'a>(stored: bool) -> Result<Option<&'a mut [u128]>, AllocError>
-    ensures { result ≡ cond stored (Err (record {})) (Ok None) }
+// The answer where none are lent: too few are there, or memory ran out.
+#[inline(always)]
+fn refused<'a>(there: bool) -> Result<Option<&'a mut [u128]>, AllocError>
+    ensures { result ≡ cond there (Err (record {})) (Ok None) }
 {
-    if stored {
+    if there {
         return Err(AllocError);
     }
     Ok(None)
@@ -74,6 +76,16 @@ impl Overlay<'_> {
         ensures same { self.new ≡ self.old }
     {
         self.storage.recall(key)
+    }
+
+    /// Whether the run sees a value under a key. Where it sees none, the key has its place from then on, so that a `put` under it
+    /// takes no search. Nothing else changes. It fails only where memory runs out, and nothing changes then.
+    #[inline(always)]
+    pub fn claim(&mut self, key: &Key) -> Result<bool, AllocError>
+        ensures found { IfOk result (λ found. found ≡ is_some (words_under self.old.storage.now.current key.now)) }
+        ensures same { self.new ≡ self.old }
+    {
+        self.storage.claim(key)
     }
 
     /// The word at a place among those that the run sees under a key, if there is one. The overlay remembers where the value is,
@@ -121,67 +133,49 @@ impl Overlay<'_> {
         self.storage.view(key, offset, width)
     }
 
-    // So many words from a place on, lent; and whether any are stored, and whether they are lent.
+    // So many words from a place on, lent; and whether so many are there, and whether they are lent.
+    #[inline(always)]
     fn open(
         &mut self,
         key: &Key,
         from: usize,
         width: usize,
-        stored: &mut bool,
+        there: &mut bool,
         lent: &mut bool,
     ) -> &mut [u128]
-        requires fits { IfSome (words_under self.old.storage.now.current key.now) (λ words. from + width ≤ length words) }
         ensures* loan { sem 𝓛 (LendsLent self.entry key.now from width lent.new result) }
-        ensures words { lent.new ≡ true → Some result.now ≡ option_map (λ words. take width (drop from words)) (words_under self.old.storage.now.current key.now) }
-        ensures stored { stored.new ≡ false → words_under self.old.storage.now.current key.now ≡ None }
+        ensures words { lent.new ≡ true → Some result.now ≡ option_and_then (piece from width) (words_under self.old.storage.now.current key.now) }
+        ensures there { there.new ≡ false → option_and_then (piece from width) (words_under self.old.storage.now.current key.now) ≡ None }
         ensures ascends { Ascends self.old.storage.now.current }
     {
         let storage = &mut *self.storage;
-        storage.open(key, from, width, stored, lent)
+        storage.open(key, from, width, there, lent)
     }
 
     /// Lends `width` words from `offset` on, of those that the run sees under a key, to be read and written in place; None if
-    /// nothing is stored there. Once the loan is over, the run sees the value with the lent words as they are then. The first
-    /// edit of a committed value copies it.
+    /// nothing is stored there, or fewer. Once the loan is over, the run sees the value with the lent words as they are then. The
+    /// first edit of a committed value copies it.
     ///
     /// # Errors
     ///
     /// If an allocation failed. Nothing has changed then.
+    #[inline(always)]
     pub fn edit(
         &mut self,
         key: &Key,
         offset: usize,
         width: usize,
     ) -> Result<Option<&mut [u128]>, AllocError>
-        requires fits { IfSome (words_under self.old.storage.now.current key.now) (λ words. offset + width ≤ length words) }
         ensures* loan { sem 𝓛 (LendsWords self.entry key.now offset width result) }
-        ensures words { IfOk result (λ found. lent_words found ≡ option_map (λ words. take width (drop offset words)) (words_under self.old.storage.now.current key.now)) }
+        ensures words { IfOk result (λ found. lent_words found ≡ option_and_then (piece offset width) (words_under self.old.storage.now.current key.now)) }
     {
-        let mut stored = false;
+        let mut there = false;
         let mut found = false;
-        let words = self.open(key, offset, width, &mut stored, &mut found);
+        let words = self.open(key, offset, width, &mut there, &mut found);
         if found {
             return lent(words);
         }
-        refused(stored)
-    }
-
-    /// Overwrites the words from `from` on, of those that the run sees under a key, and returns whether it did. If there are too
-    /// few, or none, nothing changes. The first edit of a committed value copies it.
-    ///
-    /// # Errors
-    ///
-    /// If an allocation failed. Nothing has changed then.
-    #[inline(always)]
-    pub fn write(&mut self, key: &Key, from: usize, new: &[u128]) -> Result<bool, AllocError>
-        ensures done { IfOk result (λ done. done ≡ is_some (option_and_then (spliced from new.now) (words_under self.old.storage.now.current key.now))) }
-        ensures current { OnOk result (self.new.storage.now.current ≡ overwritten self.old.storage.now.current key.now from new.now) }
-        ensures committed { self.new.storage.now.committed ≡ self.old.storage.now.committed }
-        ensures marks { self.new.storage.now.marks ≡ self.old.storage.now.marks }
-        ensures loan { self.new.storage.ghost_name ≡ self.old.storage.ghost_name }
-        ensures err { OnErr result (self.new.storage.now ≡ self.old.storage.now) }
-    {
-        self.storage.write(key, from, new)
+        refused(there)
     }
 
     /// Takes the value under a key out of what the run sees. It fails only where memory runs out, and nothing changes then.
@@ -206,23 +200,6 @@ impl Overlay<'_> {
         ensures err { OnErr result (self.new.storage.now ≡ self.old.storage.now) }
     {
         self.storage.put(key, value)
-    }
-
-    /// Puts a value under a key if the run sees none there, and returns whether it did. Otherwise nothing changes. It takes one
-    /// search, where `exists` and `put` take two.
-    ///
-    /// # Errors
-    ///
-    /// If an allocation failed. Nothing has changed then.
-    pub fn put_new(&mut self, key: Key, value: Value) -> Result<bool, AllocError>
-        ensures done { IfOk result (λ done. done ≡ not (is_some (words_under self.old.storage.now.current key))) }
-        ensures current { IfOk result (λ done. self.new.storage.now.current ≡ cond done (with_words self.old.storage.now.current key value) self.old.storage.now.current) }
-        ensures committed { self.new.storage.now.committed ≡ self.old.storage.now.committed }
-        ensures marks { self.new.storage.now.marks ≡ self.old.storage.now.marks }
-        ensures loan { self.new.storage.ghost_name ≡ self.old.storage.ghost_name }
-        ensures err { OnErr result (self.new.storage.now ≡ self.old.storage.now) }
-    {
-        self.storage.put_new(key, value)
     }
 
     /// Commits what the run has made so far; the run goes on from there.

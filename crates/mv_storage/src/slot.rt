@@ -3,16 +3,16 @@
 ghost use Rattle.std.specs.Prelude.{◌≡◌, None, Some, true, false, cond, not, is_some, option_copied, option_and_then, IfOk, OnOk, OnErr};
 ghost use Rattle.std.specs.Prelude.{◌≤◌, ◌+◌, length, take, drop, option_map, slice_get, IfSome, MatchOption};
 ghost use Rattle.std.specs.Borrow.{sem};
-ghost use Rattle.mv_storage.specs.Slots.{version, of_layer, is_change, is_vacant, is_pinned, is_gone, is_empty, edited, IsOwn};
+ghost use Rattle.mv_storage.specs.Slots.{version, of_layer, is_change, is_vacant, is_pinned, is_gone, is_empty, IsOwn};
 ghost use Rattle.mv_storage.specs.Blocks.{value_before, is_absent};
 ghost use Rattle.mv_storage.specs.Lending.{LendsVersion, LendsSlot};
-ghost use Rattle.mv_storage.specs.WordLists.{spliced};
+ghost use Rattle.mv_storage.specs.WordLists.{piece};
 ghost use Rattle.mv_storage.specs.declared.slot.Layer.{Layer};
 ghost use Rattle.mv_storage.specs.declared.slot.Layer.TheVariants.{Committed, Current};
 
 use crate::Value;
 use crate::blocks::Before;
-use crate::value::{Words, edit_words};
+use crate::value::Words;
 use std::alloc::{AllocError, Global};
 use std::mem::{replace, size_of};
 use std::slice;
@@ -43,22 +43,8 @@ impl Versions {
         }
     }
 
-    // Puts words in place of as many that the run sees, if they are there, and says whether it did.
-    #[inline(always)]
-    fn edit(&mut self, from: usize, new: &[u128]) -> bool
-        ensures done { result ≡ is_some (option_and_then (spliced from new.now) (version Current self.old)) }
-        ensures current { version Current self.new ≡ edited from new.now (version Current self.old) }
-        ensures committed { version Committed self.new ≡ version Committed self.old }
-    {
-        match &mut self.current {
-            Some(value) => value.edit(from, new),
-            None => false,
-        }
-    }
-}
-
-impl Versions {
     // So many of the words that the run sees, from a place on, one at least, lent.
+    #[inline(always)]
     fn part(&mut self, from: usize, width: usize) -> &mut [u128]
         requires there { is_some self.old.current ≡ true }
         requires fits { IfSome self.old.current (λ words. from + width ≤ length words) }
@@ -248,11 +234,11 @@ impl Slot {
         Ok(())
     }
 
-    // Puts a value where the run sees none, and says whether it did. It fails only where memory runs out, and nothing changes then.
-    pub(crate) fn put(&mut self, value: Value, alloc: Global) -> Result<bool, AllocError>
-        requires { is_vacant self.old ≡ false }
-        ensures done { IfOk result (λ done. done ≡ not (is_some (of_layer Current self.old))) }
-        ensures current { IfOk result (λ done. of_layer Current self.new ≡ cond done (Some value) (of_layer Current self.old)) }
+    // Puts a value where the run sees none. It fails only where memory runs out, and nothing changes then.
+    pub(crate) fn put(&mut self, value: Value, alloc: Global) -> Result<(), AllocError>
+        requires used { is_vacant self.old ≡ false }
+        requires absent { of_layer Current self.old ≡ None }
+        ensures current { OnOk result (of_layer Current self.new ≡ Some value) }
         ensures committed { of_layer Committed self.new ≡ of_layer Committed self.old }
         ensures change { is_change self.new ≡ true → is_change self.old ≡ false → is_gone self.old ≡ true }
         ensures used { is_vacant self.new ≡ false }
@@ -262,17 +248,14 @@ impl Slot {
         match self {
             Slot::Empty => {
                 *self = Slot::added(value);
-                Ok(true)
+                Ok(())
             }
-            Slot::Changed(versions) if versions.current.is_none() => {
+            Slot::Changed(versions) => {
                 versions.current = Some(value);
-                Ok(true)
+                Ok(())
             }
-            Slot::Gone => {
-                self.change(Some(value), alloc)?;
-                Ok(true)
-            }
-            _ => Ok(false),
+            Slot::Gone => self.change(Some(value), alloc),
+            _ => unreachable!(),
         }
     }
 
@@ -314,8 +297,6 @@ impl Slot {
     }
 
     // Gives the run its own copy of a committed value. It fails only where memory runs out, and nothing changes then.
-    #[cold]
-    #[inline(never)]
     fn own(&mut self, alloc: Global) -> Result<(), AllocError>
         requires { is_vacant self.old ≡ false }
         ensures layers { (layer : Layer) → of_layer layer self.new ≡ of_layer layer self.old }
@@ -332,56 +313,53 @@ impl Slot {
         self.change(Some(copy), alloc)
     }
 
-    // Puts words in place of as many that the run sees, if they are there, and says whether it did.
+    // Whether so many words are there from a place on, of those that the run sees.
     #[inline(always)]
-    pub(crate) fn edit(
-        &mut self,
-        from: usize,
-        new: &[u128],
-        alloc: Global,
-    ) -> Result<bool, AllocError>
-        requires { is_vacant self.old ≡ false }
-        ensures done { IfOk result (λ done. done ≡ is_some (option_and_then (spliced from new.now) (of_layer Current self.old))) }
-        ensures current { OnOk result (of_layer Current self.new ≡ edited from new.now (of_layer Current self.old)) }
-        ensures committed { of_layer Committed self.new ≡ of_layer Committed self.old }
-        ensures used { is_vacant self.new ≡ false }
-        ensures pinned { is_pinned self.old ≡ true → is_pinned self.new ≡ true }
-        ensures err { OnErr result (of_layer Current self.new ≡ of_layer Current self.old) }
+    pub(crate) fn holds(&self, from: usize, width: usize) -> bool
+        ensures { result ≡ is_some (option_and_then (piece from width) (of_layer Current self.now)) }
     {
-        if let Slot::Changed(versions) = self {
-            return Ok(versions.edit(from, new));
-        }
-        self.own(alloc)?;
-        match self {
-            Slot::Changed(versions) => Ok(versions.edit(from, new)),
-            Slot::AddedOne(word) => Ok(edit_words(slice::from_mut(word), from, new)),
-            Slot::AddedMany(words) => Ok(edit_words(words.as_mut_slice(), from, new)),
-            _ => Ok(false),
+        match self.current() {
+            Some(words) => width <= words.len() && from <= words.len() - width,
+            None => false,
         }
     }
 
-    // Makes sure that the run has what it sees to itself, and gives its place if there is anything. It fails only where memory
-    // runs out, and nothing changes then.
+    // A place, if so many words are there.
+    #[inline(always)]
+    pub(crate) fn place_if(&self, place: usize, from: usize, width: usize) -> Option<usize>
+        ensures { result ≡ cond (is_some (option_and_then (piece from width) (of_layer Current self.now))) (Some place) None }
+    {
+        if self.holds(from, width) {
+            return Some(place);
+        }
+        None
+    }
+
+    // Makes sure that the run has what it sees to itself, and gives its place, if so many words are there. It fails only where
+    // memory runs out, and nothing changes then.
     pub(crate) fn own_place(
         &mut self,
         place: usize,
+        from: usize,
+        width: usize,
         alloc: Global,
     ) -> Result<Option<usize>, AllocError>
         requires { is_vacant self.old ≡ false }
         ensures layers { (layer : Layer) → of_layer layer self.new ≡ of_layer layer self.old }
-        ensures place { IfOk result (λ found. found ≡ cond (is_some (of_layer Current self.old)) (Some place) None) }
+        ensures place { IfOk result (λ found. found ≡ cond (is_some (option_and_then (piece from width) (of_layer Current self.old))) (Some place) None) }
         ensures own { IfOk result (λ found. is_some found ≡ true → IsOwn self.new) }
         ensures used { is_vacant self.new ≡ false }
         ensures pinned { is_pinned self.old ≡ true → is_pinned self.new ≡ true }
     {
-        Slot::own(self, alloc)?;
-        if self.current().is_some() {
-            return Ok(Some(place));
+        if !self.holds(from, width) {
+            return Ok(None);
         }
-        Ok(None)
+        self.own(alloc)?;
+        Ok(Some(place))
     }
 
     // So many of the words that the run has to itself, from a place on, one at least, lent.
+    #[inline(always)]
     pub(crate) fn part(&mut self, from: usize, width: usize) -> &mut [u128]
         requires own { IsOwn self.old }
         requires fits { IfSome (of_layer Current self.old) (λ words. from + width ≤ length words) }

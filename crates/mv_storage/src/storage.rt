@@ -2,10 +2,10 @@
 ghost use Rattle.std.specs.BTreeMap.Range.{IsLeBy, IsLtBy, range_contains};
 ghost use Rattle.std.specs.List.{filter, AllByRecursion};
 ghost use Rattle.mv_machine.specs.State.{key_before, same_key};
-ghost use Rattle.std.specs.Prelude.{◌≡◌, ◌==◌, ◌<◌, ◌≤◌, ◌+◌, ◌^◌, ◌++◌, ◌∷◌, length, take, drop, [], cond, not, None, is_some, IfOk, IfSome, IsOk, OnOk, OnErr, MatchOption, option_copied, option_and_then, option_map, slice_get};
-ghost use Rattle.mv_storage.specs.WordLists.{spliced};
+ghost use Rattle.std.specs.Prelude.{◌≡◌, ◌==◌, ◌<◌, ◌≤◌, ◌+◌, ◌^◌, ◌++◌, ◌∷◌, length, take, drop, [], not, None, is_some, IfOk, IfSome, IsOk, OnOk, OnErr, MatchOption, option_copied, option_and_then, option_map, slice_get};
+ghost use Rattle.mv_storage.specs.WordLists.{piece};
 ghost use Rattle.mv_storage.specs.FlatStorage.{FlatStorage, words_under, with_words, without_words};
-ghost use Rattle.mv_storage.specs.Map.{overwritten, Ascends};
+ghost use Rattle.mv_storage.specs.Map.{Ascends};
 ghost use Rattle.mv_storage.specs.Slots.{key_cmp, layers, IsSound, AreKept};
 ghost use Rattle.std.specs.Prelude.{ℕ, List, true, false, nat_lt, Some, Ok};
 ghost use Rattle.std.specs.Borrow.{sem};
@@ -17,7 +17,7 @@ use crate::changes::{Changes, firsts, newest};
 use crate::known::Known;
 use crate::places::Places;
 use crate::slot::Layer;
-use crate::slots::{edit_in, own_in, put_into, settle, take_from};
+use crate::slots::{own_in, place_for, put_into, settle, take_from};
 use crate::{Entries, Overlay, Value};
 use mv_move_types::{Address, Key};
 use mv_undo::Marks;
@@ -88,25 +88,26 @@ fn part(words: &[u128], from: usize, width: usize) -> &[u128]
     &words[from..from + width]
 }
 
-// The place of words that the run has to itself, if any are wanted; and whether any are stored, and whether the run has them.
+// The place of words that the run has to itself, if any are wanted; and whether so many are there, and whether the run has them.
+#[inline(always)]
 fn own_place(
     own: Result<Option<usize>, AllocError>,
     width: usize,
-    stored: &mut bool,
+    there: &mut bool,
     lent: &mut bool,
 ) -> Option<usize>
-    ensures stored { IfOk own (λ found. stored.new ≡ is_some found) }
-    ensures refused { OnErr own (stored.new ≡ true) }
+    ensures there { IfOk own (λ found. there.new ≡ is_some found) }
+    ensures refused { OnErr own (there.new ≡ true) }
     ensures lent { lent.new ≡ true → (p : ℕ) × (own ≡ Ok (Some p)) }
     ensures place { MatchOption result (nat_lt 0 width ≡ true → lent.new ≡ false) (λ p. (own ≡ Ok (Some p)) × (1 ≤ width) × (lent.new ≡ true)) }
 {
     let found = match own {
         Ok(found) => {
-            *stored = found.is_some();
+            *there = found.is_some();
             found
         }
         Err(_) => {
-            *stored = true;
+            *there = true;
             None
         }
     };
@@ -279,6 +280,17 @@ impl Storage {
         }
     }
 
+    // Whether the run sees a value under a key, which has a place from then on. The place stands remembered, so that what follows
+    // with this key needs no search. Nothing else changes. It fails only where memory runs out.
+    #[inline(always)]
+    pub(crate) fn claim(&mut self, key: &Key) -> Result<bool, AllocError>
+        ensures found { IfOk result (λ found. found ≡ is_some (words_under self.old.current key.now)) }
+        ensures same { self.new ≡ self.old }
+    {
+        let place = place_for(&mut self.places, &mut self.touched, &mut self.known, key)?;
+        Ok(self.places.slots[place].is_seen())
+    }
+
     // The word at a place among those that the run sees under a key, if there is one. Where the value is stands remembered, so
     // that what follows with this key needs no search. Nothing else changes.
     #[inline(always)]
@@ -352,20 +364,20 @@ impl Storage {
         })
     }
 
-    // So many words from a place on, of those that the run sees under a key, lent; and whether any are stored, and whether they
-    // are lent. No words are lent where nothing is stored, or where memory runs out; nothing changes then.
+    // So many words from a place on, of those that the run sees under a key, lent; and whether so many are there, and whether
+    // they are lent. No words are lent where fewer are there, or where memory runs out; nothing changes then.
+    #[inline(always)]
     pub(crate) fn open(
         &mut self,
         key: &Key,
         from: usize,
         width: usize,
-        stored: &mut bool,
+        there: &mut bool,
         lent: &mut bool,
     ) -> &mut [u128]
-        requires fits { IfSome (words_under self.old.current key.now) (λ words. from + width ≤ length words) }
         ensures* loan { sem 𝓛 (LendsIn self.entry key.now from width lent.new result) }
-        ensures words { lent.new ≡ true → Some result.now ≡ option_map (λ words. take width (drop from words)) (words_under self.old.current key.now) }
-        ensures stored { stored.new ≡ false → words_under self.old.current key.now ≡ None }
+        ensures words { lent.new ≡ true → Some result.now ≡ option_and_then (piece from width) (words_under self.old.current key.now) }
+        ensures there { there.new ≡ false → option_and_then (piece from width) (words_under self.old.current key.now) ≡ None }
         ensures ascends { Ascends self.old.current }
     {
         let own = own_in(
@@ -373,32 +385,12 @@ impl Storage {
             &mut self.touched,
             &mut self.known,
             key,
+            from,
+            width,
             self.alloc,
         );
-        let place = own_place(own, width, stored, lent);
+        let place = own_place(own, width, there, lent);
         self.places.words_at(place, from, width)
-    }
-
-    // Puts words in place of as many from a place on, of those that the run sees under a key, and says whether so many were
-    // there; nothing changes where they were not. The first edit of a committed value copies it. It fails only where memory
-    // runs out, and nothing changes then.
-    #[inline(always)]
-    pub(crate) fn write(&mut self, key: &Key, from: usize, new: &[u128]) -> Result<bool, AllocError>
-        ensures done { IfOk result (λ done. done ≡ is_some (option_and_then (spliced from new.now) (words_under self.old.current key.now))) }
-        ensures current { OnOk result (self.new.current ≡ overwritten self.old.current key.now from new.now) }
-        ensures committed { self.new.committed ≡ self.old.committed }
-        ensures marks { self.new.marks ≡ self.old.marks }
-        ensures err { OnErr result (self.new ≡ self.old) }
-    {
-        edit_in(
-            &mut self.places,
-            &mut self.touched,
-            &mut self.known,
-            key,
-            from,
-            new,
-            self.alloc,
-        )
     }
 
     // Takes the value under a key out of what the run sees. It fails only where memory runs out, and nothing changes then.
@@ -418,11 +410,10 @@ impl Storage {
         )
     }
 
-    // Puts a value under a key where the run sees none, and says whether it did; nothing changes where it did not. It fails
-    // only where memory runs out, and nothing changes then.
-    pub(crate) fn put_new(&mut self, key: Key, value: Value) -> Result<bool, AllocError>
-        ensures done { IfOk result (λ done. done ≡ not (is_some (words_under self.old.current key))) }
-        ensures current { IfOk result (λ done. self.new.current ≡ cond done (with_words self.old.current key value) self.old.current) }
+    // Puts a value under a key where the run sees none. It fails only where memory runs out, and nothing changes then.
+    pub(crate) fn put(&mut self, key: Key, value: Value) -> Result<(), AllocError>
+        requires { words_under self.old.current key ≡ None }
+        ensures current { OnOk result (self.new.current ≡ with_words self.old.current key value) }
         ensures committed { self.new.committed ≡ self.old.committed }
         ensures marks { self.new.marks ≡ self.old.marks }
         ensures err { OnErr result (self.new ≡ self.old) }
@@ -435,18 +426,6 @@ impl Storage {
             value,
             self.alloc,
         )
-    }
-
-    // Puts a value under a key where the run sees none. It fails only where memory runs out, and nothing changes then.
-    pub(crate) fn put(&mut self, key: Key, value: Value) -> Result<(), AllocError>
-        requires { words_under self.old.current key ≡ None }
-        ensures current { OnOk result (self.new.current ≡ with_words self.old.current key value) }
-        ensures committed { self.new.committed ≡ self.old.committed }
-        ensures marks { self.new.marks ≡ self.old.marks }
-        ensures err { OnErr result (self.new ≡ self.old) }
-    {
-        self.put_new(key, value)?;
-        Ok(())
     }
 
     // Gives up what the run has made. It takes no memory.

@@ -15,7 +15,7 @@ use mv_move_types::{Instruction, Refusal, Token, Width};
 pub struct Scope<'s, 'a> {
     pub module: &'s Bounded<'a>,
     pub place: usize,
-    pub function: &'s FunctionDefinition,
+    pub function: &'s FunctionDefinition<'a>,
     /// The types of its parameters.
     pub parameters: &'s [Token],
     /// The types of its other locals.

@@ -1,6 +1,6 @@
 // The bytes of certificates that are put together by hand.
 
-use mv_certificate::{Cert, Known, Stated, encode};
+use mv_certificate::{Cert, Known, encode};
 use mv_edges::{Edge, Edges, Label};
 use mv_locals_safety::Availabilities;
 use mv_move_types::{Availability, Node};
@@ -25,7 +25,7 @@ fn known(alloc: Global) -> Result<Known, AllocError> {
 }
 
 // The text of a certificate of one function.
-fn text_of(alloc: Global, stated: Stated) -> Result<Vec<u8>, AllocError> {
+fn text_of(alloc: Global, stated: Vec<Option<Known>>) -> Result<Vec<u8>, AllocError> {
     let mut functions = Vec::new(alloc);
     functions.push(stated)?;
     encode(alloc, &Cert { functions })
@@ -34,12 +34,14 @@ fn text_of(alloc: Global, stated: Stated) -> Result<Vec<u8>, AllocError> {
 #[test]
 fn reached_and_unreached_blocks_are_written(rt: HostRuntime) -> Result<(), Fail> {
     let alloc = rt.alloc();
-    let stated = Stated::new(alloc).with(Some(known(alloc)?))?.with(None)?;
+    let mut stated = Vec::new(alloc);
+    stated.push(Some(known(alloc)?))?;
+    stated.push(None)?;
     // The locals, an edge out of a local, an edge out of the storage, and the block to which no path leads.
     let wanted = [
         1, 1, 2, 0, 2, 1, 0, 0, 1, 1, 31, 1, 2, 0x80, 1, 0, 1, 0, 0, 0,
     ];
     assert_eq!(rt; text_of(alloc, stated)?.as_slice(), wanted.as_slice());
-    assert!(rt; text_of(alloc, Stated::new(alloc))?.is_empty());
+    assert!(rt; text_of(alloc, Vec::new(alloc))?.is_empty());
     Ok(())
 }

@@ -32,14 +32,16 @@ fn lists_are_read(rt: HostRuntime) -> Result<(), Fail> {
 
 #[test]
 fn code_is_read_in_its_version(rt: HostRuntime) -> Result<(), Fail> {
-    let bytes = [2, 0x48, 2, 1, 0x02, 0x07];
+    let bytes = [0x48, 2, 1, 0x02, 0x07];
     let mut six = Reader::new(&bytes);
-    let code = six.instructions(rt.alloc(), Version::Six)?;
-    let wanted = [Instruction::LdU16(0x0102), Instruction::Ret];
-    assert_eq!(rt; code.as_slice(), wanted.as_slice());
+    let mut five = six.copied();
+    assert_eq!(rt;
+        six.instruction(Version::Six),
+        Ok(Instruction::LdU16(0x0102))
+    );
+    assert_eq!(rt; six.instruction(Version::Six), Ok(Instruction::Ret));
     assert_eq!(rt; six.byte(), Ok(0x07));
-    let refused = Reader::new(&bytes).instructions(rt.alloc(), Version::Five);
-    assert!(rt; matches!(refused, Err(Refusal::Phase(2))));
+    assert_eq!(rt; five.instruction(Version::Five), Err(Refusal::Phase(2)));
     Ok(())
 }
 

@@ -1,6 +1,6 @@
 // Modules as bytes, which stand in hexadecimal.
 
-use mv_binary_format::{decode, encode};
+use mv_binary_format::{Cursor, code, decode, encode};
 use mv_move_types::{Instruction, Refusal, Version};
 use std::alloc::{AllocError, Global};
 use std::test::Fail;
@@ -75,7 +75,54 @@ fn modules_have_what_their_bytes_say(rt: HostRuntime) -> Result<(), Fail> {
         Instruction::Ret,
     ];
     let function = m.functions().first().ok_or("function")?;
-    assert_eq!(rt; function.instructions(), mint.as_slice());
+    assert_eq!(rt;
+        function.code().to_vec(rt.alloc())?.as_slice(),
+        mint.as_slice()
+    );
+    Ok(())
+}
+
+// The front of a module of one function, whose instructions have immediates of each kind: numbers of 8, 64, 16, 32 and 128 bits,
+// an index of one byte and of three, and none.
+const KINDS_OF_IMMEDIATES: &str = "\
+    010c003300000000000931050601020304050607084801024901020304320102030405060708090a0b0c0d0e0f100a05\
+    0affff03070202";
+
+// The instructions of the first function. They outlive the module by which they were found.
+fn first_code<'a>(alloc: Global, bytes: &'a [u8]) -> Result<Option<Cursor<'a>>, Fail> {
+    let m = decode(alloc, bytes)?;
+    if m.functions().is_empty() {
+        return Ok(None);
+    }
+    Ok(Some(code(&m, 0)))
+}
+
+#[test]
+fn code_is_read_from_the_bytes(rt: HostRuntime) -> Result<(), Fail> {
+    let alloc = rt.alloc();
+    let text = altered(
+        alloc,
+        &text_of(alloc, KINDS_OF_IMMEDIATES, "", 0)?,
+        &[(4, 6)],
+    )?;
+    let wanted = [
+        Instruction::LdU8(5),
+        Instruction::LdU64(0x0807060504030201),
+        Instruction::LdU16(0x0201),
+        Instruction::LdU32(0x04030201),
+        Instruction::LdU128(0x100f0e0d0c0b0a090807060504030201),
+        Instruction::CopyLoc(5),
+        Instruction::CopyLoc(65535),
+        Instruction::LdConst(2),
+        Instruction::Ret,
+    ];
+    let list = first_code(alloc, &text)?.ok_or("function")?.to_vec(alloc)?;
+    assert_eq!(rt; list.as_slice(), wanted.as_slice());
+    let mut left = first_code(alloc, &text)?.ok_or("function")?;
+    for instruction in wanted {
+        assert_eq!(rt; left.next(), Some(instruction));
+    }
+    assert_eq!(rt; left.next(), None);
     Ok(())
 }
 

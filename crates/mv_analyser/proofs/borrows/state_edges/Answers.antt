@@ -35,35 +35,35 @@ pub returns-in-Ok-clause-fits : goal.returns-in-Ok-clause-fits
 returns-in-Ok-clause-fits c =
     edges_fit c.args.m.now c.of_function-domain.result.home c.args.f c.function_at-function.result.now c.of_function-domain.result.function c.graph_of-graph.result.now
     c.of_function-domain.ensures.home c.function_at-function.ensures.at c.of_function-domain.ensures.function c.graph_of-graph.ensures c.function_at-function.ensures.typed
-    c.in-Ok.least.items c.args.stated.now c.in_ok-stated_and-in-Ok.field-0 c.in_ok-stated_and-in-Ok.ensures c.requires.fits (c.search_is_least.ensures.found c.in-Ok.least.items c.in-Ok.ensures.ends).flow_is
+    c.in-Ok.least.items c.args.stated.now c.in_ok-stated_and-in-Ok.field-0.items c.in_ok-stated_and-in-Ok.ensures c.requires.fits (c.search_is_least.ensures.found c.in-Ok.least.items c.in-Ok.ensures.ends).flow_is
     (c.search_is_least.ensures.found c.in-Ok.least.items c.in-Ok.ensures.ends).starts (c.search_is_least.ensures.found c.in-Ok.least.items c.in-Ok.ensures.ends).small
 
 pub returns-in-Ok-clause-locals : goal.returns-in-Ok-clause-locals
 returns-in-Ok-clause-locals c =
     locals_stay c.args.m.now c.of_function-domain.result.home c.args.f c.function_at-function.result.now c.of_function-domain.result.function c.graph_of-graph.result.now
     c.of_function-domain.ensures.home c.function_at-function.ensures.at c.of_function-domain.ensures.function c.graph_of-graph.ensures c.function_at-function.ensures.typed
-    c.in-Ok.least.items c.args.stated.now c.in_ok-stated_and-in-Ok.field-0 c.in_ok-stated_and-in-Ok.ensures c.requires.fits (c.search_is_least.ensures.found c.in-Ok.least.items c.in-Ok.ensures.ends).flow_is
+    c.in-Ok.least.items c.args.stated.now c.in_ok-stated_and-in-Ok.field-0.items c.in_ok-stated_and-in-Ok.ensures c.requires.fits (c.search_is_least.ensures.found c.in-Ok.least.items c.in-Ok.ensures.ends).flow_is
     c.requires.locals
 
 pub returns-in-Ok-clause-edges : goal.returns-in-Ok-clause-edges
 returns-in-Ok-clause-edges c =
     edges_hold_there c.args.m.now c.of_function-domain.result.home c.args.f c.function_at-function.result.now c.of_function-domain.result.function c.graph_of-graph.result.now
     c.of_function-domain.ensures.home c.function_at-function.ensures.at c.of_function-domain.ensures.function c.graph_of-graph.ensures c.function_at-function.ensures.typed
-    c.in-Ok.least.items c.args.stated.now c.in_ok-stated_and-in-Ok.field-0 c.in_ok-stated_and-in-Ok.ensures c.requires.fits (c.search_is_least.ensures.found c.in-Ok.least.items c.in-Ok.ensures.ends).flow_is
+    c.in-Ok.least.items c.args.stated.now c.in_ok-stated_and-in-Ok.field-0.items c.in_ok-stated_and-in-Ok.ensures c.requires.fits (c.search_is_least.ensures.found c.in-Ok.least.items c.in-Ok.ensures.ends).flow_is
     c.start-start.result c.start-start.ensures c.has_start.ensures (c.search_is_least.ensures.found c.in-Ok.least.items c.in-Ok.ensures.ends).closed
 
 pub returns-in-Ok-clause-least_locals : goal.returns-in-Ok-clause-least_locals
 returns-in-Ok-clause-least_locals c =
     locals_stay_least c.args.m.now c.of_function-domain.result.home c.args.f c.function_at-function.result.now c.of_function-domain.result.function c.graph_of-graph.result.now
     c.of_function-domain.ensures.home c.function_at-function.ensures.at c.of_function-domain.ensures.function c.graph_of-graph.ensures c.function_at-function.ensures.typed
-    c.in-Ok.least.items c.args.stated.now c.in_ok-stated_and-in-Ok.field-0 c.in_ok-stated_and-in-Ok.ensures c.requires.fits (c.search_is_least.ensures.found c.in-Ok.least.items c.in-Ok.ensures.ends).flow_is
+    c.in-Ok.least.items c.args.stated.now c.in_ok-stated_and-in-Ok.field-0.items c.in_ok-stated_and-in-Ok.ensures c.requires.fits (c.search_is_least.ensures.found c.in-Ok.least.items c.in-Ok.ensures.ends).flow_is
     c.requires.least
 
 pub returns-in-Ok-clause-least_edges : goal.returns-in-Ok-clause-least_edges
 returns-in-Ok-clause-least_edges c =
     edges_are_least c.args.m.now c.of_function-domain.result.home c.args.f c.function_at-function.result.now c.of_function-domain.result.function c.graph_of-graph.result.now
     c.of_function-domain.ensures.home c.function_at-function.ensures.at c.of_function-domain.ensures.function c.graph_of-graph.ensures c.function_at-function.ensures.typed
-    c.in-Ok.least.items c.args.stated.now c.in_ok-stated_and-in-Ok.field-0 c.in_ok-stated_and-in-Ok.ensures c.requires.fits (c.search_is_least.ensures.found c.in-Ok.least.items c.in-Ok.ensures.ends).flow_is
+    c.in-Ok.least.items c.args.stated.now c.in_ok-stated_and-in-Ok.field-0.items c.in_ok-stated_and-in-Ok.ensures c.requires.fits (c.search_is_least.ensures.found c.in-Ok.least.items c.in-Ok.ensures.ends).flow_is
     c.start-start.result c.start-start.ensures c.has_start.ensures (c.search_is_least.ensures.found c.in-Ok.least.items c.in-Ok.ensures.ends).least
 
 pub returns-clause-refused : goal.returns-clause-refused

@@ -1,6 +1,8 @@
+use Rattle.std.proofs.Common.{◌++◌, ◌≡◌}
+use Rattle.std.specs.Slice.Iter.{iter_rest}
 use Rattle.mv_analyser.specs.States.{with_edges}
-use Rattle.mv_analyser.proofs.LeastEdges.{IsLeft}
 use Rattle.mv_analyser.proofs.borrows.stated_and.Given as goal
 
-abbrev pub invariant-loop-its : goal.invariant-loop-its
-invariant-loop-its l = IsLeft l.stated l.blocks l.its-iterator.rest.items (with_edges l.stated l.fn.edges.items)
+-- the blocks so far, and those that are left
+abbrev pub invariant-loop-known : goal.invariant-loop-known
+invariant-loop-known l = l.blocks.items ++ with_edges (iter_rest l.known-iterator.a) l.known-iterator.b.rest.items ≡ with_edges l.stated l.fn.edges.items

@@ -1,6 +1,7 @@
-use Rattle.std.proofs.Common.{◌≡◌, take}
+use Rattle.std.proofs.Common.{◌++◌, ◌≡◌}
 use Rattle.mv_analyser.specs.States.{locals_alone}
 use Rattle.mv_analyser.proofs.locals.alone.Given as goal
 
-abbrev pub invariant-loop-block : goal.invariant-loop-block
-invariant-loop-block l = l.blocks ≡ locals_alone (take l.block-index l.all)
+-- the blocks so far, and those that are left
+abbrev pub invariant-loop-locals : goal.invariant-loop-locals
+invariant-loop-locals l = l.blocks.items ++ locals_alone l.locals-iterator.rest.items ≡ locals_alone l.fn.all.items

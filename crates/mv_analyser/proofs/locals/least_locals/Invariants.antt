@@ -1,3 +1,4 @@
+use Rattle.std.proofs.Common.{map}
 use Rattle.mv_certificate.specs.Functions.{LocalsHoldAt}
 use Rattle.mv_certificate.specs.Reads.{FitsAt}
 use Rattle.mv_analyser.specs.Least.{HasLeastLocals}
@@ -7,6 +8,6 @@ use Rattle.mv_analyser.proofs.locals.least_locals.Given as goal
 
 abbrev pub invariant-loop-f : goal.invariant-loop-f
 invariant-loop-f l = record {
-  states : UpTo (λ k s. FitsAt l.m k s × (LocalsHoldAt l.m k s × HasLeastLocals l.m k s)) l.f l.functions.items;
+  states : UpTo (λ k s. FitsAt l.m k s × (LocalsHoldAt l.m k s × HasLeastLocals l.m k s)) l.f (map (λ stated. stated.items) l.functions.items);
   found : AllBefore (FindsLocals l.m) l.f;
 }

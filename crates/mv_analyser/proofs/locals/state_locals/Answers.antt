@@ -1,9 +1,9 @@
-use Rattle.std.proofs.Common.{List, Option, ◌∙◌, ap, sym, subst, ⊎_elim}
+use Rattle.std.proofs.Common.{List, Option, sym, subst, ⊎_elim}
 use Rattle.mv_move_types.specs.declared.borrow.Availability.{Availability}
 use Rattle.mv_lattice.specs.Search.{EndsWith, MeetsNeed}
 use Rattle.mv_certificate.specs.Functions.{LocalsHoldAt}
 use Rattle.mv_certificate.proofs.States.{graph-at}
-use Rattle.mv_analyser.specs.States.{locals_alone, EndsLocals, IsErrorAt}
+use Rattle.mv_analyser.specs.States.{EndsLocals, IsErrorAt}
 use Rattle.mv_analyser.proofs.Chains.{few_rises}
 use Rattle.mv_analyser.proofs.LeastLocals.{least_fits, least_holds, least_of_all, none_holds, few_locals, locals_end, locals_error, search_error}
 use Rattle.mv_analyser.proofs.locals.state_locals.Goals as goal
@@ -22,19 +22,19 @@ pub returns-in-Ok-clause-fits : goal.returns-in-Ok-clause-fits
 returns-in-Ok-clause-fits c =
     least_fits c.args.m.now c.in_ok-domain.domain.home c.args.f c.function_at-function.result.now c.in_ok-domain.domain.function c.graph_of-graph.result.now
     c.in_ok-domain.ensures.home c.function_at-function.ensures.at c.in_ok-domain.ensures.function c.graph_of-graph.ensures c.function_at-function.ensures.typed c.in_ok-start.start c.in_ok-start.ensures.start
-    c.in-Ok.least.items c.in_ok-alone-in-Ok.field-0 (c.in_ok-alone-in-Ok.ensures ∙ ap locals_alone c.deref.ensures.value) (c.search_is_least.ensures.found c.in-Ok.least.items c.in-Ok.ensures.ends).flow_is
+    c.in-Ok.least.items c.in_ok-alone-in-Ok.field-0.items c.in_ok-alone-in-Ok.ensures (c.search_is_least.ensures.found c.in-Ok.least.items c.in-Ok.ensures.ends).flow_is
 
 pub returns-in-Ok-clause-holds : goal.returns-in-Ok-clause-holds
 returns-in-Ok-clause-holds c =
     least_holds c.args.m.now c.in_ok-domain.domain.home c.args.f c.function_at-function.result.now c.in_ok-domain.domain.function c.graph_of-graph.result.now
     c.in_ok-domain.ensures.home c.function_at-function.ensures.at c.in_ok-domain.ensures.function c.graph_of-graph.ensures c.function_at-function.ensures.typed c.in_ok-start.start c.in_ok-start.ensures.start
-    c.in-Ok.least.items c.in_ok-alone-in-Ok.field-0 (c.in_ok-alone-in-Ok.ensures ∙ ap locals_alone c.deref.ensures.value) (c.search_is_least.ensures.found c.in-Ok.least.items c.in-Ok.ensures.ends).flow_is (c.search_is_least.ensures.found c.in-Ok.least.items c.in-Ok.ensures.ends).closed
+    c.in-Ok.least.items c.in_ok-alone-in-Ok.field-0.items c.in_ok-alone-in-Ok.ensures (c.search_is_least.ensures.found c.in-Ok.least.items c.in-Ok.ensures.ends).flow_is (c.search_is_least.ensures.found c.in-Ok.least.items c.in-Ok.ensures.ends).closed
 
 pub returns-in-Ok-clause-least : goal.returns-in-Ok-clause-least
 returns-in-Ok-clause-least c =
     least_of_all c.args.m.now c.in_ok-domain.domain.home c.args.f c.function_at-function.result.now c.in_ok-domain.domain.function c.graph_of-graph.result.now
     c.in_ok-domain.ensures.home c.function_at-function.ensures.at c.in_ok-domain.ensures.function c.graph_of-graph.ensures c.function_at-function.ensures.typed c.in_ok-start.start c.in_ok-start.ensures.start
-    c.in-Ok.least.items c.in_ok-alone-in-Ok.field-0 (c.in_ok-alone-in-Ok.ensures ∙ ap locals_alone c.deref.ensures.value) (c.search_is_least.ensures.found c.in-Ok.least.items c.in-Ok.ensures.ends).least
+    c.in-Ok.least.items c.in_ok-alone-in-Ok.field-0.items c.in_ok-alone-in-Ok.ensures (c.search_is_least.ensures.found c.in-Ok.least.items c.in-Ok.ensures.ends).least
 
 pub returns-clause-refused : goal.returns-clause-refused
 returns-clause-refused c =

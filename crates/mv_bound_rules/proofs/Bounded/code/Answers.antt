@@ -1,11 +1,11 @@
-use Rattle.mv_bound_rules.proofs.Common.{◌∙◌, ◌≡◌, Some, ap, get_or, length, refl, slice_get_read, slice_get, Module}
+use Rattle.mv_bound_rules.proofs.Common.{◌∙◌, Global, Vec, ap, FunctionDefinition}
+use Rattle.mv_move_types.specs.declared.instruction.Instruction.{Instruction}
+use Rattle.mv_bound_rules.specs.Functions.{codes_of}
+use Rattle.mv_bound_rules.proofs.Entries.{listed_at}
 use Rattle.mv_bound_rules.proofs.Bounded.code.Goals as goal
 
 pub returns : goal.returns
 returns c =
-    let m = c.args.self.now in
-    let d = c.index-functions-f.result in
-    let value = c.functions-functions.ensures.value ∙ ap (λ (x : Module). x.functions) c.module.ensures.value in
-    let at : slice_get m.functions c.args.f ≡ Some d =
-    slice_get_read m.functions (length m.functions) c.args.f d refl c.requires (c.index-functions-f.is ∙ ap (λ fs. get_or fs c.args.f d) value) in
-    rw at c.instructions.ensures
+    let coded = c.self.invariant.coded ∙ ap codes_of c.self.view_is in
+    let here = listed_at (λ (v : Vec Instruction Global). v.items) (λ (d : FunctionDefinition). d.code) c.args.self.now.functions c.args.f c.index.result.now c.self.inside.codes.items coded c.requires c.index.ensures in
+    rw c.deref.ensures.value here

@@ -1,36 +1,33 @@
-use Rattle.mv_storage.proofs.Common.{◌∙◌, ◌≤◌, List, ap, length, refl, subst, sym, take, ℕ, Ascends, words_under, Current}
-use Rattle.std.proofs.Common.{◌+◌, drop}
-use Rattle.std.specs.Prelude.{IfSome}
-use Rattle.std.specs.Option.{option_map}
+use Rattle.mv_storage.proofs.Common.{◌∙◌, ap, refl, subst, sym, ℕ, Ascends, words_under, Current}
+use Rattle.std.specs.Option.{option_and_then}
+use Rattle.mv_storage.specs.WordLists.{piece}
 use Rattle.std.specs.BTreeMap.{BTreeMap}
 use Rattle.mv_move_types.specs.declared.tables.Key.{Key}
 use Rattle.mv_storage.specs.Map.{Layers, written_if}
 use Rattle.mv_storage.specs.Slots.{IsRemembered, layers, written_at}
 use Rattle.mv_storage.proofs.Undoing.{keeps-undoable, with_marks, written-marks}
-use Rattle.mv_storage.proofs.Lent.{can-lend, none-stored, opened-layers, opened-pinned, opened-tracked, opened-tree, opened-words}
+use Rattle.mv_storage.proofs.Lent.{can-lend, none-there, opened-layers, opened-pinned, opened-tracked, opened-tree, opened-words}
 use Rattle.mv_storage.proofs.Shown.{Ascends-shown}
 use Rattle.mv_storage.proofs.storage.Storage.open.Goals as goal
 
 pub words_at-requires : goal.words_at-requires
 words_at-requires c =
-    let fits = subst (λ (l : Layers). IfSome (words_under l.current c.args.key.now) (λ old. c.args.from + c.args.width ≤ length old)) (sym c.self.view_is) c.requires.fits in
-    can-lend c.self.inside.places c.own_in-own.new.places c.own_in-own.new.touched.items c.own_in-own.ensures.tracked c.self.invariant.0.sound.ordered c.own_in-own.ensures.same c.args.key.now c.args.from c.args.width fits
-    c.own_place-place.result c.own_place-place.new.lent c.own_in-own.result (c.own_in-own.ensures.own, c.own_place-place.ensures.place)
+    can-lend c.self.inside.places c.own_in-own.new.places c.own_in-own.new.touched.items c.own_in-own.ensures.tracked c.self.invariant.0.sound.ordered c.own_in-own.ensures.same c.args.key.now c.args.from c.args.width c.own_in-own.result c.own_in-own.ensures.none
+    c.own_place-place.result c.own_place-place.new.lent (c.own_in-own.ensures.own, c.own_place-place.ensures.place)
 
 pub invariant_of-self-lent : goal.invariant_of-self-lent
-invariant_of-self-lent c = λ w.
-    let fits = subst (λ (l : Layers). IfSome (words_under l.current c.args.key.now) (λ old. c.args.from + c.args.width ≤ length old)) (sym c.self.view_is) c.requires.fits in (
-      opened-tracked c.self.inside.places c.own_in-own.new.places c.own_in-own.new.touched.items c.own_in-own.ensures.tracked c.self.invariant.0.sound.ordered c.own_in-own.ensures.same c.args.key.now c.args.from c.args.width fits
-          c.own_place-place.result c.own_place-place.new.lent c.own_in-own.result (c.own_in-own.ensures.own, c.own_place-place.ensures.place) w,
-      subst (λ (tree : BTreeMap Key ℕ). IsRemembered tree c.own_in-own.new.known.lines)
-          (sym (opened-tree c.self.inside.places c.own_in-own.new.places c.own_in-own.new.touched.items c.own_in-own.ensures.tracked c.self.invariant.0.sound.ordered c.own_in-own.ensures.same c.args.key.now c.args.from c.args.width fits c.own_place-place.result w))
-          c.own_in-own.ensures.remembered,
-      keeps-undoable c.self.inside.places (written_at c.own_in-own.new.places c.own_place-place.result c.args.from w) c.self.inside.undo.items
-          (λ q place h. opened-pinned c.self.inside.places c.own_in-own.new.places c.own_in-own.new.touched.items c.own_in-own.ensures.tracked c.self.invariant.0.sound.ordered c.own_in-own.ensures.same c.args.key.now c.args.from c.args.width fits
-          c.own_place-place.result c.own_place-place.new.lent c.own_in-own.result (c.own_in-own.ensures.own, c.own_place-place.ensures.place) w q place (c.own_in-own.ensures.pinned q place h)) c.self.invariant.2,
-      c.self.invariant.3,
-      c.self.invariant.4,
-    )
+invariant_of-self-lent c = λ w. (
+  opened-tracked c.self.inside.places c.own_in-own.new.places c.own_in-own.new.touched.items c.own_in-own.ensures.tracked c.self.invariant.0.sound.ordered c.own_in-own.ensures.same c.args.key.now c.args.from c.args.width c.own_in-own.result c.own_in-own.ensures.none
+      c.own_place-place.result c.own_place-place.new.lent (c.own_in-own.ensures.own, c.own_place-place.ensures.place) w,
+  subst (λ (tree : BTreeMap Key ℕ). IsRemembered tree c.own_in-own.new.known.lines)
+      (sym (opened-tree c.self.inside.places c.own_in-own.new.places c.own_in-own.new.touched.items c.own_in-own.ensures.tracked c.self.invariant.0.sound.ordered c.own_in-own.ensures.same c.args.key.now c.args.from c.args.width c.own_in-own.result c.own_in-own.ensures.none c.own_place-place.result w))
+      c.own_in-own.ensures.remembered,
+  keeps-undoable c.self.inside.places (written_at c.own_in-own.new.places c.own_place-place.result c.args.from w) c.self.inside.undo.items
+      (λ q place h. opened-pinned c.self.inside.places c.own_in-own.new.places c.own_in-own.new.touched.items c.own_in-own.ensures.tracked c.self.invariant.0.sound.ordered c.own_in-own.ensures.same c.args.key.now c.args.from c.args.width c.own_in-own.result c.own_in-own.ensures.none
+      c.own_place-place.result c.own_place-place.new.lent (c.own_in-own.ensures.own, c.own_place-place.ensures.place) w q place (c.own_in-own.ensures.pinned q place h)) c.self.invariant.2,
+  c.self.invariant.3,
+  c.self.invariant.4,
+)
 
 pub returns : goal.returns
 returns c =
@@ -44,19 +41,20 @@ returns c =
     let place = c.own_place-place.result in
     let lent = c.own_place-place.new.lent in
     let own = c.own_in-own.result in
-    let how = c.own_place-place.ensures.place in
-    let fits = subst (λ (l : Layers). IfSome (words_under l.current key) (λ old. c.args.from + c.args.width ≤ length old)) (sym c.self.view_is) c.requires.fits in (
+    let there = c.own_in-own.ensures.none in
+    let how = c.own_place-place.ensures.place in (
       (
         refl,
-        λ w. ap (with_marks c.self.inside.undo.items c.self.inside.marks) (opened-layers m n touched had ordered same key c.args.from c.args.width fits place lent own (c.own_in-own.ensures.own, how) w)
+        λ w. ap (with_marks c.self.inside.undo.items c.self.inside.marks) (opened-layers m n touched had ordered same key c.args.from c.args.width own there place lent (c.own_in-own.ensures.own, how) w)
             ∙ written-marks c.self.inside.undo.items c.self.inside.marks lent c.args.width (layers m) key c.args.from w
             ∙ ap (λ (l : Layers). written_if lent c.args.width l key c.args.from w) c.self.view_is,
       ),
       record {
         loan = tt;
-        words = λ is. opened-words m n touched had ordered same key c.args.from c.args.width fits place lent own (c.own_in-own.ensures.own, how) c.words_at.result.now c.own_place-place.ensures.lent c.words_at.ensures.words c.words_at.ensures.none is
-            ∙ ap (λ (l : Layers). option_map (λ (old : List ℕ). take c.args.width (drop c.args.from old)) (words_under l.current key)) c.self.view_is;
-        stored = λ is. ap (λ (l : Layers). words_under l.current key) (sym c.self.view_is) ∙ none-stored m key ordered own c.own_place-place.new.stored c.own_in-own.ensures.none c.own_place-place.ensures.stored c.own_place-place.ensures.refused is;
+        words = λ is. opened-words m n touched had ordered same key c.args.from c.args.width own there place lent (c.own_in-own.ensures.own, how) c.words_at.result.now c.own_place-place.ensures.lent c.words_at.ensures.words c.words_at.ensures.none is
+            ∙ ap (λ (l : Layers). option_and_then (piece c.args.from c.args.width) (words_under l.current key)) c.self.view_is;
+        there = λ is. ap (λ (l : Layers). option_and_then (piece c.args.from c.args.width) (words_under l.current key)) (sym c.self.view_is)
+            ∙ none-there m key c.args.from c.args.width ordered own c.own_place-place.new.there there c.own_place-place.ensures.there c.own_place-place.ensures.refused is;
         ascends = subst Ascends (ap (λ (l : Layers). l.current) c.self.view_is) (Ascends-shown Current m.slots.items m.tree.entries ordered);
       },
     )

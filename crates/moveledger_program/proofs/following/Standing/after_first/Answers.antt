@@ -1,0 +1,24 @@
+use Rattle.std.proofs.Common.{◌≡◌, ◌<◌, arith}
+use Rattle.moveledger_program.specs.declared.following.Standing.TheVariants as standing
+use Rattle.moveledger_program.proofs.Passing.{from-between, from-length, from-nowhere, from-payload}
+use Rattle.moveledger_program.proofs.following.Standing.after_first.Goals as goal
+
+pub returns-in-Record-eq0-clause-leads : goal.returns-in-Record-eq0-clause-leads
+returns-in-Record-eq0-clause-leads c =
+    let is : c.args.self ≡ standing.Record 0 = cc in
+    from-between c.args.self c.none.result c.args.bytes.now is c.none.ensures.room c.none.ensures.none c.requires
+
+pub returns-in-Record-clause-leads : goal.returns-in-Record-clause-leads
+returns-in-Record-clause-leads c =
+    let is : c.args.self ≡ standing.Record c.in-Record.missing = cc in
+    let other = rw c.in-Record.is at c.in-Record.missing-test.1 in
+    let some : 0 < c.in-Record.missing = omega (arith, other) in
+    from-payload c.args.self c.in-Record.missing c.min-count.result c.args.bytes.now is some (omega arith) (omega arith)
+
+pub returns-in-Length-clause-leads : goal.returns-in-Length-clause-leads
+returns-in-Length-clause-leads c =
+    let is : c.args.self ≡ standing.Length c.in-Length.begun = cc in
+    from-length c.args.self c.more.result c.in-Length.begun c.args.bytes.now is c.requires c.more.ensures
+
+pub returns-in-NoLength-clause-leads : goal.returns-in-NoLength-clause-leads
+returns-in-NoLength-clause-leads c = from-nowhere c.args.self _ c.in-NoLength.is
