@@ -1,13 +1,11 @@
 -- What slots show, as a map.
 use Rattle.mv_storage.proofs.Common.{[], ℕ, ⊎_elim, ◌++◌, ◌∙◌, ◌∷◌, ◌≡◌, ◌≤◌, Bool, List, None, Option, Some, ap, arith, cond, false, length, refl, slice_get, subst, suc, sym, take, true}
 use Rattle.mv_storage.proofs.Common.{IsOrdered, is_at, lookup, option_and_then, is_eq, is_lt, Less, Key, FlatEntry, key_before, same_key, with_words, without_words, words_under, Ascends}
-use Rattle.mv_storage.proofs.Common.{IsBelow, edited, is_changed, key_cmp, layer_at, shown, value_at, Places, Layer, Committed, Current, Slot, Vacant}
-use Rattle.std.proofs.Common.{◌+◌, nat_le, drop}
+use Rattle.mv_storage.proofs.Common.{IsBelow, is_changed, key_cmp, layer_at, shown, value_at, Places, Layer, Committed, Current, Slot, Vacant}
 use Rattle.std.specs.Map.{keys_of}
 use Rattle.std.specs.List.{AllByRecursion}
 use Rattle.std.specs.List.Sorted.{IsStrictlySortedBy}
 use Rattle.std.proofs.lemmas.Map.Keys.{sorted_head, sorted_tail}
-use Rattle.mv_storage.specs.Map.{overwritten}
 use Rattle.mv_storage.specs.Slots.{shown_before}
 use Rattle.mv_storage.proofs.Keys.{key_before-is, same_key-is, same_key-symm, same_key-to}
 use Rattle.mv_storage.proofs.Maps.{words_under-below, words_under-with_words, words_under-without_words, Ascends-with_words, Ascends-without_words, entries_from_words}
@@ -99,36 +97,6 @@ shown-without l m n k s t h =
 pub same-at : {X : Type 0} (f : Key → X) (k q : Key) → cond (same_key k q) (f k) (f q) ≡ f q
 same-at f k q =
     ⊎_elim (λ (t : same_key k q ≡ true). rw t (ap f (same_key-to k q t))) (λ (f : same_key k q ≡ false). rw f refl) (cases_Bool (same_key k q))
-
-unchanged : (l : Layer) (m n : Places) (k : Key) (v : Option (List ℕ)) → IsOrdered key_cmp m.tree → IsOrdered key_cmp n.tree → v ≡ value_at l m k
-    → ((q : Key) → value_at l n q ≡ cond (same_key k q) v (value_at l m q))
-    → shown_of l n ≡ shown_of l m
-unchanged l m n k v s t e h =
-    shown-same l l m n s t (λ q. h q ∙ ap (λ x. cond (same_key k q) x (value_at l m q)) e ∙ same-at (value_at l m) k q)
-
--- a value at one key, or what was there
-pub shown-put : (l : Layer) (m n : Places) (k : Key) (w : List ℕ) (done : Bool) → IsOrdered key_cmp m.tree → IsOrdered key_cmp n.tree
-    → ((q : Key) → value_at l n q ≡ cond (same_key k q) (cond done (Some w) (value_at l m k)) (value_at l m q))
-    → shown_of l n ≡ cond done (with_words (shown_of l m) k w) (shown_of l m)
-shown-put l m n k w true s t h = shown-with l m n k w s t h
-shown-put l m n k w false s t h = unchanged l m n k (value_at l m k) s t refl h
-
--- words in place of as many
-pub shown-edit : (l : Layer) (m n : Places) (k : Key) (from : ℕ) (new : List ℕ) → IsOrdered key_cmp m.tree → IsOrdered key_cmp n.tree
-    → ((q : Key) → value_at l n q ≡ cond (same_key k q) (edited from new (value_at l m k)) (value_at l m q))
-    → shown_of l n ≡ overwritten (shown_of l m) k from new
-shown-edit l m n k from new s t h = by (value_at l m k) refl (words_under-shown l m k s) h
-  where
-    by : (v : Option (List ℕ)) → v ≡ value_at l m k → words_under (shown_of l m) k ≡ v
-        → ((q : Key) → value_at l n q ≡ cond (same_key k q) (edited from new v) (value_at l m q))
-        → shown_of l n ≡ overwritten (shown_of l m) k from new
-    by None e w h = rw w (unchanged l m n k None s t e h)
-    by (Some old) e w h =
-        rw w (
-        ⊎_elim
-        (λ (room : nat_le (from + length new) (length old) ≡ true). rw room (shown-with l m n k (take from old ++ new ++ drop (from + length new) old) s t (rw room at h)))
-        (λ (none : nat_le (from + length new) (length old) ≡ false). rw none (unchanged l m n k (Some old) s t e (rw none at h)))
-        (cases_Bool (nat_le (from + length new) (length old))))
 
 -- ---- slots that no run has changed
 

@@ -1,5 +1,5 @@
 -- What the slots of storage show, and which of them a run has changed.
-use Rattle.std.specs.Prelude.{ℕ, ◌<◌, List, [], ◌∷◌, Bool, cond, true, false, is_some, ◌≡◌, ◌⊎◌, Option, Some, None, unwrap_or, slice_get, slice_index_or}
+use Rattle.std.specs.Prelude.{ℕ, ◌<◌, List, [], ◌∷◌, Bool, cond, true, false, is_some, ◌≡◌, ◌⊎◌, Option, Some, None, slice_get, slice_index_or}
 use Rattle.std.specs.Vec.{with_item, with_items_from}
 use Rattle.std.specs.Option.{option_and_then, option_map, option_map_or}
 use Rattle.std.specs.List.{list_any}
@@ -15,7 +15,7 @@ use Rattle.mv_storage.specs.declared.slot.Layer.{Layer}
 use Rattle.mv_storage.specs.declared.slot.Layer.TheVariants.{Committed, Current}
 use Rattle.mv_storage.specs.declared.places.Places.{Places}
 use Rattle.mv_storage.specs.FlatStorage.{FlatStorage}
-use Rattle.mv_storage.specs.WordLists.{spliced, laid_over}
+use Rattle.mv_storage.specs.WordLists.{laid_over}
 use Rattle.mv_storage.specs.Map.{Layers}
 
 -- how two keys compare
@@ -172,10 +172,6 @@ ShowsSame layer old new = (q : Key) → value_at layer new q ≡ value_at layer 
 -- a layer shows this value at one key, and at each other what it showed
 abbrev pub ShowsAt : Layer → Key → Option (List ℕ) → Places → Places → Type 0
 ShowsAt layer key value old new = (q : Key) → value_at layer new q ≡ cond (same_key key q) value (value_at layer old q)
-
--- a value with these words in place of as many, if they are there
-abbrev pub edited : ℕ → List ℕ → Option (List ℕ) → Option (List ℕ)
-edited from new value = option_map (λ old. unwrap_or (spliced from new old) old) value
 
 -- the keys ascend, each is one of a struct definition, and each has a place of its own, where a slot in use stands
 pub record IsSound (p : Places) : Type 0 where

@@ -1,9 +1,9 @@
 // What a run sees of the storage, and what it does to it.
-ghost use Rattle.std.specs.Prelude.{◌≡◌, ◌≤◌, ◌+◌, length, [], cond, not, take, drop, None, is_some, IfOk, IfSome, IsOk, OnOk, OnErr, MatchOption, option_copied, option_and_then, option_map, slice_get};
+ghost use Rattle.std.specs.Prelude.{◌≡◌, ◌≤◌, ◌+◌, length, [], cond, take, drop, None, is_some, IfOk, IfSome, IsOk, OnOk, OnErr, MatchOption, option_copied, option_and_then, option_map, slice_get};
 ghost use Rattle.mv_move_types.specs.declared.tables.Key.{Key};
 ghost use Rattle.mv_storage.specs.WordLists.{piece};
 ghost use Rattle.mv_storage.specs.FlatStorage.{words_under, with_words, without_words};
-ghost use Rattle.mv_storage.specs.Map.{overwritten, Ascends};
+ghost use Rattle.mv_storage.specs.Map.{Ascends};
 ghost use Rattle.std.specs.Prelude.{true, false, Some, Ok, Err};
 ghost use Rattle.std.specs.Borrow.{sem};
 ghost use Rattle.mv_storage.specs.Lending.{LendsLent, LendsWords, lent_words};

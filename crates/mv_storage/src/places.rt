@@ -169,6 +169,7 @@ impl Places {
 
     // So many words from a place on, one at least, of those that a run has to itself at a place, lent; none where no place is
     // given.
+    #[inline(always)]
     pub(crate) fn words_at(
         &mut self,
         place: Option<usize>,

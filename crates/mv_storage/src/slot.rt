@@ -42,10 +42,9 @@ impl Versions {
             Layer::Current => self.current.take(),
         }
     }
-}
 
-impl Versions {
     // So many of the words that the run sees, from a place on, one at least, lent.
+    #[inline(always)]
     fn part(&mut self, from: usize, width: usize) -> &mut [u128]
         requires there { is_some self.old.current ≡ true }
         requires fits { IfSome self.old.current (λ words. from + width ≤ length words) }
@@ -360,6 +359,7 @@ impl Slot {
     }
 
     // So many of the words that the run has to itself, from a place on, one at least, lent.
+    #[inline(always)]
     pub(crate) fn part(&mut self, from: usize, width: usize) -> &mut [u128]
         requires own { IsOwn self.old }
         requires fits { IfSome (of_layer Current self.old) (λ words. from + width ≤ length words) }

@@ -1,6 +1,6 @@
 // What a run does to the slots of keys, and the keys of those that it has changed, each with its place. The keys that were
 // looked up last are remembered with their places, so that no search is needed as long as few of them take turns.
-ghost use Rattle.std.specs.Prelude.{◌≡◌, ℕ, None, Some, IfOk, OnOk, OnErr, false, true, cond, not, is_some, option_and_then};
+ghost use Rattle.std.specs.Prelude.{◌≡◌, ℕ, None, Some, IfOk, OnOk, OnErr, false, true, is_some, option_and_then};
 ghost use Rattle.std.specs.List.{list_any};
 ghost use Rattle.std.specs.BTreeMap.{BTreeMap, get};
 ghost use Rattle.mv_move_types.specs.declared.tables.Key.{Key};

@@ -2,10 +2,10 @@
 ghost use Rattle.std.specs.BTreeMap.Range.{IsLeBy, IsLtBy, range_contains};
 ghost use Rattle.std.specs.List.{filter, AllByRecursion};
 ghost use Rattle.mv_machine.specs.State.{key_before, same_key};
-ghost use Rattle.std.specs.Prelude.{◌≡◌, ◌==◌, ◌<◌, ◌≤◌, ◌+◌, ◌^◌, ◌++◌, ◌∷◌, length, take, drop, [], cond, not, None, is_some, IfOk, IfSome, IsOk, OnOk, OnErr, MatchOption, option_copied, option_and_then, option_map, slice_get};
+ghost use Rattle.std.specs.Prelude.{◌≡◌, ◌==◌, ◌<◌, ◌≤◌, ◌+◌, ◌^◌, ◌++◌, ◌∷◌, length, take, drop, [], not, None, is_some, IfOk, IfSome, IsOk, OnOk, OnErr, MatchOption, option_copied, option_and_then, option_map, slice_get};
 ghost use Rattle.mv_storage.specs.WordLists.{piece};
 ghost use Rattle.mv_storage.specs.FlatStorage.{FlatStorage, words_under, with_words, without_words};
-ghost use Rattle.mv_storage.specs.Map.{overwritten, Ascends};
+ghost use Rattle.mv_storage.specs.Map.{Ascends};
 ghost use Rattle.mv_storage.specs.Slots.{key_cmp, layers, IsSound, AreKept};
 ghost use Rattle.std.specs.Prelude.{ℕ, List, true, false, nat_lt, Some, Ok};
 ghost use Rattle.std.specs.Borrow.{sem};

@@ -2,4 +2,5 @@
 
 mod blocks;
 mod filling;
+mod overlays;
 mod storage;

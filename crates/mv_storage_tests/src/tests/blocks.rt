@@ -1,4 +1,5 @@
 // Blocks of storage that are taken back or kept.
+use super::overlays::{put_claimed, write};
 use mv_move_types::Key;
 use mv_storage::{Changes, Storage, Value};
 use std::alloc::{AllocError, Global};
@@ -24,7 +25,7 @@ fn set(storage: &mut Storage, address: u128, leaf: Option<u128>) -> Result<(), A
     let mut overlay = storage.overlay();
     overlay.take(&key(address))?;
     if let Some(leaf) = leaf {
-        overlay.put_new(key(address), Value::leaf(leaf))?;
+        put_claimed(&mut overlay, key(address), Value::leaf(leaf))?;
     }
     overlay.commit()
 }
@@ -33,9 +34,9 @@ fn set(storage: &mut Storage, address: u128, leaf: Option<u128>) -> Result<(), A
 fn try_out(storage: &mut Storage, address: u128) -> Result<(), AllocError> {
     let mut overlay = storage.overlay();
     overlay.take(&key(7))?;
-    overlay.put_new(key(7), Value::leaf(99))?;
+    put_claimed(&mut overlay, key(7), Value::leaf(99))?;
     overlay.take(&key(7))?;
-    overlay.put_new(key(address), Value::leaf(98))?;
+    put_claimed(&mut overlay, key(address), Value::leaf(98))?;
     overlay.discard();
     Ok(())
 }
@@ -142,14 +143,14 @@ fn blocks_of_many_keys_come_back(rt: HostRuntime) -> Result<(), Fail> {
 // A run that puts a value of many leaves, and is kept.
 fn put(storage: &mut Storage, value: Value) -> Result<(), AllocError> {
     let mut overlay = storage.overlay();
-    overlay.put_new(key(7), value)?;
+    put_claimed(&mut overlay, key(7), value)?;
     overlay.commit()
 }
 
 // A run that writes leaves into that value, and is kept. Whether the value is there.
-fn write(storage: &mut Storage, from: usize, leaves: &[u128]) -> Result<bool, AllocError> {
+fn write_leaves(storage: &mut Storage, from: usize, leaves: &[u128]) -> Result<bool, AllocError> {
     let mut overlay = storage.overlay();
-    let is_there = overlay.write(&key(7), from, leaves)?;
+    let is_there = write(&mut overlay, &key(7), from, leaves)?;
     overlay.commit()?;
     Ok(is_there)
 }
@@ -157,9 +158,9 @@ fn write(storage: &mut Storage, from: usize, leaves: &[u128]) -> Result<bool, Al
 // A run that goes on after it was kept, and is given up.
 fn go_on(storage: &mut Storage) -> Result<bool, AllocError> {
     let mut overlay = storage.overlay();
-    let was_there = overlay.write(&key(7), 0, &[5])?;
+    let was_there = write(&mut overlay, &key(7), 0, &[5])?;
     overlay.commit()?;
-    let is_there = overlay.write(&key(7), 0, &[4])?;
+    let is_there = write(&mut overlay, &key(7), 0, &[4])?;
     overlay.discard();
     Ok(was_there && is_there)
 }
@@ -170,10 +171,39 @@ fn values_of_many_leaves_come_back(rt: HostRuntime) -> Result<(), Fail> {
     let mut storage = Storage::new(alloc);
     put(&mut storage, Value::words([1, 2, 3].to_vec(alloc)?))?;
     storage.begin()?;
-    assert!(rt; write(&mut storage, 1, &[8, 9])? && go_on(&mut storage)?);
+    assert!(rt; write_leaves(&mut storage, 1, &[8, 9])? && go_on(&mut storage)?);
     assert_eq!(rt; storage.get(&key(7)), Some([5, 8, 9].as_slice()));
     assert!(rt; storage.rollback());
     assert_eq!(rt; storage.get(&key(7)), Some([1, 2, 3].as_slice()));
+    Ok(())
+}
+
+// A run that claims a key and puts nothing there, and is kept. Whether a value is there.
+fn claim(storage: &mut Storage, address: u128) -> Result<bool, AllocError> {
+    let mut overlay = storage.overlay();
+    let is_there = overlay.claim(&key(address))?;
+    overlay.commit()?;
+    Ok(is_there)
+}
+
+// A key is claimed in a block that is taken back: one with a value, one without, and one of which the block has taken the value.
+#[test]
+fn claims_are_taken_back(rt: HostRuntime) -> Result<(), Fail> {
+    let mut storage = Storage::new(rt.alloc());
+    set(&mut storage, 7, Some(1))?;
+    storage.begin()?;
+    assert!(rt; claim(&mut storage, 7)? && !claim(&mut storage, 8)?);
+    set(&mut storage, 7, None)?;
+    assert!(rt; !claim(&mut storage, 7)?);
+    assert!(rt; stored(&storage, 7).is_none() && stored(&storage, 8).is_none());
+    set(&mut storage, 7, Some(2))?;
+    set(&mut storage, 8, Some(3))?;
+    assert!(rt; claim(&mut storage, 7)? && claim(&mut storage, 8)?);
+    assert!(rt; storage.rollback());
+    assert_eq!(rt; stored(&storage, 7), Some(1));
+    assert!(rt; stored(&storage, 8).is_none() && !claim(&mut storage, 8)?);
+    let mut entries = storage.iter();
+    assert!(rt; entries.next().is_some() && entries.next().is_none());
     Ok(())
 }
 

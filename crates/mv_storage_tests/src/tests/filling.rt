@@ -1,4 +1,5 @@
 // Values that are stored all at once are stored as if each was put where none is.
+use super::overlays::put_claimed;
 use mv_move_types::Key;
 use mv_storage::{Filling, Storage, Value};
 use std::alloc::{AllocError, Global};
@@ -72,7 +73,11 @@ fn put(
     let mut storage = Storage::new(alloc);
     let mut overlay = storage.overlay();
     for number in 0..count {
-        overlay.put_new(key(number, addresses, structs), value(alloc, number)?)?;
+        put_claimed(
+            &mut overlay,
+            key(number, addresses, structs),
+            value(alloc, number)?,
+        )?;
     }
     overlay.commit()?;
     overlay.discard();
@@ -83,8 +88,8 @@ fn put(
 fn change(storage: &mut Storage) -> Result<(), AllocError> {
     let mut overlay = storage.overlay();
     overlay.take(&key(0, 1, 1))?;
-    overlay.put_new(key(0, 1, 1), Value::leaf(99))?;
-    overlay.put_new(key(7, 1, 8), Value::leaf(98))?;
+    put_claimed(&mut overlay, key(0, 1, 1), Value::leaf(99))?;
+    put_claimed(&mut overlay, key(7, 1, 8), Value::leaf(98))?;
     overlay.commit()?;
     overlay.discard();
     Ok(())

@@ -2,6 +2,7 @@
 ghost use Rattle.std.specs.Prelude.{◌≡◌, cond, OnErr, IfOk};
 ghost use Rattle.mv_storage.specs.FlatStorage.{with_words};
 
+use super::overlays::{put_claimed, write};
 use mv_move_types::Key;
 use mv_storage::{Overlay, Storage, Value};
 use std::alloc::{AllocError, Global};
@@ -50,29 +51,14 @@ fn run(storage: &mut Storage, key: Key, value: Value) -> Result<bool, AllocError
 }
 
 // A run that edits a value and is given up leaves the storage as it was.
-fn try_out(storage: &mut Storage, key: &Key, new: &[u128])
+fn try_out(storage: &mut Storage, key: &Key, word: u128)
     ensures { storage.new.committed ≡ storage.old.committed }
 {
     let mut overlay = storage.overlay();
-    let _ = overlay.write(key, 0, new);
-    overlay.discard();
-}
-
-// Writes a word over the first one under a key, if there is one, and says whether it did.
-fn edit_first(overlay: &mut Overlay<'_>, key: &Key, word: u128) -> Result<bool, AllocError> {
-    let len = match overlay.len(key) {
-        Some(len) => len,
-        None => 0,
-    };
-    if len == 0 {
-        return Ok(false);
-    }
-    let found = overlay.edit(key, 0, 1)?;
-    if let Some(words) = found {
+    if let Ok(Some(words)) = overlay.edit(key, 0, 1) {
         words.fill(word);
-        return Ok(true);
     }
-    Ok(false)
+    overlay.discard();
 }
 
 // The value of these words.
@@ -127,15 +113,15 @@ enum Act<'a> {
     // A value is put, unless there is one.
     Puts(Key, &'a [u128], bool),
     // The same by one search.
-    PutsNew(Key, u128, bool),
+    PutsClaimed(Key, u128, bool),
+    // A key gets its place, and whether there is a value.
+    Claims(Key, bool),
     // A value is taken out, if there is one.
     Takes(Key, Option<&'a [u128]>),
     // Words are written over those of a value from one on, if there are as many.
     Writes(Key, usize, &'a [u128], bool),
     // A word is written over the first one of a value, which is there.
     Sets(Key, u128),
-    // The first word of a value is changed where it stands, if there is one.
-    Lends(Key, u128, bool),
     // What a value of one word reads.
     Reads(Key, Option<u128>),
     // The words of a value from one on, so many.
@@ -153,15 +139,15 @@ impl<'a> Act<'a> {
             Act::Puts(key, words, wanted) => {
                 Ok(put(overlay, key, value_of(alloc, words)?)? == wanted)
             }
-            Act::PutsNew(key, word, wanted) => {
-                Ok(overlay.put_new(key, Value::leaf(word))? == wanted)
-            }
+            Act::PutsClaimed(key, word, wanted) => Ok(
+                put_claimed(overlay, key, Value::leaf(word))? == wanted,
+            ),
+            Act::Claims(key, wanted) => Ok(overlay.claim(&key)? == wanted),
             Act::Takes(key, wanted) => is_taken(overlay, &key, wanted),
             Act::Writes(key, from, words, wanted) => {
-                Ok(overlay.write(&key, from, words)? == wanted)
+                Ok(write(overlay, &key, from, words)? == wanted)
             }
-            Act::Sets(key, word) => overlay.write(&key, 0, &[word]),
-            Act::Lends(key, word, wanted) => Ok(edit_first(overlay, &key, word)? == wanted),
+            Act::Sets(key, word) => write(overlay, &key, 0, &[word]),
             Act::Reads(key, wanted) => Ok(word(overlay, &key) == wanted),
             Act::Shows(key, from, width, wanted) => Ok(view(overlay, &key, from, width) == wanted),
             Act::Has(key, wanted) => Ok(overlay.exists(&key) == wanted),
@@ -204,25 +190,12 @@ fn leaves(
 }
 
 #[test]
-fn values_have_their_words(rt: HostRuntime) -> Result<(), Fail> {
-    let alloc = rt.alloc();
-    let value = Value::words([1, 2, 3].to_vec(alloc)?);
-    let copy = value.copy(alloc)?;
-    assert_eq!(rt; copy.as_slice(), [1, 2, 3].as_slice());
-    let mut list = Vec::new(alloc);
-    Value::leaf(9).append_to(&mut list)?;
-    copy.append_to(&mut list)?;
-    assert_eq!(rt; list.as_slice(), [9, 1, 2, 3].as_slice());
-    Ok(())
-}
-
-#[test]
 fn runs_are_kept_and_given_up(rt: HostRuntime) -> Result<(), Fail> {
     let alloc = rt.alloc();
     let mut storage = Storage::new(alloc);
     assert!(rt; run(&mut storage, FIRST, Value::leaf(5))?);
     assert!(rt; !run(&mut storage, FIRST, Value::leaf(6))?);
-    try_out(&mut storage, &FIRST, &[8]);
+    try_out(&mut storage, &FIRST, 8);
     let acts = [
         Act::Takes(FIRST, Some(&[5])),
         Act::Has(FIRST, false),
@@ -276,7 +249,11 @@ fn values_are_edited_in_place(rt: HostRuntime) -> Result<(), Fail> {
         Act::Writes(FIRST, 1, &[7, 8], true),
         Act::Writes(FIRST, 0, &[6], true),
         Act::Writes(FIRST, 2, &[0, 0], false),
+        Act::Writes(FIRST, 3, &[0], false),
+        Act::Writes(FIRST, 3, &[], true),
+        Act::Writes(FIRST, 4, &[], false),
         Act::Writes(SECOND, 0, &[0], false),
+        Act::Writes(SECOND, 0, &[], false),
         Act::Shows(FIRST, 0, 3, Some(&[6, 7, 8])),
         Act::Shows(FIRST, 2, 2, None),
         Act::Commits,
@@ -363,10 +340,10 @@ fn words_are_lent(rt: HostRuntime) -> Result<(), Fail> {
     let mut storage = Storage::new(alloc);
     assert!(rt; run(&mut storage, FIRST, value_of(alloc, &[1, 2, 3])?)?);
     let acts = [
-        Act::Lends(FIRST, 9, true),
-        Act::Lends(SECOND, 9, false),
+        Act::Sets(FIRST, 9),
+        Act::Writes(SECOND, 0, &[9], false),
         Act::Puts(SECOND, &[5], true),
-        Act::Lends(SECOND, 8, true),
+        Act::Sets(SECOND, 8),
         Act::Shows(FIRST, 0, 3, Some(&[9, 2, 3])),
         Act::Commits,
     ];
@@ -400,13 +377,84 @@ fn keys_are_used_again(rt: HostRuntime) -> Result<(), Fail> {
         Act::Puts(FIRST, &[11], false),
         Act::Commits,
         Act::Has(SECOND, false),
-        Act::PutsNew(THIRD, 12, true),
-        Act::PutsNew(THIRD, 13, false),
+        Act::PutsClaimed(THIRD, 12, true),
+        Act::PutsClaimed(THIRD, 13, false),
         Act::Reads(SECOND, None),
         Act::Reads(FIRST, Some(8)),
         Act::Reads(THIRD, Some(12)),
     ];
     let left = [(FIRST, Some([8].as_slice())), (SECOND, None), (THIRD, None)];
     leaves(&rt, alloc, &mut storage, &acts, &left)?;
+    Ok(())
+}
+
+// A key that is claimed and gets no value leaves nothing, whether the run is kept or given up.
+#[test]
+fn claimed_keys_leave_nothing(rt: HostRuntime) -> Result<(), Fail> {
+    let alloc = rt.alloc();
+    let claims = [
+        Act::Claims(FIRST, false),
+        Act::Claims(FIRST, false),
+        Act::Claims(SECOND, false),
+        Act::Has(FIRST, false),
+        Act::Reads(SECOND, None),
+        Act::Takes(FIRST, None),
+        Act::Writes(SECOND, 0, &[1], false),
+    ];
+    let mut storage = Storage::new(alloc);
+    leaves(&rt, alloc, &mut storage, &claims, &[(FIRST, None)])?;
+    assert!(rt; storage.iter().next().is_none());
+    let mut overlay = storage.overlay();
+    perform(&rt, alloc, &mut overlay, &claims)?;
+    overlay.commit()?;
+    perform(&rt, alloc, &mut overlay, &claims)?;
+    overlay.discard();
+    assert!(rt; storage.iter().next().is_none());
+    Ok(())
+}
+
+// A key is claimed twice and put; what is put is seen by a claim, and a key that was taken is claimed again.
+#[test]
+fn claimed_keys_are_put(rt: HostRuntime) -> Result<(), Fail> {
+    let alloc = rt.alloc();
+    let mut storage = Storage::new(alloc);
+    assert!(rt; run(&mut storage, FIRST, Value::leaf(5))?);
+    let acts = [
+        Act::Claims(FIRST, true),
+        Act::Claims(SECOND, false),
+        Act::Claims(SECOND, false),
+        Act::Puts(SECOND, &[6, 7], true),
+        Act::Claims(SECOND, true),
+        Act::Takes(FIRST, Some(&[5])),
+        Act::Claims(FIRST, false),
+        Act::PutsClaimed(FIRST, 8, true),
+        Act::PutsClaimed(FIRST, 9, false),
+        Act::Claims(THIRD, false),
+        Act::Commits,
+        Act::Claims(FIRST, true),
+        Act::Claims(THIRD, false),
+    ];
+    let left = [
+        (FIRST, Some([8].as_slice())),
+        (SECOND, Some([6, 7].as_slice())),
+        (THIRD, None),
+    ];
+    leaves(&rt, alloc, &mut storage, &acts, &left)?;
+    Ok(())
+}
+
+// A claim that gets no memory leaves all as it was, and so does the put after it.
+#[test]
+fn claims_without_memory_leave_all_as_it_was(rt: HostRuntime) -> Result<(), Fail> {
+    let alloc = rt.alloc();
+    let mut storage = Storage::new(alloc);
+    assert!(rt; run(&mut storage, FIRST, Value::leaf(5))?);
+    let mut overlay = storage.overlay();
+    let claimed = put_claimed(&mut overlay, SECOND, Value::leaf(6));
+    assert!(rt; overlay.exists(&SECOND) == (claimed == Ok(true)));
+    assert!(rt; overlay.exists(&FIRST));
+    overlay.discard();
+    assert_eq!(rt; storage.get(&SECOND), None);
+    assert_eq!(rt; storage.get(&FIRST), Some([5].as_slice()));
     Ok(())
 }
