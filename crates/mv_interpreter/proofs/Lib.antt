@@ -6,3 +6,5 @@ pub mod Flat
 pub mod TypedCalls
 pub mod Joined
 mod StoredPieces
+mod GivenBack
+mod Overwriting

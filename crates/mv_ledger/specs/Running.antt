@@ -5,10 +5,7 @@ use Rattle.mv_machine.specs.Flat.{FlatEntry, storage_of}
 use Rattle.mv_machine.specs.Run.{FunctionCall, RunOutcome, run}
 use Rattle.mv_machine.specs.Lines.{Reply as Told}
 use Rattle.mv_machine.specs.Ledger.{LedgerState, RunRequest, settled, admitted}
-use Rattle.mv_machine.specs.declared.Ending.{Ending}
-use Rattle.mv_machine.specs.declared.Ending.TheVariants.{Returned, Aborted, Exhausted}
 use Rattle.mv_link_rules.specs.Link.{tables_in}
-use Rattle.mv_storage.specs.Map.{Layers}
 use Rattle.mv_interpreter.specs.Runs.{call_of}
 use Rattle.mv_ledger.specs.declared.executing.Call.{Call}
 use Rattle.mv_ledger.specs.declared.executing.Barred.{Barred}
@@ -28,12 +25,6 @@ IsAdmission budget _ (Err Memory) = ⊤
 abbrev pub IsAdmitted : List PublishedModule → ℕ → RunRequest → Result Call Barred → Type 0
 IsAdmitted published runs r result =
     (s : LedgerState) → s.published ≡ published → s.runs ≡ runs → IsAdmission r.budget (admitted s r) result
-
--- what the storage holds after a run that ended so: what the run has made of it after a return, and else what it held
-abbrev pub left_by : Ending → Layers → List FlatEntry
-left_by Returned layers = layers.current
-left_by (Aborted kind n) layers = layers.committed
-left_by (Exhausted stop) layers = layers.committed
 
 -- the machine's run of a call
 abbrev pub run_of : List PublishedModule → List FlatEntry → Call → RunOutcome

@@ -13,7 +13,7 @@ ghost use Rattle.mv_ledger.specs.Changes.{RunsTo};
 ghost use Rattle.mv_ledger.specs.Answering.{told};
 ghost use Rattle.mv_ledger_state.specs.Asking.{request_of};
 ghost use Rattle.mv_ledger.specs.ParameterTypes.{asked_type};
-ghost use Rattle.mv_ledger.specs.Running.{IsAdmitted, IsSettled, left_by, run_of};
+ghost use Rattle.mv_ledger.specs.Running.{IsAdmitted, IsSettled, run_of};
 ghost use Rattle.mv_ledger_state.specs.Tallying.{HasRoomLeft};
 ghost use Rattle.mv_ledger_state.specs.View.{CanCount, IsSmall};
 ghost use Rattle.mv_machine.specs.Tallies.{all_of};
@@ -25,7 +25,7 @@ use mv_ledger_state::{Published, RunRecord, Store};
 use mv_machine::{Ending, Outcome};
 use mv_move_types::limits::{MOST_RUNS, MOST_STEPS};
 use mv_move_types::{Definition, LeafKind};
-use mv_storage::{Overlay, Storage};
+use mv_storage::Storage;
 use std::alloc::AllocError;
 
 /// A call that may be run.
@@ -147,21 +147,8 @@ pub fn admitted(store: &Store, runs: u64, asked: RunRecord<'_>) -> Result<Call, 
     })
 }
 
-/// Keeps what a run has made of the storage, if it ended by a return.
-fn keep_returned(overlay: &mut Overlay<'_>, ending: Ending) -> Result<(), AllocError>
-    ensures left { OnOk result (overlay.new.storage.now.committed ≡ left_by ending overlay.old.storage.now) }
-    ensures marks { overlay.new.storage.now.marks ≡ overlay.old.storage.now.marks }
-    ensures loan { overlay.new.storage.ghost_name ≡ overlay.old.storage.ghost_name }
-    ensures err { OnErr result (overlay.new.storage.now.committed ≡ overlay.old.storage.now.committed) }
-{
-    match ending {
-        Ending::Returned => overlay.commit(),
-        Ending::Aborted(_, _) | Ending::Exhausted(_) => Ok(()),
-    }
-}
-
-/// Runs a call over the storage, which keeps what a run that returns has made of it; any other run leaves it, and so does an
-/// error. After a run that returns there is room for its tally.
+/// Runs a call over the storage, which keeps what a run that returns has made of it; any other run is discarded, and so is one
+/// that ends in an error. After a run that returns there is room for its tally.
 fn run_over(
     published: &mut Published,
     storage: &mut Storage,
@@ -182,17 +169,28 @@ fn run_over(
     ensures err { OnErr result (storage.new.committed ≡ storage.old.committed) }
 {
     let mut overlay = storage.overlay();
-    let ended = run(
+    let ended = match run(
         &published.store,
         &mut overlay,
         call.function,
         &call.arguments,
         call.budget,
-    )?;
-    if ended.0.ending == Ending::Returned {
-        published.make_room(&ended.1)?;
+    ) {
+        Ok(ended) => ended,
+        Err(error) => {
+            overlay.discard();
+            return Err(error);
+        }
+    };
+    if ended.0.ending != Ending::Returned {
+        overlay.discard();
+        return Ok(ended);
     }
-    keep_returned(&mut overlay, ended.0.ending)?;
+    if published.make_room(&ended.1).is_err() {
+        overlay.discard();
+        return Err(RunError::Memory);
+    }
+    overlay.commit()?;
     Ok(ended)
 }
 

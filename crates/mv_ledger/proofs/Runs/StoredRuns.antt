@@ -3,12 +3,9 @@ use Rattle.mv_ledger.proofs.Common.{◌+◌, ◌∙◌, ◌≡◌, List, Option,
 use Rattle.mv_ledger.proofs.Common.{storage_of, LedgerState, settled, Told, Tallied, Aborted, Exhausted, Faulted, Returned, RunOutcome, Storage, HasAborted, HasExhausted, HasReturned}
 use Rattle.mv_ledger.proofs.Common.{tables_in, Agrees, told, told_ending, IsSettled, run_of, tally_after, IsNamed, IsSmall, all_of, state_of, tallied, view_of, Call, Tally}
 use Rattle.mv_ledger.proofs.Common.{unwrap_or, name_at, StructName, Definition, packs_at, unpacks_at, Count, tally_with, packs, unpacks, Event, some-of, nameless, Tallies}
-use Rattle.std.proofs.Common.{refl, subst}
-use Rattle.mv_ledger_state.specs.View.{IsFineWords}
 use Rattle.mv_machine.specs.declared.Outcome.{Outcome}
 use Rattle.mv_machine.specs.declared.Ending.{Ending}
 use Rattle.mv_ledger.specs.Changes.{RunsTo}
-use Rattle.mv_ledger.specs.Running.{left_by}
 use Rattle.mv_ledger.specs.declared.Reply.TheVariants.{Ran}
 use Rattle.mv_frames.proofs.Tallied.{tallied-packs, tallied-unpacks}
 use Rattle.mv_ledger_state.proofs.Runs.TalliesAfter.{map-where, map-then}
@@ -108,10 +105,3 @@ runs-to outcome old new before after = by_ending outcome.ending
     by_ending HasReturned h = tt
     by_ending (HasAborted kind n) h = h (λ e. cc)
     by_ending (HasExhausted stop) h = h (λ e. cc)
-
--- what a run leaves is values of their structs, as what was there and what it made are
-pub fine-left : (modules : List Module) (ending : Ending) (layers : Layers) (new : List FlatEntry) → new ≡ left_by ending layers
-    → (ending ≡ HasReturned → All (IsFineWords modules) layers.current) → All (IsFineWords modules) layers.committed → All (IsFineWords modules) new
-fine-left modules HasReturned layers new is ended kept = subst (λ (es : List FlatEntry). All (IsFineWords modules) es) (sym is) (ended refl)
-fine-left modules (HasAborted kind n) layers new is ended kept = subst (λ (es : List FlatEntry). All (IsFineWords modules) es) (sym is) kept
-fine-left modules (HasExhausted stop) layers new is ended kept = subst (λ (es : List FlatEntry). All (IsFineWords modules) es) (sym is) kept
