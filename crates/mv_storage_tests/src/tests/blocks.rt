@@ -186,22 +186,31 @@ fn claim(storage: &mut Storage, address: u128) -> Result<bool, AllocError> {
     Ok(is_there)
 }
 
+// Claims each of these keys in a run of its own. Whether each has a value where it is to have one.
+fn claims(storage: &mut Storage, wanted: &[(u128, bool)]) -> Result<bool, AllocError> {
+    for (address, is_there) in wanted {
+        if claim(storage, *address)? != *is_there {
+            return Ok(false);
+        }
+    }
+    Ok(true)
+}
+
 // A key is claimed in a block that is taken back: one with a value, one without, and one of which the block has taken the value.
 #[test]
 fn claims_are_taken_back(rt: HostRuntime) -> Result<(), Fail> {
     let mut storage = Storage::new(rt.alloc());
     set(&mut storage, 7, Some(1))?;
     storage.begin()?;
-    assert!(rt; claim(&mut storage, 7)? && !claim(&mut storage, 8)?);
+    assert!(rt; claims(&mut storage, &[(7, true), (8, false)])?);
     set(&mut storage, 7, None)?;
-    assert!(rt; !claim(&mut storage, 7)?);
-    assert!(rt; stored(&storage, 7).is_none() && stored(&storage, 8).is_none());
+    assert!(rt; claims(&mut storage, &[(7, false), (8, false)])?);
     set(&mut storage, 7, Some(2))?;
     set(&mut storage, 8, Some(3))?;
-    assert!(rt; claim(&mut storage, 7)? && claim(&mut storage, 8)?);
+    assert!(rt; claims(&mut storage, &[(7, true), (8, true)])?);
     assert!(rt; storage.rollback());
+    assert!(rt; claims(&mut storage, &[(7, true), (8, false)])?);
     assert_eq!(rt; stored(&storage, 7), Some(1));
-    assert!(rt; stored(&storage, 8).is_none() && !claim(&mut storage, 8)?);
     let mut entries = storage.iter();
     assert!(rt; entries.next().is_some() && entries.next().is_none());
     Ok(())
