@@ -180,6 +180,19 @@ first-byte (b ∷ bytes) some = refl
 by-first : (old new : Standing) (bytes : List ℕ) → 0 < length bytes → Leads old (get_or bytes 0 0 ∷ []) new → Leads old (take 1 bytes) new
 by-first old new bytes some leads = subst (λ z. Leads old z new) (sym (first-byte bytes some)) leads
 
+-- a kind, and a length of one byte
+leads-short : (begun : LengthBytes) (kind byte : ℕ) → length begun.bytes ≡ 10 → begun.count ≡ 0 → byte < 128
+    → Leads (standing.Record 0) (kind ∷ byte ∷ []) (standing.Record byte)
+leads-short begun kind byte ten none lt =
+    let room : begun.count < 10 = omega (arith, none) in
+    let within : 0 < length begun.bytes = omega (arith, ten) in
+    let one : take 1 (set begun.bytes 0 byte) ≡ byte ∷ [] = take_more_set begun.bytes 0 byte within in
+    let here : take 1 (take (begun.count + 1) (set begun.bytes begun.count byte)) ≡ byte ∷ [] =
+    ap (λ n. take 1 (take (n + 1) (set begun.bytes n byte))) none ∙ ap (take 1) one in
+    let spelled : IsUleb (take 1 (take (begun.count + 1) (set begun.bytes begun.count byte))) byte = subst (λ z. IsUleb z byte) (sym here) (lt, refl) in
+    leads-on (standing.Record 0) (standing.Length begun) (standing.Record byte) (kind ∷ []) (byte ∷ []) (leads-kind begun kind ten none)
+    (leads-found begun byte byte 1 room lt spelled (omega (arith, lt)))
+
 -- where an old place is known to be one of the three
 from : (old same new : Standing) (bytes : List ℕ) → old ≡ same → Leads same bytes new → Leads old bytes new
 from old same new bytes is leads = subst (λ s. Leads s bytes new) (sym is) leads
@@ -189,6 +202,18 @@ pub from-between : (old : Standing) (new : LengthBytes) (bytes : List ℕ) → o
 from-between old new bytes is ten none some =
     from old (standing.Record 0) (standing.Length new) (take 1 bytes) is
     (by-first (standing.Record 0) (standing.Length new) bytes some (leads-kind new (get_or bytes 0 0) ten none))
+
+-- no byte of a length
+abbrev no-length : LengthBytes
+no-length = record { bytes = 0 ∷ 0 ∷ 0 ∷ 0 ∷ 0 ∷ 0 ∷ 0 ∷ 0 ∷ 0 ∷ 0 ∷ []; count = 0 }
+
+pub from-short : (old : Standing) (bytes : List ℕ) (size : ℕ) → old ≡ standing.Record 0 → 2 ≤ length bytes → get_or bytes 1 0 < 128 → size ≡ get_or bytes 1 0
+    → Leads old (take 2 bytes) (standing.Record size)
+from-short old [] size is some lt at = absurd (omega (arith, some))
+from-short old (kind ∷ []) size is some lt at = absurd (omega (arith, some))
+from-short old (kind ∷ byte ∷ bytes) size is some lt at =
+    subst (λ n. Leads old (kind ∷ byte ∷ []) (standing.Record n)) (sym at)
+    (from old (standing.Record 0) (standing.Record byte) (kind ∷ byte ∷ []) is (leads-short no-length kind byte refl refl lt))
 
 pub from-payload : (old : Standing) (missing count : ℕ) (bytes : List ℕ) → old ≡ standing.Record missing → 0 < missing → count ≤ missing → count ≤ length bytes
     → Leads old (take count bytes) (standing.Record (missing - count))

@@ -57,7 +57,8 @@ enum Standing {
 }
 
 impl Standing {
-    /// Where the first of these bytes end, which go on from here, and how many these are: one, or those of a payload.
+    /// Where the first of these bytes end, which go on from here, and how many these are: one, a kind with a length of one byte, or
+    /// those of a payload.
     fn after_first(self, bytes: &[u8]) -> (Standing, usize)
         requires { 0 < length bytes.now }
         ensures some { 0 < result.1 }
@@ -65,7 +66,10 @@ impl Standing {
         ensures leads { Leads self (take result.1 bytes.now) result.0 }
     {
         match self {
-            Standing::Record(0) => (Standing::Length(LengthBytes::none()), 1),
+            Standing::Record(0) => match bytes {
+                [_, length, ..] if *length < 128 => (Standing::Record(u64::from(*length)), 2),
+                _ => (Standing::Length(LengthBytes::none()), 1),
+            },
             Standing::Record(missing) => {
                 let count = missing.min(bytes.len() as u64);
                 (Standing::Record(missing - count), count as usize)

@@ -1,5 +1,5 @@
 // What a terminal shows of a run that takes long: how far it is.
-ghost use Rattle.std.specs.Prelude.{◌≡◌, IfOk, MatchResult, Ok, string_bytes};
+ghost use Rattle.std.specs.Prelude.{◌≡◌, IfOk, Ok, string_bytes};
 ghost use Rattle.moveledger_program.specs.Meter.{meter_text};
 
 use moveledger::{AfterRecord, EngineError};
@@ -23,9 +23,11 @@ impl<R: Read> Counted<R> {
         Counted { inner, bytes: 0 }
     }
 
-    /// How many bytes it has given.
-    pub fn given(&self) -> u64 {
-        self.bytes
+    /// The reader that gives them.
+    pub fn get_ref(&self) -> &R
+        ensures { result.now ≡ self.now.inner }
+    {
+        &self.inner
     }
 }
 
@@ -36,47 +38,6 @@ impl<R: Read> Read for Counted<R> {
         let n = self.inner.read(buf)?;
         self.bytes = self.bytes.saturating_add(n as u64);
         Ok(n)
-    }
-}
-
-/// What is done after each record, and how many bytes had been read when the last one was answered: where more was read, the
-/// input ended within a record.
-#[derive(Drop)]
-pub struct Whole<A> {
-    inner: A,
-    bytes: u64,
-}
-
-impl<A> Whole<A> {
-    /// No record is answered yet.
-    pub fn new(inner: A) -> Self {
-        Whole { inner, bytes: 0 }
-    }
-
-    /// How many bytes the records take that were answered.
-    pub fn answered_bytes(&self) -> u64 {
-        self.bytes
-    }
-}
-
-impl<R: Read, W: Write, A: AfterRecord<Counted<R>, W>> AfterRecord<Counted<R>, W> for Whole<A> {
-    // What is wanted was done. Where that went well, it is noted how many bytes the reader had given; otherwise nothing is.
-    ghost does = { λ number reader old before end new after. A.does number reader old.inner before end new.inner after
-        × MatchResult end (λ _. new.bytes ≡ reader.bytes) (λ _. new.bytes ≡ old.bytes) };
-
-    fn make_room(&self, writer: &mut W) -> Result<(), AllocError> {
-        self.inner.make_room(writer)
-    }
-
-    fn answered(
-        &mut self,
-        number: u64,
-        reader: &Counted<R>,
-        writer: &mut W,
-    ) -> Result<(), EngineError> {
-        self.inner.answered(number, reader, writer)?;
-        self.bytes = reader.bytes;
-        Ok(())
     }
 }
 

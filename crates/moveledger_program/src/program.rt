@@ -5,12 +5,12 @@ use crate::files::{
 };
 use crate::following::Followed;
 use crate::kinds::Kind;
-use crate::meter::{Counted, Meter, Noted, Printing, Reported, Screen, Whole};
+use crate::meter::{Counted, Meter, Noted, Printing, Reported, Screen};
 use crate::saving::Saving;
 use crate::told::Told;
 use moveledger::{
-    AfterRecord, End, Hold, Ledger, LineError, Prompt, Seen, Sort, Task, check_module, command,
-    end_of_words, ended, loaded, migrated, not_text, prove_module, report, report_file,
+    End, Hold, Ledger, LineError, Prompt, Seen, Sort, Task, check_module, command, end_of_words,
+    ended, loaded, migrated, not_text, prove_module, report, report_file,
 };
 use std::fs::{self, File};
 use std::io::{self, BufReader, BufWriter, ErrorKind, IsTerminal, Read, Write};
@@ -287,11 +287,11 @@ fn apply_to<R: Read + Drop>(
 ) -> Answered {
     let rt = output.rt;
     let screen = Screen::new(rt);
-    let Ok(mut reader) = BufReader::new(rt.alloc(), source) else {
+    let Ok(mut reader) = BufReader::new(rt.alloc(), Followed::new(source)) else {
         return Answered::none(End::Memory);
     };
-    let report = Reported::new(rt, &output.failed, &screen);
-    let Ok(mut writer) = BufWriter::new(rt.alloc(), report) else {
+    let reported = Reported::new(rt, &output.failed, &screen);
+    let Ok(mut writer) = BufWriter::new(rt.alloc(), reported) else {
         return Answered::none(End::Memory);
     };
     let is_advised = match advice_before(&mut reader) {
@@ -299,17 +299,26 @@ fn apply_to<R: Read + Drop>(
         Ok(None) => false,
         Err(_) => return Answered::none(End::Read),
     };
-    let answered = match size {
-        None => answer(reader, &mut writer, ledger, Prompt),
-        Some(total) if rt.stderr().is_terminal() => {
-            answer(reader, &mut writer, ledger, Meter::new(&screen, total))
+    let (end, is_whole) = match size {
+        None => {
+            let end = report(&mut reader, &mut writer, ledger, &mut Prompt);
+            (end, reader.get_ref().is_whole())
         }
-        Some(_) => answer_file(reader, &mut writer, ledger),
+        Some(total) if rt.stderr().is_terminal() => {
+            let mut counted = Counted::new(reader);
+            let mut meter = Meter::new(&screen, total);
+            let end = report(&mut counted, &mut writer, ledger, &mut meter);
+            (end, counted.get_ref().get_ref().is_whole())
+        }
+        Some(_) => {
+            let end = report_file(&mut reader, &mut writer, ledger);
+            (end, reader.get_ref().is_whole())
+        }
     };
     screen.erase();
     Answered {
-        end: answered.end,
-        is_whole: answered.is_whole || is_advised,
+        end,
+        is_whole: is_whole || is_advised,
     }
 }
 
@@ -328,36 +337,6 @@ fn say(rt: &HostRuntime, path: &str, said: &str) -> bool {
     match Told::of_file(rt.alloc(), End::Done, shown(path), said).why {
         Some(line) => rt.eprint(line.as_str()).is_ok(),
         None => false,
-    }
-}
-
-/// Answers the records that a reader gives, and does what is wanted after each.
-fn answer<R: Read + Drop, W: Write + Drop, A: AfterRecord<Counted<R>, BufWriter<W>> + Drop>(
-    reader: R,
-    writer: &mut BufWriter<W>,
-    ledger: &mut Ledger,
-    after: A,
-) -> Answered {
-    let mut counted = Counted::new(reader);
-    let mut after = Whole::new(after);
-    let end = report(&mut counted, writer, ledger, &mut after);
-    Answered {
-        end,
-        is_whole: counted.given() == after.answered_bytes(),
-    }
-}
-
-/// Answers the records of a file by the engine.
-fn answer_file<R: Read + Drop, W: Write + Drop>(
-    reader: R,
-    writer: &mut BufWriter<W>,
-    ledger: &mut Ledger,
-) -> Answered {
-    let mut followed = Followed::new(reader);
-    let end = report_file(&mut followed, writer, ledger);
-    Answered {
-        end,
-        is_whole: followed.is_whole(),
     }
 }
 

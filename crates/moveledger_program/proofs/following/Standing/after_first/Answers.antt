@@ -1,10 +1,15 @@
 use Rattle.std.proofs.Common.{◌≡◌, ◌<◌, arith}
 use Rattle.moveledger_program.specs.declared.following.Standing.TheVariants as standing
-use Rattle.moveledger_program.proofs.Passing.{from-between, from-length, from-nowhere, from-payload}
+use Rattle.moveledger_program.proofs.Passing.{from-between, from-length, from-nowhere, from-payload, from-short}
 use Rattle.moveledger_program.proofs.following.Standing.after_first.Goals as goal
 
-pub returns-in-Record-eq0-clause-leads : goal.returns-in-Record-eq0-clause-leads
-returns-in-Record-eq0-clause-leads c =
+pub returns-in-len2-up-clause-leads : goal.returns-in-len2-up-clause-leads
+returns-in-len2-up-clause-leads c =
+    let is : c.args.self ≡ standing.Record 0 = cc in
+    from-short c.args.self c.args.bytes.now c.from.result is c.in-len2-up.len_at_least c.if-length-lt128.true c.from.ensures
+
+pub returns-in_default-clause-leads : goal.returns-in_default-clause-leads
+returns-in_default-clause-leads c =
     let is : c.args.self ≡ standing.Record 0 = cc in
     from-between c.args.self c.none.result c.args.bytes.now is c.none.ensures.room c.none.ensures.none c.requires
 
