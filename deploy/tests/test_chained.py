@@ -221,6 +221,16 @@ class Alone(unittest.TestCase):
         self.assertIsNone(self.made("a"))
         self.assertTrue(self.vote(one))
 
+    def test_who_has_told_furthest_tells_and_of_several_the_first_by_name(self) -> None:
+        for_now(self, voting, TELL_SECONDS=PATIENCE)
+        for name in "ab":
+            self.vote(self.voting(name, 9))
+        rows = [("a", 9, 9, True), ("b", 9, 9, False), ("a", 8, 9, False), ("b", 9, 8, True)]
+        for name, own, known, is_telling in rows:
+            one = self.voting(name, 12)
+            one.votes = {who: ChainVote(Point(9, OTHER), Point(9, OTHER), 9 if who != name else own) for who in "ab"}
+            self.assertEqual(one.is_teller(own, known), is_telling, (name, own, known))
+
     def test_a_vote_never_moves_back(self) -> None:
         self.vote(self.voting("a", 9))
         before = self.made("a")
