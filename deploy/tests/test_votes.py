@@ -130,6 +130,13 @@ class ComparingVotes(unittest.TestCase):
         self.one.forget_from(3)
         self.assertEqual((self.one.held, self.one.made[LINES]), ({}, {1: b"x", 2: b"x"}))
 
+    def test_where_lines_are_chained_no_vote_on_a_record_is_held(self) -> None:
+        for kind in (LINES, SAVED):
+            put_vote(self.log, "a", kind, 4, b"forged")
+            self.one.put(kind, [Vote(4, b"mine")])
+        self.one.forget_lines()
+        self.assertEqual((self.one.held, self.one.made), ({(SAVED, 4): b"mine"}, {LINES: {}, SAVED: {4: b"mine"}}))
+
     def test_a_save_that_a_majority_contradicts_stops_it(self) -> None:
         self.one.put(SAVED, [Vote(4, b"MVL2 mine")])
         put_vote(self.log, "b", SAVED, 4, b"MVL3 other")
