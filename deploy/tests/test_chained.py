@@ -250,6 +250,7 @@ class Alone(unittest.TestCase):
         self.vote(self.voting("c", 9))
         self.vote(again)
         self.assertEqual(self.made("a") and self.made("a").made.number, 10)  # type: ignore[union-attr]
+        self.assertEqual([one.partition(":")[0] for one in self.told if "counts as its vote now" in one], ["the lines of record 9"])
 
     def test_a_vote_that_another_wrote_meanwhile_is_not_written_over(self) -> None:
         one = self.voting("a", 5)

@@ -72,6 +72,8 @@ class ClearingALog(unittest.TestCase):
         vote_up_to(self.log, "c", 14)
         for _ in range(2):
             self.assertEqual(Clearing(self.log, 5).run().behind, ["c"])
+        vote_up_to(self.log, "c", 15)
+        self.assertEqual(Clearing(self.log, 5).run().behind, [])
 
     def test_at_least_one_record_goes_at_once(self) -> None:
         fill(self.log, 3)
