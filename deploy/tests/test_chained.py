@@ -231,6 +231,13 @@ class Alone(unittest.TestCase):
             one.votes = {who: ChainVote(Point(9, OTHER), Point(9, OTHER), 9 if who != name else own) for who in "ab"}
             self.assertEqual(one.is_teller(own, known), is_telling, (name, own, known))
 
+    def test_junk_and_what_is_beyond_the_log_is_no_vote(self) -> None:
+        for name, text in ("b", b"junk"), ("c", ChainVote(Point(99, OTHER), Point(9, OTHER), 9).text()):
+            self.store.put(self.log.keys.own(name, VOTE), text)
+        one = self.voting("a", 9)
+        self.assertTrue(self.vote(one))
+        self.assertEqual(list(one.votes), ["a"])
+
     def test_a_vote_never_moves_back(self) -> None:
         self.vote(self.voting("a", 9))
         before = self.made("a")
