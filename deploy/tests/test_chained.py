@@ -9,7 +9,7 @@ from ledgerlog.errors import Differs, LogError
 from ledgerlog.final import Final
 from ledgerlog.keys import LINES, SAVED, TOLD, VOTE
 from ledgerlog.requests import Body, after
-from ledgerlog.ruling import upgrade
+from ledgerlog.ruling import skip_record, upgrade
 from ledgerlog.saves import saved_vote_in
 from ledgerlog.voting import Voting
 
@@ -237,6 +237,14 @@ class Alone(unittest.TestCase):
         one = self.voting("a", 9)
         self.assertTrue(self.vote(one))
         self.assertEqual(list(one.votes), ["a"])
+
+    def test_what_a_majority_has_answered_by_chain_is_not_skipped(self) -> None:
+        for name in "ab":
+            self.vote(self.voting(name, 9))
+        with self.assertRaisesRegex(LogError, "record 9 is answered by a, b"):
+            skip_record(self.log, 9, "too dear")
+        skip_record(self.log, 10, "too dear")
+        self.assertEqual(self.log.settings().skips, {10: "too dear"})
 
     def test_a_vote_never_moves_back(self) -> None:
         self.vote(self.voting("a", 9))

@@ -137,6 +137,16 @@ class ComparingVotes(unittest.TestCase):
         self.one.forget_lines()
         self.assertEqual((self.one.held, self.one.made), ({(SAVED, 4): b"mine"}, {LINES: {}, SAVED: {4: b"mine"}}))
 
+    def test_where_all_is_compared_nothing_is_asked(self) -> None:
+        self.one.put(LINES, [Vote(1, b"x")])
+        for name in "bc":
+            put_vote(self.log, name, LINES, 1, b"x")
+        self.one.look()
+        asked: List[object] = []
+        setattr(self.one.votes, "since", asked.append)
+        self.one.look()
+        self.assertEqual(asked, [])
+
     def test_a_save_that_a_majority_contradicts_stops_it(self) -> None:
         self.one.put(SAVED, [Vote(4, b"MVL2 mine")])
         put_vote(self.log, "b", SAVED, 4, b"MVL3 other")
