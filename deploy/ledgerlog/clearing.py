@@ -2,6 +2,7 @@
 
 import random
 import time
+from contextlib import closing
 from typing import Dict, List, NamedTuple, Optional, Set, Tuple
 
 from .appending import TOO_MANY
@@ -336,7 +337,8 @@ def make_room(log: Log) -> str:
     """Compacts the log, defragments the nodes that hold much more than they use, one after the other, and disarms the alarm that the log
     is full. What it did. Another alarm stays, and is told: room is no answer to it."""
     etcd = log.etcd
-    compact(patient(etcd, list(etcd.addresses)), etcd.range(log.keys.log, log.keys.log + b"\0", 1).revision)
+    with closing(patient(etcd, list(etcd.addresses))) as slow:
+        compact(slow, etcd.range(log.keys.log, log.keys.log + b"\0", 1).revision)
     is_full = bool(full_ones(alarms_of(etcd)))
     told = [defragment(Etcd([address], etcd.patience, etcd.access), is_full) for address in sorted(etcd.addresses)]
     disarmed = disarm(etcd)

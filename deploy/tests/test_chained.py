@@ -9,7 +9,7 @@ from ledgerlog.errors import Differs, LogError
 from ledgerlog.final import Final
 from ledgerlog.keys import LINES, SAVED, TOLD, VOTE
 from ledgerlog.requests import Body, after
-from ledgerlog.ruling import upgrade
+from ledgerlog.ruling import skip_record, upgrade
 from ledgerlog.saves import saved_vote_in
 from ledgerlog.voting import Voting
 
@@ -221,6 +221,31 @@ class Alone(unittest.TestCase):
         self.assertIsNone(self.made("a"))
         self.assertTrue(self.vote(one))
 
+    def test_who_has_told_furthest_tells_and_of_several_the_first_by_name(self) -> None:
+        for_now(self, voting, TELL_SECONDS=PATIENCE)
+        for name in "ab":
+            self.vote(self.voting(name, 9))
+        rows = [("a", 9, 9, True), ("b", 9, 9, False), ("a", 8, 9, False), ("b", 9, 8, True)]
+        for name, own, known, is_telling in rows:
+            one = self.voting(name, 12)
+            one.votes = {who: ChainVote(Point(9, OTHER), Point(9, OTHER), 9 if who != name else own) for who in "ab"}
+            self.assertEqual(one.is_teller(own, known), is_telling, (name, own, known))
+
+    def test_junk_and_what_is_beyond_the_log_is_no_vote(self) -> None:
+        for name, text in ("b", b"junk"), ("c", ChainVote(Point(99, OTHER), Point(9, OTHER), 9).text()):
+            self.store.put(self.log.keys.own(name, VOTE), text)
+        one = self.voting("a", 9)
+        self.assertTrue(self.vote(one))
+        self.assertEqual(list(one.votes), ["a"])
+
+    def test_what_a_majority_has_answered_by_chain_is_not_skipped(self) -> None:
+        for name in "ab":
+            self.vote(self.voting(name, 9))
+        with self.assertRaisesRegex(LogError, "record 9 is answered by a, b"):
+            skip_record(self.log, 9, "too dear")
+        skip_record(self.log, 10, "too dear")
+        self.assertEqual(self.log.settings().skips, {10: "too dear"})
+
     def test_a_vote_never_moves_back(self) -> None:
         self.vote(self.voting("a", 9))
         before = self.made("a")
@@ -240,6 +265,7 @@ class Alone(unittest.TestCase):
         self.vote(self.voting("c", 9))
         self.vote(again)
         self.assertEqual(self.made("a") and self.made("a").made.number, 10)  # type: ignore[union-attr]
+        self.assertEqual([one.partition(":")[0] for one in self.told if "counts as its vote now" in one], ["the lines of record 9"])
 
     def test_a_vote_that_another_wrote_meanwhile_is_not_written_over(self) -> None:
         one = self.voting("a", 5)

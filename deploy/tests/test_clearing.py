@@ -72,6 +72,15 @@ class ClearingALog(unittest.TestCase):
         vote_up_to(self.log, "c", 14)
         for _ in range(2):
             self.assertEqual(Clearing(self.log, 5).run().behind, ["c"])
+        vote_up_to(self.log, "c", 15)
+        self.assertEqual(Clearing(self.log, 5).run().behind, [])
+
+    def test_at_least_one_record_goes_at_once(self) -> None:
+        fill(self.log, 3)
+        one = Clearing(self.log, 0)
+        one.most_operations = 0
+        entries = self.store.range(self.log.keys.records, after(self.log.keys.records), 0).entries
+        self.assertEqual((len(entries), one.fitting(entries)), (3, entries[:1]))
 
     def test_pieces_go_with_their_record_and_those_that_never_came_too(self) -> None:
         settings = self.log.settings()

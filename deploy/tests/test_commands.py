@@ -4,7 +4,9 @@ import socket
 import subprocess
 import tempfile
 import unittest
-from typing import List
+from typing import Any, Callable, List, Sequence, Tuple
+
+from ledgerlog.line import ADDRESSES, addresses, name, positive_number, positive_seconds
 
 from .store import PATIENCE
 
@@ -17,6 +19,22 @@ NOWHERE = ["--log", "127.0.0.1:9"]
 def done(words: List[str], given: bytes = b"") -> "subprocess.CompletedProcess[bytes]":
     asked = [os.path.join(DEPLOY, words[0]), *words[1:]]
     return subprocess.run(asked, input=given, stdout=subprocess.PIPE, stderr=subprocess.PIPE, timeout=PATIENCE)
+
+
+class Values(unittest.TestCase):
+    def test_a_value_at_its_bound_is_read_and_one_beyond_it_is_none(self) -> None:
+        rows: List[Tuple[Callable[[str], Any], Sequence[str], Sequence[str]]] = [
+            (addresses, ("h:1", "h:1,[::1]:65535"), ("h:0", "h:65536", ":1", "h", "h:1,")), (positive_number, ("1",), ("0", "x")),
+            (positive_seconds, ("0.1",), ("0", "1e9")), (name, ("a-1", "a" * 64), ("", "a_", "a" * 65))]
+        for read, good, bad in rows:
+            for text in good:
+                read(text)
+            for text in bad:
+                with self.subTest(text), self.assertRaises(ValueError):
+                    read(text)
+
+    def test_three_nodes_on_this_machine_are_asked_where_none_are_named(self) -> None:
+        self.assertEqual(ADDRESSES, "127.0.0.1:23791,127.0.0.1:23792,127.0.0.1:23793")
 
 
 class Commands(unittest.TestCase):

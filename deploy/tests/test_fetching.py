@@ -158,7 +158,7 @@ class Fetches(OverStandIn):
         with socket.create_server(("127.0.0.1", 0)) as silent:
             self.given("a", f"127.0.0.1:{silent.getsockname()[1]}")
             one = self.start("c")
-            until(lambda: one.says("gives none yet: asks again"))
+            until(lambda: one.says("gives none yet: asks again in 0.1 s"))
             for_now(self, fetching, SILENT_SECONDS=PATIENCE)
             self.gives("a")
             self.answered(9, *SET)

@@ -3,7 +3,7 @@ from typing import Any, List, Optional
 
 from ledgerlog.errors import LogError, OtherHistory, Refused
 from ledgerlog.keys import number_in, numbered
-from ledgerlog.log import Log, Offer
+from ledgerlog.log import Log, Offer, parts_of
 from ledgerlog.requests import Body
 from ledgerlog.settings import Past, Settings, settings_of
 from ledgerlog.written import INLINE_BYTES, PIECE_BYTES, Taken, head_of
@@ -33,6 +33,10 @@ class Appending(unittest.TestCase):
         self.assertEqual(fill(self.log, 130), list(range(1, 131)))
         self.assertEqual([one.record for one in self.taken(101)], [run(number) for number in range(101, 131)])
         self.assertEqual(self.log.last(), 130)
+
+    def test_nothing_is_put_of_nothing(self) -> None:
+        before = self.store.revision
+        self.assertEqual((self.put([]), list(parts_of([])), self.store.revision), ([], [], before))
 
     def test_what_is_put_again_keeps_its_number(self) -> None:
         offers = [Offer("x", run(1)), Offer("y", run(2))]

@@ -116,6 +116,15 @@ class Telling(OverStandIn):
         one.of_one()
         self.assertRegex(one.doubts[0], "has answered record 3, is behind the log by unknown, and has read it .* s ago")
 
+    def test_one_that_hangs_is_said_not_to_answer(self) -> None:
+        path = self.path("socket")
+        with socket.socket(socket.AF_UNIX) as one:
+            status.bound(one.bind, path)
+            one.listen(1)
+            for_now(self, status, ANSWER_SECONDS=0.1)
+            with self.assertRaisesRegex(LogError, "no replica that runs there answers"):
+                status.ask(path, "status")
+
     def test_a_majority_is_asked(self) -> None:
         self.three(5)
         folders = [self.path(name) for name in SET]

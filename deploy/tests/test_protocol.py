@@ -2,7 +2,7 @@ import json
 import subprocess
 import tempfile
 import unittest
-from typing import Any, Callable, Dict, List
+from typing import Any, Callable, Dict, List, Tuple
 
 from ledgerlog.clearing import Clearing
 from ledgerlog.errors import LogError, OtherProtocol
@@ -35,6 +35,19 @@ class Fields(unittest.TestCase):
         for more in rows:
             with self.subTest(more), self.assertRaises(LogError):
                 settings_of(self.text(**more))
+
+    def test_the_least_value_of_a_field_is_read_and_less_is_a_fault(self) -> None:
+        rows: List[Tuple[str, Any, Any]] = [
+            ("every", 1, 0), ("room", 0, -1), ("quota", 0, -1), ("quotas", {"a": 0}, {"a": -1}), ("past", [["x", 0]], [["x", -1]]),
+            ("protocol", 1, 0), ("hours", 0, -1), ("limits", [[1, 0, 0]], [[0, 0, 0]]), ("skips", {"1": "why"}, {"0": "why"}),
+            ("agreed", [1, "MVL2 x"], [0, "MVL2 x"]), ("chained", 0, -1), ("settled", [1, "0" * 64], [0, "0" * 64]),
+            ("former", {"a": 1}, {"a": 0})]
+        for name, least, less in rows:
+            with self.subTest(name):
+                settings = settings_of(self.text(**{name: least}))
+                self.assertEqual(settings_of(settings.text()), settings)
+                with self.assertRaises(LogError):
+                    settings_of(self.text(**{name: less}))
 
     def test_a_newer_protocol_is_read_and_not_gone_by(self) -> None:
         store = Store()

@@ -154,6 +154,11 @@ class Limits(unittest.TestCase):
         self.put_by_hand(dear)
         self.assertEqual([one.why for one in self.log.read(1).taken], [None, "budget", "record", None, None])
 
+    def test_of_two_limits_from_the_same_record_on_the_last_holds(self) -> None:
+        self.limit(64, 999)
+        self.limit(32, 0)
+        self.assertEqual(self.log.settings().limits, (Limit(1, 32, 0),))
+
     def test_submit_refuses_what_replicas_would_skip(self) -> None:
         self.offered("dear", run_with_budget(b"\xe8\7"))
         self.limit(64, 999)

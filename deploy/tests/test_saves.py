@@ -4,7 +4,7 @@ import tempfile
 import unittest
 
 from ledgerlog import saves
-from ledgerlog.saves import REFUSED, Save, Saves, saves_in, vote_on
+from ledgerlog.saves import REFUSED, Save, SavedVote, Saves, saved_vote_in, saves_in, vote_on
 
 from .store import LOG_ID
 
@@ -36,6 +36,14 @@ class Folder(unittest.TestCase):
         with open(save.path, "wb"):
             pass
         self.assertEqual(save.vote().partition(b" ")[0], b"-")
+
+    def test_what_is_said_of_a_save_in_another_form_is_no_ledgers(self) -> None:
+        told = SavedVote(b"MVL2 x", bytes(32), 7, 1)
+        self.assertEqual(saved_vote_in(told.value()), told)
+        words = told.value().split(b" ")
+        for at, word in (2, b"x"), (3, b"-7"), (4, b"x"), (4, b"1 1"):
+            value = b" ".join([*words[:at], word, *words[at + 1:]])
+            self.assertEqual(saved_vote_in(value), SavedVote(value))
 
     def test_the_newest_two_stay_and_the_newest_two_that_all_make(self) -> None:
         for number in (4, 6, 8, 9, 12, 13, 14, 15):

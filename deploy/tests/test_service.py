@@ -3,11 +3,12 @@ import socket
 import subprocess
 import tempfile
 import threading
+import time
 import unittest
 from functools import partial
 from typing import Any, Callable, Dict, List, Optional
 
-from ledgerlog.client import Ledger, Placed, Refused, Tls, Unknown
+from ledgerlog.client import Ledger, Line, Placed, Refused, Tls, Unknown
 from ledgerlog.errors import Unreachable
 from ledgerlog.etcd import Access
 from ledgerlog.keys import LINES
@@ -151,6 +152,16 @@ class Serving(unittest.TestCase):
             with self.assertRaises(Refused):
                 ledger.submit(record)
         self.assertEqual(ledger.submit(run(1)).number, 2)
+
+    def test_a_refused_record_leaves_its_connection_to_the_others(self) -> None:
+        line = Line(self.path)
+        self.addCleanup(line.close)
+        for name, record in ("show", b"\3\0"), ("run", run(1)):
+            line.send({"id": name, "bytes": len(record)}, record)
+        ends = time.monotonic() + PATIENCE
+        self.assertIn("refused", line.answer("show", ends))
+        self.assertEqual(line.answer("run", ends), {"id": "run", "number": 1})
+        self.assertEqual(line.told, {})
 
     def test_one_service_at_a_time_and_its_socket_is_its_groups(self) -> None:
         self.assertEqual(os.stat(self.path).st_mode & 0o777, 0o660)

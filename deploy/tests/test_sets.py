@@ -164,6 +164,7 @@ class WhileRecordsCome(Commanded):
         self.set("a", "b", "d", more="--take-over")
         self.assertEqual(self.log.settings().replicas, ("a", "b", "d"))
         until(lambda: len(self.final(20)) == 9)
+        until(lambda: [name for name in SET if self.running[name].status.is_counted] == ["a", "b"])
         self.assertTrue(self.running["a"].says("votes go on"))
 
     def test_a_change_that_ended_halfway_is_taken_back(self) -> None:

@@ -4,14 +4,16 @@ import unittest
 from typing import Dict, List, Tuple
 
 from ledgerlog.backups import counted
-from ledgerlog.clearing import Size, alarms_of, defragment, disarm, full_ones, lasting
+from ledgerlog.clearing import Size, alarms_of, defragment, disarm, full_ones, lasting, make_room
 from ledgerlog.errors import LogError
-from ledgerlog.etcd import Access
+from ledgerlog.etcd import Access, Etcd
 from ledgerlog.keys import Keys
+from ledgerlog.log import Log
 from ledgerlog.requests import Body
 from ledgerlog.users import change_passwords, make_user
 
-from .store import Store, fill, made_log
+from .served import Served
+from .store import PATIENCE, Store, fill, made_log
 from .test_etcd import GOOD, OverNodes
 
 
@@ -50,7 +52,39 @@ class Alarmed(Store):
         return {}
 
 
+class Maintained(Store):
+    """A store whose node is full and damaged, and holds three times what it uses."""
+
+    def __init__(self) -> None:
+        super().__init__()
+        self.alarms = ["CORRUPT", "NOSPACE"]
+        self.asked: List[Tuple[str, Body]] = []
+
+    def ask(self, path: str, body: Body) -> Body:
+        if path == "/v3/kv/compaction" or path.endswith("/defragment"):
+            self.asked.append((path, body))
+            return {}
+        if path == "/v3/maintenance/status":
+            return {"dbSize": "300", "dbSizeInUse": "100"}
+        if path == "/v3/maintenance/alarm":
+            if body["action"] == "DEACTIVATE":
+                self.alarms.remove(body["alarm"])
+            return {"alarms": [{"memberID": "1", "alarm": name} for name in self.alarms]}
+        return super().ask(path, body)
+
+
 class Room(unittest.TestCase):
+    def test_room_is_made_and_it_is_said_what_was_done(self) -> None:
+        store = Maintained()
+        node = Served(store)
+        self.addCleanup(node.close)
+        fill(made_log(store), 3)
+        etcd = Etcd([node.address], PATIENCE)
+        self.addCleanup(etcd.close)
+        self.assertEqual(make_room(Log(etcd, "L")), f"{node.address} has 300 bytes, and had 300; 1 alarms are disarmed; the alarm CORRUPT stays")
+        self.assertEqual(store.asked, [("/v3/kv/compaction", {"revision": str(store.revision), "physical": True}),
+                                       ("/v3/maintenance/defragment", {})])
+
     def test_an_alarm_that_a_slow_node_raises_later_is_disarmed_too(self) -> None:
         cases: List[List[List[str]]] = [[], [["1", "2"]], [["1"], ["2", "3"]]]
         for raised in cases:

@@ -65,6 +65,14 @@ class VerifyingALog(unittest.TestCase):
         self.assertFalse(is_alike)
         self.assertIn("a: the lines of record 9: it has put '9 returned 999\\n', which is final, and", told)
 
+    def test_lines_before_those_that_are_chained_are_compared_too(self) -> None:
+        self.log.etcd.put(self.log.keys.log, self.log.settings()._replace(protocol=4, chained=8).text())
+        self.log.etcd.put(self.log.keys.vote("b", LINES, 3), b"3 returned 999\n")
+        is_alike, told = self.verified()
+        self.assertFalse(is_alike)
+        self.assertIn("b: the lines of record 3: it has put '3 returned 999\\n', and", told)
+        self.assertIn("records 1 to 10: 10 answers and 1 saves compared, of which 2 no majority has decided; b differs 1 times", told)
+
     def test_a_cleared_log_is_verified_from_a_save_on(self) -> None:
         self.log.etcd.put(self.log.keys.cleared, b"8")
         with self.assertRaisesRegex(OtherHistory, "has no later save that a majority has voted for"):

@@ -62,6 +62,12 @@ class Putting(unittest.TestCase):
         self.assertEqual(votes_of(self.log, "a").put(LINES, made), [Vote(150, b"150")])
         self.assertEqual(self.store.count(b"L/by/a/lines/"), 350)
 
+    def test_who_has_put_no_lines_has_answered_nothing(self) -> None:
+        votes = votes_of(self.log, "a")
+        self.assertEqual(votes.newest_lines("a", 5000), 0)
+        put_vote(self.log, "a", LINES, 1, b"x")
+        self.assertEqual((votes.newest_lines("a", 5000), votes.newest_lines("a", 1)), (1, 1))
+
     def test_the_newest_save_that_a_majority_has(self) -> None:
         for name, number, value in (("a", 4, b"x"), ("b", 4, b"x"), ("c", 4, b"y"), ("a", 8, b"z"), ("c", 8, b"w"),
                                     ("b", 6, b"v")):
@@ -116,6 +122,30 @@ class ComparingVotes(unittest.TestCase):
         self.one.look()
         self.assertEqual(self.one.votes.of(LINES, 1), dict.fromkeys("abc", b"right"))
         self.assertFalse(self.one.held)
+
+    def test_what_is_made_again_is_put_and_compared_anew(self) -> None:
+        put_vote(self.log, "a", LINES, 3, b"forged")
+        self.one.put(LINES, [Vote(number, b"x") for number in (1, 2, 3)])
+        self.assertEqual(self.one.held, {(LINES, 3): b"x"})
+        self.one.forget_from(3)
+        self.assertEqual((self.one.held, self.one.made[LINES]), ({}, {1: b"x", 2: b"x"}))
+
+    def test_where_lines_are_chained_no_vote_on_a_record_is_held(self) -> None:
+        for kind in (LINES, SAVED):
+            put_vote(self.log, "a", kind, 4, b"forged")
+            self.one.put(kind, [Vote(4, b"mine")])
+        self.one.forget_lines()
+        self.assertEqual((self.one.held, self.one.made), ({(SAVED, 4): b"mine"}, {LINES: {}, SAVED: {4: b"mine"}}))
+
+    def test_where_all_is_compared_nothing_is_asked(self) -> None:
+        self.one.put(LINES, [Vote(1, b"x")])
+        for name in "bc":
+            put_vote(self.log, name, LINES, 1, b"x")
+        self.one.look()
+        asked: List[object] = []
+        setattr(self.one.votes, "since", asked.append)
+        self.one.look()
+        self.assertEqual(asked, [])
 
     def test_a_save_that_a_majority_contradicts_stops_it(self) -> None:
         self.one.put(SAVED, [Vote(4, b"MVL2 mine")])
