@@ -38,11 +38,6 @@ form_is (d ∷ c ∷ a) (f ∷ g ∷ b) n p q =
     let rest : (c ∷ a) ≡ (g ∷ b) = form_is (c ∷ a) (g ∷ b) q.2 u q.5 in
     cc
 
--- what stands after a byte that isn't the last
-pub tail_of : (b n : ℕ) (t : List ℕ) → 128 ≤ b → IsUleb (b ∷ t) n → (high : ℕ) × (0 < high) × (n + 128 ≡ b + 128 * high) × IsUleb t high
-tail_of b n [] ge u = absurd (omega (arith, u.0))
-tail_of b n (c ∷ bs) ge u = (u.2, u.3, u.4, u.5)
-
 -- a byte before a form
 pub IsUleb-more : (b n high : ℕ) (t : List ℕ) → 128 ≤ b → b < 256 → 0 < high → n + 128 ≡ b + 128 * high → IsUleb t high → IsUleb (b ∷ t) n
 IsUleb-more b n high [] ge lt pos e u = absurd u
