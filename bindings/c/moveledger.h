@@ -1,9 +1,10 @@
 /* moveledger.h: the ledger as a library.
  *
- * A ledger is held by a `moveledger` of yours, which holds none where `own` is NULL. Calls that only read (save, show, audit, and the
- * questions by names and addresses) may use one ledger at once; a call that changes it (apply, begin, rollback, commit, free) is alone
- * with it. A call that finds the ledger in use answers BUSY, and nothing changes. Different ledgers may be used by different threads at
- * the same time. Every call returns, and answers a status. No call aborts the process, if its thread has moveledger_stack_bytes of stack.
+ * A ledger is held by a `moveledger` of yours, which holds none where `own` is NULL. Calls that only read (save, changes, changed_modules,
+ * show, audit, and the questions by names and addresses) may use one ledger at once; a call that changes it (apply, begin, rollback,
+ * commit, free) is alone with it. A call that finds the ledger in use answers BUSY, and nothing changes. Different ledgers may be used by
+ * different threads at the same time. Every call returns, and answers a status. No call aborts the process, if its thread has
+ * moveledger_stack_bytes of stack.
  * What a call changes, and what stays as it was, stands beside it.
  *
  * Compilers: what has the __atomic builtins (GCC, Clang), otherwise C11 with <stdatomic.h>. */
@@ -166,13 +167,14 @@ int32_t moveledger_runs(moveledger_own *ledger, uint64_t *runs);
 int32_t moveledger_tally(moveledger_own *ledger, const uint8_t *home, const uint8_t *module, size_t module_length,
                          const uint8_t *name, size_t name_length, uint64_t *packed, uint64_t *unpacked);
 
-/* Without a ledger. prove: the certificate's hexadecimal, as the command prints it, without a line end. It has no limit of time;
- * prove_within takes so many steps at most, where a step is one instruction of one visit of its block: TOO_LONG where they don't suffice.
- * check: DONE where the module passes with the certificate of that text. migrate: a saved ledger in the current form. */
-/* Through this header, read_record gives the record at the front of bytes in a moveledger_record, without answering it; ABSENT where no whole
- * one stands there, and *record is zeros after anything but DONE. With its budget moveledger_most_bytes tells how much it may store. */
+/* Calls without a ledger. Through this header, read_record gives the record at the front of bytes in a moveledger_record, without answering
+ * it; ABSENT where no whole one stands there, and *record is zeros after anything but DONE. With its budget moveledger_most_bytes tells how
+ * much it may store. */
 int32_t moveledger_read_record(const uint8_t *records, size_t length, size_t *size, uint8_t *kind, uint8_t *is_shaped, uint8_t *sender,
                                uint64_t *budget);
+/* prove: the certificate's hexadecimal, as the command prints it, without a line end. It has no limit of time; prove_within takes so many
+ * steps at most, where a step is one instruction of one visit of its block: TOO_LONG where they don't suffice. check: DONE where the module
+ * passes with the certificate of that text. migrate: a saved ledger in the current form. */
 int32_t moveledger_prove(const uint8_t *module, size_t length, moveledger_bytes *certificate, uint8_t *why);
 int32_t moveledger_prove_within(const uint8_t *module, size_t length, uint64_t steps, moveledger_bytes *certificate, uint8_t *why);
 int32_t moveledger_check(const uint8_t *module, size_t length, const uint8_t *certificate, size_t certificate_length, uint8_t *why);

@@ -93,8 +93,8 @@ fn states(load: &impl Fn() -> Ledger, records: &[Vec<u8>]) -> (Vec<Vec<u8>>, Str
     (states, report.to_string())
 }
 
-/// Refuses each request of one call that answers all records. The ledger is then that of the records that were answered or of one
-/// more, and goes on from there with memory back.
+/// Refuses each request of one call that answers all records. The ledger is then that of the records that were answered, and goes on
+/// from there with memory back.
 fn refuse_in_applying(shows: &str, load: impl Fn() -> Ledger, records: &[Vec<u8>]) -> u64 {
     let (states, whole) = states(&load, records);
     let bytes = records.concat();
@@ -109,11 +109,10 @@ fn refuse_in_applying(shows: &str, load: impl Fn() -> Ledger, records: &[Vec<u8>
             Ok(report) => report.as_str() == whole && saved(&ledger) == states[records.len()],
             Err(Error::Unfinished(report)) => {
                 let at = saved(&ledger);
-                let done = if at == states[answered] { answered } else { answered + 1 };
                 assert!(answered < records.len(), "{shows}");
-                ledger.apply(&records[done..].concat()).expect("memory is back");
+                ledger.apply(&records[answered..].concat()).expect("memory is back");
                 whole.starts_with(report.as_str())
-                    && at == states[done]
+                    && at == states[answered]
                     && saved(&ledger) == states[records.len()]
             }
             Err(_) => false,
