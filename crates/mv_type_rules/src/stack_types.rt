@@ -1,5 +1,5 @@
 // The types on the stack before each instruction of a function.
-ghost use Rattle.std.specs.Prelude.{◌≡◌, ◌<◌, ◌++◌, ◌∷◌, [], Some, length, reverse, slice_get, take, IfOk, OnOk};
+ghost use Rattle.std.specs.Prelude.{◌≡◌, ◌<◌, ◌++◌, ◌∷◌, [], Some, length, reverse, slice_get, take, IfOk, OnOk, OnErr};
 ghost use Rattle.mv_type_rules.specs.Tops.{tops_of};
 
 use mv_move_types::Token;
@@ -44,11 +44,12 @@ impl StackTypes {
     }
 
     /// Adds a stack, whose last type is the topmost.
+    #[inline(always)]
     pub fn add(&mut self, stack: &[Token]) -> Result<(), AllocError>
         ensures { OnOk result (self.new ≡ self.old ++ reverse stack.now ∷ []) }
     {
         let start = self.tokens.len();
-        self.tokens.extend_from_slice(stack)?;
+        append(&mut self.tokens, stack)?;
         let end = self.tokens.len();
         self.parts.push(Part { start, end })?;
         Ok(())
@@ -97,6 +98,29 @@ impl StackTypes {
         let part = self.parts[at];
         &self.tokens[part.start..part.end]
     }
+}
+
+/// Appends a stack to a list of types, which stays as it was where an allocation failed. Most stacks have one type at most, and no
+/// call is made for them.
+#[inline(always)]
+fn append(tokens: &mut Vec<Token>, stack: &[Token]) -> Result<(), AllocError>
+    ensures ok { OnOk result (tokens.new.items ≡ tokens.old.items ++ stack.now) }
+    ensures failed { OnErr result (tokens.new.items ≡ tokens.old.items) }
+{
+    match stack {
+        [] => Ok(()),
+        [only] => Ok(tokens.push(*only)?),
+        _ => append_many(tokens, stack),
+    }
+}
+
+/// The same for a stack of any size.
+#[inline(never)]
+fn append_many(tokens: &mut Vec<Token>, stack: &[Token]) -> Result<(), AllocError>
+    ensures ok { OnOk result (tokens.new.items ≡ tokens.old.items ++ stack.now) }
+    ensures failed { OnErr result (tokens.new.items ≡ tokens.old.items) }
+{
+    tokens.extend_from_slice(stack)
 }
 
 /// The two topmost types of a stack, or as many as it has.
