@@ -4,7 +4,7 @@
 --   IsSearch-found      a successor is marked and open
 --   IsSearch-closed     a block whose successors are all marked is no longer open
 --   IsSearch-end        where no block is open the marked ones are those that paths lead to
-use Rattle.std.proofs.Common.{◌≡◌, ℕ, ◌+◌, ◌-◌, ◌<◌, ◌≤◌, Bool, true, false, List, [], ◌∷◌, ◌++◌, length, get_or, set, take, All, Contains, replicate, refl, sym}
+use Rattle.std.proofs.Common.{◌≡◌, ℕ, ◌+◌, ◌<◌, ◌≤◌, Bool, true, false, List, [], ◌∷◌, ◌++◌, length, get_or, set, All, Contains, replicate, refl, sym}
 use Rattle.std.proofs.Common.{ap, ◌∙◌, subst, arith, zero, suc, inl, inr, ⊎_elim, ◌⊎◌, ◌≢◌}
 use Rattle.std.proofs.lemmas.Bool.{cases_eq, cases_lt, false≢true}
 use Rattle.std.proofs.lemmas.List.{get_or-set_same, get_or-set_other, get_or-replicate, length-set, length-replicate, get_or_past, get_or_default}
@@ -45,15 +45,6 @@ stays_marked marks n k e h =
 pub marked_within : (marks : List Bool) (k : ℕ) → get_or marks k false ≡ true → k < length marks
 marked_within marks k e =
     ⊎_elim (λ (h : k < length marks). h) (λ (h : length marks ≤ k). absurd (false≢true (sym (get_or_past marks k false h) ∙ e))) (cases_lt k (length marks))
-
-take-nil : (n : ℕ) → take {A = Bool} n [] ≡ []
-take-nil zero = refl
-take-nil (suc n) = refl
-
--- marks that were cleared and set anew
-pub cleared : (n size : ℕ) (old : List Bool) → old ≡ [] → size ≡ 0 → take n old ++ replicate (n - size) false ≡ replicate n false
-cleared n size old none zero_size =
-    let rest : n - size ≡ n = omega arith in ap (λ xs. take n xs ++ replicate (n - size) false) none ∙ ap (λ xs. xs ++ replicate (n - size) false) (take-nil n) ∙ ap (λ k. replicate k false) rest
 
 pub IsSearch-start : (g : Cfg) (size : ℕ) → size ≡ length g.blocks.items → 0 < size → IsSearch g (set (replicate size false) 0 true) (0 ∷ [])
 IsSearch-start g size is some = record {

@@ -17,7 +17,7 @@
 //! ```
 #![tactic(auto)]
 
-ghost use Rattle.std.specs.Prelude.{◌≡◌, ◌+◌, ◌<◌, length, map, All, IfOk, IfErr, IfSome, OnOk, slice_get, slice_index, slice_index_or, IsTrue};
+ghost use Rattle.std.specs.Prelude.{◌≡◌, ◌+◌, ◌<◌, length, map, All, IfOk, IfErr, IfSome, slice_get, slice_index, slice_index_or, IsTrue};
 ghost use Rattle.mv_move_types.specs.Flow.{exit_ends_block, exit_falls_through};
 ghost use Rattle.mv_move_types.specs.Refusals.{IsRefusedIn};
 ghost use Rattle.mv_cfg.specs.Blocks.{ends_well, leads_to};
@@ -47,26 +47,6 @@ pub struct Cfg {
     pub blocks: Vec<Block>,
 }
 
-/// Lists in which flow graphs are made. They are used again for each function, so that they take memory few times. What they contain
-/// means nothing.
-#[derive(Drop)]
-pub struct Room {
-    marks: Vec<bool>,
-    numbers: Vec<usize>,
-    places: Vec<usize>,
-}
-
-impl Room {
-    /// No room yet: no memory is taken.
-    pub fn new(alloc: Global) -> Self {
-        Room {
-            marks: Vec::new(alloc),
-            numbers: Vec::new(alloc),
-            places: Vec::new(alloc),
-        }
-    }
-}
-
 /// Whether this exit does anything but fall through to the next instruction.
 fn ends_block(exit: Exit) -> bool
     ensures { result ≡ exit_ends_block exit }
@@ -91,33 +71,28 @@ fn is_ended(code: &[Instruction]) -> bool
     }
 }
 
-/// Sets the marks, one for each instruction: whether a branch leads to it.
-fn branch_targets(code: &[Instruction], marks: &mut Vec<bool>) -> Result<(), AllocError>
+/// For each instruction, whether a branch leads to it.
+fn branch_targets(alloc: Global, code: &[Instruction]) -> Result<Vec<bool>, AllocError>
     requires { BranchesInside code.now }
-    ensures { OnOk result (IsTargetMarks code.now marks.new.items) }
+    ensures { IfOk result (λ marks. IsTargetMarks code.now marks.items) }
 {
-    marks.clear();
-    marks.resize(code.len(), false)?;
+    let mut marks = vec![in alloc; false; code.len()]?;
     for instruction in code {
         match instruction.exit() {
             Exit::Fork(target) | Exit::Jump(target) => marks[usize::from(target)] = true,
             Exit::Next | Exit::Leave => {}
         }
     }
-    Ok(())
+    Ok(marks)
 }
 
-/// Lists the first instructions of the blocks, in order: the code's first one, those that a branch leads to, and those after
+/// The first instructions of the blocks, in order: the code's first one, those that a branch leads to, and those after
 /// an instruction that ends a block.
-fn starts(
-    code: &[Instruction],
-    is_target: &[bool],
-    firsts: &mut Vec<usize>,
-) -> Result<(), AllocError>
+fn starts(alloc: Global, code: &[Instruction], is_target: &[bool]) -> Result<Vec<usize>, AllocError>
     requires { IsTargetMarks code.now is_target.now }
-    ensures { OnOk result (firsts.new.items ≡ starts_of code.now) }
+    ensures { IfOk result (λ firsts. firsts.items ≡ starts_of code.now) }
 {
-    firsts.clear();
+    let mut firsts = Vec::new(alloc);
     let mut begins = true;
     for (i, instruction) in code.iter().enumerate() {
         if begins || is_target[i] {
@@ -125,20 +100,19 @@ fn starts(
         }
         begins = ends_block(instruction.exit());
     }
-    Ok(())
+    Ok(firsts)
 }
 
-/// Lists for each of so many instructions at which a block begins, which of the blocks it is. What is listed for the others means
-/// nothing.
-fn places(size: usize, firsts: &[usize], places: &mut Vec<usize>) -> Result<(), AllocError>
+/// For each of so many instructions at which a block begins, which of the blocks it is.
+fn places(alloc: Global, size: usize, firsts: &[usize]) -> Result<Vec<usize>, AllocError>
     requires { All (λ i. i < size) firsts.now }
-    ensures { OnOk result (IsPlaced size firsts.now places.new.items) }
+    ensures { IfOk result (λ places. IsPlaced size firsts.now places.items) }
 {
-    places.resize(size, 0)?;
+    let mut places = vec![in alloc; 0; size]?;
     for (k, first) in firsts.iter().enumerate() {
         places[*first] = k;
     }
-    Ok(())
+    Ok(places)
 }
 
 /// The blocks at which control can go on after this instruction.
@@ -195,14 +169,13 @@ fn split(
     Ok(blocks)
 }
 
-/// Sets the marks, one for each block: whether a path leads to it from the first one. Each enters the worklist at most once.
-fn reached(g: &Cfg, marks: &mut Vec<bool>, worklist: &mut Vec<usize>) -> Result<(), AllocError>
+/// For each block, whether a path leads to it from the first one: each enters the worklist at most once.
+fn reached(alloc: Global, g: &Cfg) -> Result<Vec<bool>, AllocError>
     requires { IsLinked g.now }
-    ensures { OnOk result (IsReachedMarks g.now marks.new.items) }
+    ensures { IfOk result (λ marks. IsReachedMarks g.now marks.items) }
 {
-    marks.clear();
-    marks.resize(g.blocks.len(), false)?;
-    worklist.clear();
+    let mut marks = vec![in alloc; false; g.blocks.len()]?;
+    let mut worklist = Vec::new(alloc);
     marks[0] = true;
     worklist.push(0)?;
     while let Some(k) = worklist.pop() {
@@ -213,7 +186,7 @@ fn reached(g: &Cfg, marks: &mut Vec<bool>, worklist: &mut Vec<usize>) -> Result<
             }
         }
     }
-    Ok(())
+    Ok(marks)
 }
 
 /// Marks the blocks as reached by a path or not.
@@ -228,19 +201,19 @@ fn mark(blocks: &mut [Block], marks: &[bool])
 }
 
 /// The flow graph of code that ends well.
-fn graph(alloc: Global, code: &[Instruction], room: &mut Room) -> Result<Cfg, AllocError>
+fn graph(alloc: Global, code: &[Instruction]) -> Result<Cfg, AllocError>
     requires ends { IsTrue (ends_well code.now) }
     requires inside { BranchesInside code.now }
     ensures { IfOk result (λ g. IsFlowGraph code.now g) }
 {
-    branch_targets(code, &mut room.marks)?;
-    starts(code, &room.marks, &mut room.numbers)?;
-    places(code.len(), &room.numbers, &mut room.places)?;
+    let is_target = branch_targets(alloc, code)?;
+    let firsts = starts(alloc, code, &is_target)?;
+    let places = places(alloc, code.len(), &firsts)?;
     let mut g = Cfg {
-        blocks: split(alloc, code, &room.numbers, &room.places)?,
+        blocks: split(alloc, code, &firsts, &places)?,
     };
-    reached(&g, &mut room.marks, &mut room.numbers)?;
-    mark(&mut g.blocks, &room.marks);
+    let marks = reached(alloc, &g)?;
+    mark(&mut g.blocks, &marks);
     Ok(g)
 }
 
@@ -254,23 +227,11 @@ pub fn blocks(alloc: Global, m: &Bounded<'_>, f: usize) -> Result<Cfg, Refusal>
     ensures ok { IfOk result (λ g. IfSome (slice_get m.now.functions f) (λ d. IsFlowGraph d.code g)) }
     ensures refused { IfErr result (λ e. IfSome (slice_get m.now.functions f) (λ d. IsRefusedIn 7 (IsTrue (ends_well d.code)) e)) }
 {
-    blocks_in(alloc, m, f, &mut Room::new(alloc))
-}
-
-/// The flow graph of function `f`, made in the lists of this room.
-///
-/// # Errors
-/// As [`blocks`].
-pub fn blocks_in(alloc: Global, m: &Bounded<'_>, f: usize, room: &mut Room) -> Result<Cfg, Refusal>
-    requires { f < length m.now.functions }
-    ensures ok { IfOk result (λ g. IfSome (slice_get m.now.functions f) (λ d. IsFlowGraph d.code g)) }
-    ensures refused { IfErr result (λ e. IfSome (slice_get m.now.functions f) (λ d. IsRefusedIn 7 (IsTrue (ends_well d.code)) e)) }
-{
     let code = m.code(f);
     if !is_ended(code) {
         return Err(Refusal::Phase(7));
     }
     // For the prover: branches lead into the code.
     let _module = m.module();
-    Ok(graph(alloc, code, room)?)
+    Ok(graph(alloc, code)?)
 }

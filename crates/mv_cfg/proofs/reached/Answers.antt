@@ -3,15 +3,15 @@ use Rattle.std.proofs.lemmas.List.{length_push, nil_from_length, get_or_read}
 use Rattle.std.proofs.lemmas.Option.{slice_get_read}
 use Rattle.mv_cfg.specs.Graph.{IsBlock}
 use Rattle.mv_cfg.proofs.Search.{IsSearch, AreMarked, IsSearch-start, IsSearch-popped, IsSearch-found, IsSearch-closed, IsSearch-end, open-within}
-use Rattle.mv_cfg.proofs.Search.{cleared, next-within, next-edge, unmarked-set, AreMarked-more, AreMarked-set}
+use Rattle.mv_cfg.proofs.Search.{next-within, next-edge, unmarked-set, AreMarked-more, AreMarked-set}
 use Rattle.mv_cfg.proofs.reached.Goals as goal
 use Rattle.mv_cfg.proofs.reached.Goals.{then-not-index+in_ok-push-2, else-not-index}
 
 pub loop-k-init : goal.loop-k-init
 loop-k-init c =
-    let marks : c.resize.new.self.items ≡ replicate c.len.result false = c.in_ok-resize.ensures.items ∙ cleared c.len.result _ _ c.clear.ensures.items c.clear.ensures.len in
+    let marks : c.in_ok-marks.marks.items ≡ replicate c.len.result false = c.in_ok-marks.ensures.items_if_clones_equal (λ y e. (cc)) in
     let count = c.args.g.now.blocks.ok.0 in
-    let work : c.push.new.self.items ≡ 0 ∷ [] = c.in_ok-push.ensures.items ∙ ap (λ (xs : List ℕ). xs ++ 0 ∷ []) c.clear-2.ensures.items in
+    let work : c.push.new.self.items ≡ 0 ∷ [] = c.in_ok-push.ensures.items ∙ ap (λ (xs : List ℕ). xs ++ 0 ∷ []) c.new-worklist.ensures.items in
     rw (marks, work) (IsSearch-start c.args.g.now c.len.result (c.len.ensures ∙ count) (omega (arith, c.requires.has_entry, c.len.ensures, count)))
 
 pub index-requires : goal.index-requires

@@ -3,7 +3,7 @@ use Rattle.std.proofs.lemmas.Option.{MatchOption-at_some}
 use Rattle.mv_move_types.specs.Module.{FunctionDefinition}
 use Rattle.mv_cfg.specs.Steps.{BranchesInside}
 use Rattle.mv_cfg.proofs.Targets.{branches-inside}
-use Rattle.mv_cfg.proofs.blocks_in.Goals as goal
+use Rattle.mv_cfg.proofs.blocks.Goals as goal
 use Rattle.mv_bound_rules.proofs.Entries.{element_at}
 
 pub graph-requires-clause-inside : goal.graph-requires-clause-inside
