@@ -1,7 +1,8 @@
 """What records cost whose size says little of it: upgrades among few and many modules and under few and many dependants, modules
-that name many others, names that collide, shows of values of large modules, the dearest records of 1 MB that are known, beside
-the mean of publishing 1 MB of ordinary modules, and a step of a search for a certificate. A time is the processor's, the least of several tries, and memory the most that the
-process held, both less what the program takes for the records before.
+that name many others, an upgrade that gains a dependency among many, names that collide, shows of values of large modules, the dearest
+records of 1 MB that are known, beside the mean of publishing 1 MB of ordinary modules, and a step of a search for a certificate. A time is
+the processor's, the least of several tries, and memory the most that the process held, both less what the program takes for the records
+before.
 
 usage: python3 bench/costs.py PROGRAM FOLDER    FOLDER is kept; machine instructions are counted where there is a valgrind"""
 
@@ -22,6 +23,8 @@ UPGRADES = 300
 FEW, MANY = 500, 2_000
 # Modules that name one, and large ones, which take 60 KB each.
 DEPENDANTS, LARGE_ONES = 4_000, 400
+# Modules in one chain, and how often a module gains a dependency on all of them, and loses it again.
+CHAINED, GAINS = 4_090, 20
 # Half of an address that the hash of the store's names multiplies the other half by 0 for: the other half then tells nothing.
 COLLIDING = 0x9E3779B97F4A7C15
 SHOWS, SHOWN = 20, 1_000
@@ -234,6 +237,30 @@ def offered_at(address: int, *texts: bytes) -> bytes:
     """The record that publishes modules without code from an address."""
     offers = [inputs.model.Offer(text, b"") for text in texts]
     return record(*inputs.writer.write_payload(inputs.model.Publish(inputs.address(address), offers)))
+
+
+def linked(address: int, others: Sequence[int] = ()) -> bytes:
+    """The record that publishes from an address a module M that names those called M at others, and nothing of them."""
+    tables = Module("M").tables()
+    tables.addresses = [inputs.address(address), *map(inputs.address, others)]
+    tables.identifiers = ["M"]
+    tables.module_handles = [inputs.model.ModuleHandle(n, 0) for n in range(len(others) + 1)]
+    return offered_at(address, inputs.writer.write_module(tables))
+
+
+def tell_gaining(program: Program) -> None:
+    """An upgrade that gains a dependency, which leads to all other modules: its bundle is put in order among all of them."""
+    above = CHAINED + 1
+    without, gaining = linked(above), linked(above, [CHAINED])
+    before = [linked(1), *(linked(n, [n - 1]) for n in range(2, above)), without]
+    answers = program.report([*before, gaining, without]).decode().splitlines()
+    assert all(line.endswith(" published 1") for line in answers), answers[-2:]
+    spent = (program.spent([*before, *[gaining, without] * GAINS]) - program.spent([*before, *[without, without] * GAINS])) / GAINS
+    counts = [program.instructions([*before, *[upgrade, without] * GAINS]) for upgrade in (gaining, without)]
+    more = difference(*counts)
+    counted = f", {more / GAINS:,.0f} machine instructions" if more is not None else ""
+    print(f"costs: an upgrade of {len(gaining)} bytes that gains a dependency, by which it depends on {CHAINED} modules in one chain: "
+          f"{spent * 1e3:.2f} ms more than one that gains none{counted} (aim: 0.5 ms, or 5,000,000 machine instructions)", flush=True)
 
 
 def tell_colliding(program: Program) -> None:
@@ -857,6 +884,7 @@ def tell(program: Path, folder: Path) -> None:
     tell_upgrades(measured)
     tell_dependants(measured)
     tell_naming(measured)
+    tell_gaining(measured)
     tell_colliding(measured)
     tell_shows(measured)
     tell_dearest(measured)

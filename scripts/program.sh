@@ -18,27 +18,23 @@ sources() {
     find crates.txt HANDLES crates -regex 'crates/[^/]*/\(out\|must-fail\)' -prune -o "$@"
 }
 
-# Whether nothing of a list has changed since it was written. Where find reads no lists, the list is empty, and all folders are read.
+# Whether nothing of a list has changed since it was written. Each name takes one system call, and three parts are looked at side by side.
 is_unchanged_since() {
-    [ -e "$1" ] && [ -z "$(cd "$top" && if [ -s "$1" ]; then
-        find -files0-from "$1" -maxdepth 0 \( -cnewer "$1" -o -newerct now \) -print -quit
-    else
-        sources \( -cnewer "$1" -o -newerct now \) -print -quit
-    fi 2>/dev/null || echo unknown)" ]
+    [ -e "$1" ] && [ -z "$(cd "$top" && xargs -0 -n 1200 -P 3 sh -c '
+        list=$1 && shift && exec find "$@" -maxdepth 0 \( -cnewer "$list" -o -newerct now \) -print -quit
+    ' sh "$1" < "$1" 2>/dev/null || echo unknown)" ]
 }
 
 # Writes a list of the sources. Its time lies before all that is looked at afterwards, though the clock of a file system may be behind.
 write_list() {
     (cd "$top" && sources -print0) 2>/dev/null > "$1" || return 1
-    find -files0-from "$1" -maxdepth 0 -quit 2>/dev/null || : > "$1"
     sleep 0.05 2>/dev/null || sleep 1
 }
 
 # Puts a list beside a program that was seen to be of these sources after the list was written, unless something has changed meanwhile.
 # From then on the program itself may not change either.
 keep_list() {
-    { cat "$1" && { [ ! -s "$1" ] || printf '%s\0' "$2"; }; } > "$1.whole" &&
-        is_unchanged_since "$1" && mv -f "$1.whole" "$2.seen" && rm -f "$1"
+    { cat "$1" && printf '%s\0' "$2"; } > "$1.whole" && is_unchanged_since "$1" && mv -f "$1.whole" "$2.seen" && rm -f "$1"
 }
 
 # What dist/ says of its sources, or of its program.

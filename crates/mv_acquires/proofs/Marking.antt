@@ -1,32 +1,11 @@
 -- What is marked, from what was.
-use Rattle.std.proofs.Common.{◌≡◌, ℕ, zero, suc, ◌<◌, ◌==◌, Bool, true, false, ◌||◌, List, [], ◌∷◌, ◌++◌, length, set, replicate, refl, sym, ap, inl, inr, ◌∙◌, arith}
+use Rattle.std.proofs.Common.{◌≡◌, ℕ, ◌==◌, Bool, true, List, [], ◌∷◌, refl, sym, ap, inl, inr, ◌∙◌}
 use Rattle.std.specs.List.{list_all}
-use Rattle.std.proofs.Math.Dec.{eqb-zero-suc, eqb-suc-zero, eqb-suc-suc}
 use Rattle.mv_acquires.specs.Acquires.{has_member, same_members}
 use Rattle.mv_acquires.specs.Marks.{is_marked, IsWithin}
 use Rattle.std.specs.Bool.{Decides}
 use Rattle.std.proofs.lemmas.Bool.{false≢true, eqb-true, eq-eqb, and_parts, and_from, or_cases, or_left, or_right}
 use Rattle.std.proofs.lemmas.Bool.Decides.{same_from_decides}
-use Rattle.std.proofs.Math.Bool.{or-true, or-false}
-
-none_marked : (k y : ℕ) → is_marked (replicate k false) y ≡ false
-none_marked zero y = refl
-none_marked (suc k) zero = refl
-none_marked (suc k) (suc y) = none_marked k y
-
--- places without a mark change nothing
-pub marked-extended : (xs : List Bool) (k y : ℕ) → is_marked (xs ++ replicate k false) y ≡ is_marked xs y
-marked-extended [] k y = none_marked k y
-marked-extended (x ∷ xs) k zero = refl
-marked-extended (x ∷ xs) k (suc y) = marked-extended xs k y
-
--- a mark is set at one place
-pub marked-set : (xs : List Bool) (x y : ℕ) → x < length xs → is_marked (set xs x true) y ≡ (is_marked xs y || x == y)
-marked-set [] x y h = absurd (omega arith)
-marked-set (b ∷ bs) zero zero h = sym (or-true b)
-marked-set (b ∷ bs) zero (suc y) h = sym (ap (λ e. is_marked bs y || e) (eqb-zero-suc y) ∙ or-false (is_marked bs y))
-marked-set (b ∷ bs) (suc x) zero h = sym (ap (λ e. b || e) (eqb-suc-zero x) ∙ or-false b)
-marked-set (b ∷ bs) (suc x) (suc y) h = marked-set bs x y (omega arith) ∙ sym (ap (λ e. is_marked bs y || e) (eqb-suc-suc x y))
 
 all_members : (p : ℕ → Bool) (xs : List ℕ) → ((y : ℕ) → has_member xs y ≡ true → p y ≡ true) → list_all p xs ≡ true
 all_members p [] h = refl

@@ -1,5 +1,5 @@
 -- A test of each element of a list, from its answer at each place.
-use Rattle.std.proofs.Common.{◌≡◌, ℕ, zero, suc, ◌<◌, Bool, true, false, ◌&&◌, List, [], ◌∷◌, length, slice_get, Option, Some, None, IfSome, refl, sym, ◌∙◌, arith}
+use Rattle.std.proofs.Common.{◌≡◌, ℕ, zero, suc, ◌<◌, Bool, true, false, ◌&&◌, List, [], ◌∷◌, length, slice_get, IfSome, refl, sym, arith}
 use Rattle.std.specs.List.{list_all}
 use Rattle.std.proofs.lemmas.Bool.{and_right}
 
@@ -13,8 +13,3 @@ pub not_all_at : {A : Type 0} (p : A → Bool) (xs : List A) (k : ℕ) (r : Bool
 not_all_at p [] k r h f e = absurd (omega arith)
 not_all_at p (x ∷ xs) zero r h f e = rw (sym f, e) refl
 not_all_at p (x ∷ xs) (suc k) r h f e = and_right (p x) (list_all p xs) (not_all_at p xs k r (omega arith) f e)
-
--- what passes at a place, read off a result
-pub passes : {A : Type 0} (p : A → Bool) (o : Option A) (r : Bool) → IfSome o (λ x. r ≡ p x) → r ≡ true → IfSome o (λ x. p x ≡ true)
-passes p None r f e = tt
-passes p (Some x) r f e = sym f ∙ e

@@ -1,8 +1,8 @@
 -- Edges in their order.
 use Rattle.mv_edges.proofs.Common.{[], ℕ, ◌&&◌, ◌++◌, ◌+◌, ◌-◌, ◌<◌, ◌||◌, ◌↔◌, ◌∙◌, ◌∷◌, ◌≡◌, ◌≤◌, ◌⊎◌, Bool, Contains, List, None, Some, ap, append-nil, append_assoc, arith, cond, drop}
 use Rattle.mv_edges.proofs.Common.{eqb, false, filter, get_or, inl, inr, length, ne_eqb, not, refl, slice_get, subst, suc, sym, take, take-append-drop, true, zero, and_from, and_parts}
-use Rattle.mv_edges.proofs.Common.{drop_more, Contains-append_cases, Contains-append_left, Contains-append_right, list_all-append, slice_get-get_or, list_all, list_any, Node, are_ascending}
-use Rattle.mv_edges.proofs.Common.{edge_before, Edge, same_node, without, inserted, sorted}
+use Rattle.mv_edges.proofs.Common.{drop_more, Contains-append_cases, Contains-append_left, Contains-append_right, list_all-append, slice_get-get_or, list_all, list_any, are_ascending}
+use Rattle.mv_edges.proofs.Common.{edge_before, Edge, inserted, sorted}
 use Rattle.std.proofs.Common.{insert}
 use Rattle.std.proofs.lemmas.List.{drop_all}
 use Rattle.mv_edges.proofs.Insertion as insertion
@@ -129,9 +129,6 @@ ascending-inserted e es h = from_by (inserted e es) (subst (λ xs. ascend_by edg
 
 pub ascending-filter : (p : Edge → Bool) (es : List Edge) → are_ascending es ≡ true → are_ascending (filter p es) ≡ true
 ascending-filter p es h = from_by (filter p es) (insertion.ascend-filter edge_before edge_strict p es (to_by es h))
-
-pub ascending-without : (n : Node) (es : List Edge) → are_ascending es ≡ true → are_ascending (without n es) ≡ true
-ascending-without n es h = ascending-filter (λ e. not (same_node e.from n) && not (same_node e.to n)) es h
 
 pub ascending-push_some : (es : List Edge) (e l : Edge) → slice_get es (length es - 1) ≡ Some l → are_ascending es ≡ true → are_ascending (es ++ e ∷ []) ≡ edge_before l e
 ascending-push_some es e l g h = ascending_is (es ++ e ∷ []) ∙ insertion.ascend-push_some edge_before es e l g (to_by es h)
