@@ -22,6 +22,7 @@ mod entries;
 mod headers;
 mod laws;
 mod layout;
+mod listed;
 mod module;
 mod names;
 
