@@ -1,5 +1,5 @@
 -- What the tables of a module say of a function's locals.
-use Rattle.std.proofs.Common.{◌≡◌, ℕ, zero, suc, ◌+◌, ◌-◌, ◌≤◌, ◌<◌, Bool, true, ◌&&◌, List, [], ◌∷◌, ◌++◌, length, length-append, replicate}
+use Rattle.std.proofs.Common.{◌≡◌, ℕ, zero, suc, ◌+◌, ◌-◌, ◌≤◌, ◌<◌, Bool, true, false, ◌&&◌, List, [], ◌∷◌, ◌++◌, length, length-append, replicate, take, drop}
 use Rattle.std.proofs.Common.{slice_get, Option, Some, None, IsSome, refl, sym, ap, ◌∙◌, subst, arith, option_map, ⊎_elim}
 use Rattle.std.specs.List.{list_all, zip}
 use Rattle.std.specs.Bool.{then_some}
@@ -51,6 +51,41 @@ may_leave_zipped p (t ∷ ts) (Unavailable ∷ s) = may_leave_zipped p ts s
 may_leave_zipped p (t ∷ ts) (Available ∷ s) = ap (λ r. may_stay p.home t Available && r) (may_leave_zipped p ts s)
 may_leave_zipped p (t ∷ ts) (Maybe ∷ s) = ap (λ r. may_stay p.home t Maybe && r) (may_leave_zipped p ts s)
 
+and_more : (b x y z : Bool) → x ≡ (y && z) → (b && x) ≡ ((b && y) && z)
+and_more true x y z e = e
+and_more false x y z e = refl
+
+-- the locals beyond the availabilities don't count
+zip-first : (ps others : List Token) (s : List Availability) → length s ≤ length ps → zip (ps ++ others) s ≡ zip ps s
+zip-first [] [] [] h = refl
+zip-first [] (o ∷ others) [] h = refl
+zip-first [] others (a ∷ s) h = absurd (omega arith)
+zip-first (p ∷ ps) others [] h = refl
+zip-first (p ∷ ps) others (a ∷ s) h = ap (λ r. (p, a) ∷ r) (zip-first ps others s (omega arith))
+
+pub remain_first : (m : Module) (ps others : List Token) (s : List Availability) → length s ≤ length ps
+    → list_all (λ q. may_stay m q.0 q.1) (zip (ps ++ others) s) ≡ list_all (λ q. may_stay m q.0 q.1) (zip ps s)
+remain_first m ps others s h = ap (λ r. list_all (λ q. may_stay m q.0 q.1) r) (zip-first ps others s h)
+
+-- the parameters' availabilities, and those of the others
+pub remain_both : (m : Module) (ps others : List Token) (s : List Availability) → length ps ≤ length s
+    → list_all (λ q. may_stay m q.0 q.1) (zip (ps ++ others) s)
+    ≡ (list_all (λ q. may_stay m q.0 q.1) (zip ps (take (length ps) s)) && list_all (λ q. may_stay m q.0 q.1) (zip others (drop (length ps) s)))
+remain_both m [] others s h = refl
+remain_both m (p ∷ ps) others [] h = absurd (omega arith)
+remain_both m (p ∷ ps) others (a ∷ s) h = and_more (may_stay m p a) _ _ _ (remain_both m ps others s (omega arith))
+
+module _ (m : Module) (ps others : List Token) (s first rest : List Availability) (long : length ps ≤ length s) (front : first ≡ take (length ps) s) (back : rest ≡ drop (length ps) s) where
+  remain_parts : list_all (λ q. may_stay m q.0 q.1) (zip (ps ++ others) s) ≡ (list_all (λ q. may_stay m q.0 q.1) (zip ps first) && list_all (λ q. may_stay m q.0 q.1) (zip others rest))
+  remain_parts = rw (front, back) (remain_both m ps others s long)
+
+  pub remain_yes : (a b : Bool) → a ≡ list_all (λ q. may_stay m q.0 q.1) (zip ps first) → a ≡ true → b ≡ list_all (λ q. may_stay m q.0 q.1) (zip others rest)
+      → b ≡ list_all (λ q. may_stay m q.0 q.1) (zip (ps ++ others) s)
+  remain_yes a b own holds its = rw (remain_parts, sym own, holds) its
+
+  pub remain_no : (a : Bool) → a ≡ list_all (λ q. may_stay m q.0 q.1) (zip ps first) → a ≡ false → a ≡ list_all (λ q. may_stay m q.0 q.1) (zip (ps ++ others) s)
+  remain_no a own fails = rw (remain_parts, sym own, fails) refl
+
 -- what a return makes of the availabilities, by the test of the locals' types
 pub return_known : (d : Function) (m : Module) (e : FunctionDefinition) (ts ts' : List Token) (s s' : List Availability) (b r : Bool)
     → record { home = m; function = e } ≡ d → local_tokens m e ≡ Some ts → ts' ≡ ts → s' ≡ s → r ≡ list_all (λ q. may_stay m q.0 q.1) (zip ts' s')
@@ -63,19 +98,17 @@ return_known d m e ts ts' s s' b r view tokens same_ts same_s tested decided =
     known : list_all (λ q. may_stay m q.0 q.1) (zip ts s) ≡ b → leave_known (point_at m e []) s ≡ then_some b s
     known test = rw (tokens, may_leave_zipped (point_at m e []) ts s, test) refl
 
-module _ (m : Module) (d : FunctionDefinition) (ts : List Token) (parameters : ℕ) (tokens : local_tokens m d ≡ Some ts) (counted : option_map length (parameter_tokens m d) ≡ Some parameters) where
-  pub start_is : (s : List Availability) → s ≡ replicate parameters Available ++ replicate (length ts - parameters) Unavailable → start_locals m d ≡ Some s
-  start_is s is = by_parameters (parameter_tokens m d) counted
-    where
-      by_parameters : (o : Option (List Token)) → option_map length o ≡ Some parameters
-          → (o >>= λ ps. local_tokens m d >>= λ locals. Some (replicate (length ps) Available ++ replicate (length locals - length ps) Unavailable)) ≡ Some s
-      by_parameters None e = cc
-      by_parameters (Some ps) e = let long : length ps ≡ parameters = cc in rw (tokens, long) (ap Some (sym is))
+module _ (m : Module) (d : FunctionDefinition) (ps others : List Token) (parameters : parameter_tokens m d ≡ Some ps) (tokens : local_tokens m d ≡ Some (ps ++ others)) where
+  pub start_is : (s : List Availability) → s ≡ replicate (length ps) Available ++ replicate (length others) Unavailable → start_locals m d ≡ Some s
+  start_is s is =
+      let rest : length (ps ++ others) - length ps ≡ length others = omega (arith, length-append ps others) in
+      rw (parameters, tokens, rest) (ap Some (sym is))
 
-  pub state_is : (s : List Availability) → parameters ≤ length ts → s ≡ replicate parameters Available ++ replicate (length ts - parameters) Unavailable → IsOfLocals m d s
-  state_is s few is =
-      let count : local_count m d ≡ length ts = rw tokens refl in
-      let long : length s ≡ length (replicate parameters Available) + length (replicate (length ts - parameters) Unavailable) = ap length is ∙ length-append (replicate parameters Available) (replicate (length ts - parameters) Unavailable) in
-      let first : length (replicate parameters Available) ≡ parameters = length-replicate parameters Available in
-      let second : length (replicate (length ts - parameters) Unavailable) ≡ length ts - parameters = length-replicate (length ts - parameters) Unavailable in
-      omega (arith, count, long, first, second, few)
+  pub state_is : (s : List Availability) → s ≡ replicate (length ps) Available ++ replicate (length others) Unavailable → IsOfLocals m d s
+  state_is s is =
+      let count : local_count m d ≡ length (ps ++ others) = rw tokens refl in
+      let both : length (ps ++ others) ≡ length ps + length others = length-append ps others in
+      let long : length s ≡ length (replicate (length ps) Available) + length (replicate (length others) Unavailable) = ap length is ∙ length-append (replicate (length ps) Available) (replicate (length others) Unavailable) in
+      let first : length (replicate (length ps) Available) ≡ length ps = length-replicate (length ps) Available in
+      let second : length (replicate (length others) Unavailable) ≡ length others = length-replicate (length others) Unavailable in
+      omega (arith, count, both, long, first, second)

@@ -37,6 +37,16 @@ fn function_at<'t, 'm>(home: &'t Module<'m>, f: usize) -> &'t FunctionDefinition
     &home.functions()[f]
 }
 
+/// The type at an index of two lists, one after the other.
+fn among(first: &[Token], second: &[Token], index: usize) -> Option<Token>
+    ensures { result ≡ slice_get (first.now ++ second.now) index }
+{
+    match index.checked_sub(first.len()) {
+        None => first.get(index).copied(),
+        Some(beyond) => second.get(beyond).copied(),
+    }
+}
+
 /// Whether a local may be left behind: it holds nothing, or its value may be dropped.
 fn may_remain(m: &Bounded<'_>, token: Token, a: Availability) -> bool
     ensures { result ≡ may_stay m.now token a }
@@ -48,7 +58,7 @@ fn may_remain(m: &Bounded<'_>, token: Token, a: Availability) -> bool
 }
 
 /// Whether each local may be left behind.
-fn may_all_remain(m: &Bounded<'_>, locals: &[Token], s: &[Availability]) -> bool
+fn may_each_remain(m: &Bounded<'_>, locals: &[Token], s: &[Availability]) -> bool
     ensures { result ≡ list_all (λ q. may_stay m.now q.0 q.1) (zip locals.now s.now) }
 {
     locals
@@ -57,18 +67,35 @@ fn may_all_remain(m: &Bounded<'_>, locals: &[Token], s: &[Availability]) -> bool
         .all(|(token, a)| may_remain(m, *token, *a))
 }
 
+/// Whether each parameter and each other local may be left behind.
+fn may_all_remain(
+    m: &Bounded<'_>,
+    parameters: &[Token],
+    others: &[Token],
+    s: &[Availability],
+) -> bool
+    ensures { result ≡ list_all (λ q. may_stay m.now q.0 q.1) (zip (parameters.now ++ others.now) s.now) }
+{
+    let count = parameters.len();
+    if s.len() <= count {
+        return may_each_remain(m, parameters, s);
+    }
+    let (first, rest) = s.split_at(count);
+    may_each_remain(m, parameters, first) && may_each_remain(m, others, rest)
+}
+
 /// What each local of a function holds before each of its instructions.
 #[derive(Drop)]
 pub struct LocalsDomain<'t, 'm> {
     bounded: &'t Bounded<'m>,
     function: &'t FunctionDefinition<'m>,
     code: &'t [Instruction],
-    parameters: usize,
-    locals: Vec<Token>,
+    parameters: &'t [Token],
+    others: &'t [Token],
 }
 
 impl<'t, 'm> Model for LocalsDomain<'t, 'm> {
-    ghost use Rattle.std.specs.Prelude.{◌≡◌, ◌≤◌, length, Some, option_map};
+    ghost use Rattle.std.specs.Prelude.{◌≡◌, ◌++◌, Some};
     ghost use Rattle.mv_move_types.specs.Module.{local_tokens, parameter_tokens};
     ghost use Rattle.mv_locals_safety.specs.Domain.{Function};
 
@@ -77,14 +104,13 @@ impl<'t, 'm> Model for LocalsDomain<'t, 'm> {
     ghost view = { λ d. record { home = d.bounded.now; function = d.function.now } };
 
     ghost invariant = { λ d. (d.code.now ≡ d.function.now.code)
-        × (option_map length (parameter_tokens d.bounded.now d.function.now) ≡ Some d.parameters)
-        × (local_tokens d.bounded.now d.function.now ≡ Some d.locals.items)
-        × (d.parameters ≤ length d.locals.items) };
+        × (parameter_tokens d.bounded.now d.function.now ≡ Some d.parameters.now)
+        × (local_tokens d.bounded.now d.function.now ≡ Some (d.parameters.now ++ d.others.now)) };
 }
 
 impl<'t, 'm> LocalsDomain<'t, 'm> {
-    /// The domain of function `f`.
-    pub fn of_function(alloc: Global, m: &'t Typed<'m>, f: usize) -> Result<Self, AllocError>
+    /// The domain of function `f`. It takes no memory.
+    pub fn of_function(_alloc: Global, m: &'t Typed<'m>, f: usize) -> Result<Self, AllocError>
         requires { f < length m.now.functions }
         ensures home { IfOk result (λ d. d.home ≡ m.entry.now) }
         ensures function { IfOk result (λ d. slice_get m.entry.now.functions f ≡ Some d.function) }
@@ -93,14 +119,12 @@ impl<'t, 'm> LocalsDomain<'t, 'm> {
         let module = bounded.module();
         let function = function_at(module, f);
         let (parameters, others) = signatures_of(module, function).unwrap();
-        let mut locals = Vec::from_slice(alloc, parameters)?;
-        locals.extend_from_slice(others)?;
         Ok(LocalsDomain {
             bounded,
             function,
             code: bounded.code(f),
-            parameters: parameters.len(),
-            locals,
+            parameters,
+            others,
         })
     }
 
@@ -110,17 +134,17 @@ impl<'t, 'm> LocalsDomain<'t, 'm> {
         ensures start { IfOk result (λ s. start_locals self.now.home self.now.function ≡ Some s) }
         ensures state { IfOk result (λ s. IsOfLocals self.now.home self.now.function s) }
     {
-        let mut all = vec![in alloc; Availability::Available; self.parameters]?;
-        let others = self.locals.len().saturating_sub(self.parameters);
-        all.extend_from_slice(&vec![in alloc; Availability::Unavailable; others]?)?;
-        Ok(Availabilities::new(all))
+        let mut all = Availabilities::none();
+        all.push_times(alloc, Availability::Available, self.parameters.len())?;
+        all.push_times(alloc, Availability::Unavailable, self.others.len())?;
+        Ok(all)
     }
 
     /// Leaves the function, which changes nothing; refused where a local may hold what can't be dropped.
     fn leave(&self, s: &Availabilities) -> Result<(), StepError>
         ensures { Follows result s.now (leave_known (point_at self.now.home self.now.function []) s.now) }
     {
-        if !may_all_remain(self.bounded, &self.locals, s.as_slice()) {
+        if !may_all_remain(self.bounded, self.parameters, self.others, s.as_slice()) {
             return Err(StepError::Need);
         }
         Ok(())
@@ -148,7 +172,7 @@ impl<'t, 'm> LocalsDomain<'t, 'm> {
     fn local(&self, local: u16) -> Option<Token>
         ensures { result ≡ local_type self.now.home self.now.function local }
     {
-        self.locals.get(usize::from(local)).copied()
+        among(self.parameters, self.others, usize::from(local))
     }
 
     /// The instruction at a place, if there is one.
@@ -160,6 +184,7 @@ impl<'t, 'm> LocalsDomain<'t, 'm> {
 
     /// Changes the availabilities as an instruction does.
     #[tactic(auto, unfolding(mv_certificate_rules::specs::LocalsRules::locals_after))]
+    #[inline(always)]
     fn apply(&self, instruction: Instruction, s: &mut Availabilities) -> Result<(), StepError>
         ensures { Follows result s.new (locals_after (point_at self.now.home self.now.function []) instruction s.old) }
     {
@@ -175,6 +200,7 @@ impl<'t, 'm> LocalsDomain<'t, 'm> {
     }
 
     /// Changes the availabilities as the instruction at a place does.
+    #[inline(always)]
     fn change(&self, s: &mut Availabilities, at: usize) -> Result<(), StepError>
         ensures ok { OnOk result (locals_step self.now.home self.now.function at s.old ≡ Option.Some s.new) }
         ensures need { IsErrOf result StepError.Need → locals_step self.now.home self.now.function at s.old ≡ Option.None }

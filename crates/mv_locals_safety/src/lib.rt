@@ -19,6 +19,7 @@
 #![tactic(auto)]
 
 mod domain;
+mod few;
 mod states;
 
 pub use domain::LocalsDomain;

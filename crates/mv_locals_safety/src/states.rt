@@ -1,11 +1,12 @@
 // The availabilities of a function's locals.
-ghost use Rattle.std.specs.Prelude.{◌≡◌, ◌<◌, length, slice_get, slice_set, zip, false, IfOk};
+ghost use Rattle.std.specs.Prelude.{◌≡◌, ◌<◌, ◌++◌, ◌∷◌, [], length, replicate, slice_get, slice_set, zip, false, IfOk, OnOk};
 ghost use Rattle.mv_move_types.specs.declared.borrow.Availability.TheVariants.{Available};
 ghost use Rattle.std.specs.List.{list_all};
 ghost use Rattle.std.specs.Option.{option_map_or};
 ghost use Rattle.mv_certificate_rules.specs.LocalsRules.{availability_leq, locals_leq, is_available, needs_available};
 ghost use Rattle.mv_locals_safety.specs.Domain.{least_above, joined, moved_out, Follows};
 
+use crate::few::{FEW, Few};
 use mv_lattice::StepError;
 use mv_move_types::Availability;
 use std::alloc::{AllocError, Global};
@@ -52,19 +53,28 @@ fn all_common(
     a.iter().zip(b).map(|(x, y)| common(*x, *y)).collect(alloc)
 }
 
-/// What is known of each local of a function, parameters first.
+/// Where the availabilities of a state stand.
+#[derive(Drop, Debug)]
+pub(crate) enum Places {
+    Inside(Few),
+    Outside(Vec<Availability>),
+}
+
+/// What is known of each local of a function, parameters first: up to 16 availabilities lie in the value itself, and more in an
+/// allocation.
 #[derive(Drop, Debug)]
 pub struct Availabilities {
-    all: Vec<Availability>,
+    places: Places,
 }
 
 impl Model for Availabilities {
     ghost use Rattle.std.specs.Prelude.{List};
     ghost use Rattle.mv_move_types.specs.declared.borrow.Availability.{Availability};
+    ghost use Rattle.mv_locals_safety.specs.Places.{availabilities_at};
 
     ghost Value = { List Availability };
 
-    ghost view = { λ s. s.all.items };
+    ghost view = { λ s. availabilities_at s.places };
 }
 
 impl PartialEq for Availabilities {
@@ -77,37 +87,120 @@ impl PartialEq for Availabilities {
     ghost laws = { lists_per (Prim.search (comparing, rules)) };
 
     fn eq(&self, other: &Self) -> bool {
-        self.all == other.all
+        self.as_slice() == other.as_slice()
     }
 }
 
 impl Availabilities {
+    /// Availabilities in the value itself.
+    fn inside(few: Few) -> Self
+        ensures { result ≡ few }
+    {
+        Availabilities {
+            places: Places::Inside(few),
+        }
+    }
+
+    /// Availabilities in an allocation.
+    fn outside(many: Vec<Availability>) -> Self
+        ensures { result ≡ many.items }
+    {
+        Availabilities {
+            places: Places::Outside(many),
+        }
+    }
+
+    /// The state of no local.
+    pub fn none() -> Self
+        ensures { result ≡ [] }
+    {
+        Availabilities::inside(Few::new())
+    }
+
     /// The state of these availabilities.
     pub fn new(all: Vec<Availability>) -> Self
         ensures { result ≡ all.items }
     {
-        Availabilities { all }
+        if all.len() <= FEW {
+            return Availabilities::inside(Few::of_slice(&all));
+        }
+        Availabilities::outside(all)
     }
 
     /// The availabilities, parameters first.
     pub fn as_slice(&self) -> &[Availability]
         ensures { result.now ≡ self.now }
     {
-        &self.all
+        match &self.places {
+            Places::Inside(few) => few.as_slice(),
+            Places::Outside(many) => many.as_slice(),
+        }
     }
 
     /// Equal availabilities.
     pub fn copy(&self, alloc: Global) -> Result<Self, AllocError>
         ensures { IfOk result (λ s. s ≡ self.now) }
     {
-        Ok(Availabilities::new(Vec::from_slice(alloc, &self.all)?))
+        match &self.places {
+            Places::Inside(few) => Ok(Availabilities::inside(few.copy())),
+            Places::Outside(many) => Ok(Availabilities::outside(Vec::from_slice(
+                alloc,
+                many.as_slice(),
+            )?)),
+        }
+    }
+
+    /// Adds the availability of one more local.
+    #[inline]
+    pub fn push(&mut self, alloc: Global, a: Availability) -> Result<(), AllocError>
+        ensures { OnOk result (self.new ≡ self.old ++ a ∷ []) }
+    {
+        match &mut self.places {
+            Places::Inside(few) => {
+                if few.len() < FEW {
+                    few.push(a);
+                    return Ok(());
+                }
+                let mut many = Vec::from_slice(alloc, few.as_slice())?;
+                many.push(a)?;
+                self.places = Places::Outside(many);
+            }
+            Places::Outside(many) => many.push(a)?,
+        }
+        Ok(())
+    }
+
+    /// Adds the same availability of so many locals more.
+    pub(crate) fn push_times(
+        &mut self,
+        alloc: Global,
+        a: Availability,
+        times: usize,
+    ) -> Result<(), AllocError>
+        ensures { OnOk result (self.new ≡ self.old ++ replicate times a) }
+    {
+        'more: for _ in 0..times {
+            self.push(alloc, a)?;
+        }
+        Ok(())
+    }
+
+    /// Puts an availability in place of a local's.
+    fn set(&mut self, local: u16, a: Availability)
+        requires { local < length self.old }
+        ensures { self.new ≡ slice_set self.old local a }
+    {
+        match &mut self.places {
+            Places::Inside(few) => few.set(usize::from(local), a),
+            Places::Outside(many) => many[usize::from(local)] = a,
+        }
     }
 
     /// Whether a local surely holds a value.
     fn holds(&self, local: u16) -> bool
         ensures { result ≡ option_map_or is_available (slice_get self.now local) false }
     {
-        match self.all.get(usize::from(local)) {
+        match self.as_slice().get(usize::from(local)) {
             Some(Availability::Available) => true,
             _ => false,
         }
@@ -117,7 +210,7 @@ impl Availabilities {
     pub(crate) fn get(&self, local: u16) -> Option<Availability>
         ensures { result ≡ slice_get self.now local }
     {
-        self.all.get(usize::from(local)).copied()
+        self.as_slice().get(usize::from(local)).copied()
     }
 
     /// Puts a value into a local.
@@ -125,7 +218,7 @@ impl Availabilities {
         requires { local < length self.old }
         ensures { self.new ≡ slice_set self.old local Available }
     {
-        self.all[usize::from(local)] = Availability::Available;
+        self.set(local, Availability::Available);
     }
 
     /// Borrows a local, which changes nothing; refused where it may hold no value.
@@ -146,7 +239,7 @@ impl Availabilities {
         if !self.holds(local) {
             return Err(StepError::Need);
         }
-        self.all[usize::from(local)] = Availability::Unavailable;
+        self.set(local, Availability::Unavailable);
         Ok(())
     }
 
@@ -156,7 +249,7 @@ impl Availabilities {
         requires { length self.now ≡ length other.now }
         ensures { result ≡ locals_leq self.now other.now }
     {
-        are_below(&self.all, &other.all)
+        are_below(self.as_slice(), other.as_slice())
     }
 
     /// What both say of each local.
@@ -164,6 +257,7 @@ impl Availabilities {
         requires { length self.now ≡ length other.now }
         ensures { IfOk result (λ s. s ≡ joined self.now other.now) }
     {
-        Ok(Availabilities::new(all_common(alloc, &self.all, &other.all)?))
+        let all = all_common(alloc, self.as_slice(), other.as_slice())?;
+        Ok(Availabilities::new(all))
     }
 }
