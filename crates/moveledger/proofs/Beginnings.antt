@@ -1,6 +1,6 @@
 -- The first bytes of a module and of a certificate's text are enough to say what comes of them.
 use Rattle.std.proofs.Common.{◌≡◌, ℕ, ◌≤◌, ◌<◌, ◌+◌, ◌-◌, ◌==◌, if◌then◌else◌, ◌⊎◌, List, length, take, slice_index, Option, Some, None}
-use Rattle.std.proofs.Common.{Result, Ok, Err, Bool, true, false, IfSome, IfOk, IfErr, OnOk, MatchResult, option_map, inl, inr, arith, sym, codes}
+use Rattle.std.proofs.Common.{Result, Ok, Err, Bool, true, false, IfSome, IfOk, IfErr, OnOk, MatchResult, inl, inr, arith, sym, codes}
 use Rattle.std.proofs.Common.{subst}
 use Rattle.std.proofs.lemmas.Bool.{cases_order}
 use Rattle.std.proofs.lemmas.List.{take_all, length-take-le}
@@ -28,11 +28,6 @@ few-taken n l few = by_order (cases_order (length l) n)
     by_order (inl same) = take_all n l (omega (arith, same))
     by_order (inr (inl less)) = take_all n l (omega (arith, less))
     by_order (inr (inr more)) = let all = length-take-le n l (omega (arith, more)) in absurd (omega (arith, few, all))
-
--- known bytes, of which the first are read
-pub taken-known : (o : Option (List ℕ)) (n : ℕ) (items : List ℕ) → IfSome (option_map (take n) o) (λ xs. items ≡ xs) → IfSome o (λ xs. items ≡ take n xs)
-taken-known None n items h = tt
-taken-known (Some xs) n items h = h
 
 -- a text is at most one byte longer than what stands before its line end
 text-length : (t : List ℕ) → length t ≤ length (before_line_end t) + 1

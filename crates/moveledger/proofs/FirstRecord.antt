@@ -8,7 +8,7 @@ use Rattle.mv_uleb.proofs.Spelled.{spelled-front, number_from-some}
 use Rattle.mv_move_types.specs.Limits.{most_payload_bytes}
 use Rattle.moveledger.specs.Reading.{NoLength}
 use Rattle.moveledger.specs.Records.{IsText, NoWhole}
-use Rattle.moveledger.proofs.Whole.{IsText-from, NoWhole-length, NoWhole-nil, NoWhole-payload}
+use Rattle.moveledger.proofs.Whole.{IsText-from, NoWhole-payload}
 
 -- where no number is read, no length stands
 pub no-length : (bytes : List ℕ) → number_from most_payload_bytes bytes ≡ None → NoLength bytes
@@ -33,13 +33,6 @@ is-first bytes rest payload kind used n e u le p size =
     let long : length payload ≡ n = omega (arith, size) in
     let P : List ℕ → Type 0 = λ l. IsText l kind payload in
     subst P (sym whole) (IsText-from kind n (take used rest) took payload u le is (ap length (sym is) ∙ long))
-
--- none stands there where there are no bytes, where no length follows, or where the payload is cut
-pub none-of-nothing : (bytes : List ℕ) → bytes ≡ [] → NoWhole bytes
-none-of-nothing bytes e = let P : List ℕ → Type 0 = λ l. NoWhole l in subst P (sym e) NoWhole-nil
-
-pub none-without-length : (bytes rest : List ℕ) (kind : ℕ) → bytes ≡ kind ∷ rest → NoLength rest → NoWhole bytes
-none-without-length bytes rest kind e none = let P : List ℕ → Type 0 = λ l. NoWhole l in subst P (sym e) (NoWhole-length kind rest none)
 
 pub none-where-cut : (bytes rest : List ℕ) (kind used n : ℕ) → bytes ≡ kind ∷ rest → IsUleb (take used rest) n → used ≤ length rest → length rest < used + n
     → NoWhole bytes

@@ -53,7 +53,3 @@ pub refused-some : (given : Option (List ℕ)) (number : ℕ) (held holds : Opti
     → ((xs : List ℕ) → FailsLoad xs number → IsNotLoaded xs held holds result) → IfSome given (λ xs. IsNotLoaded xs held holds result)
 refused-some None number held holds result fails said = tt
 refused-some (Some xs) number held holds result fails said = said xs fails
-
--- what is known of an element that is there
-pub at_some : {A : Type 0} (P : A → Type 0) (o : Option A) (a : A) → o ≡ Some a → IfSome o P → P a
-at_some P o a is h = subst (λ p. IfSome p P) is h

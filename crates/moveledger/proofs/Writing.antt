@@ -1,5 +1,5 @@
 -- Lines that are written piece by piece.
-use Rattle.std.proofs.Common.{◌≡◌, ◌≢◌, ◌⊎◌, ◌<◌, ℕ, List, [], ◌∷◌, ◌++◌, length, drop, refl, sym, ap, ◌∙◌, subst, append-nil, append_assoc, Bool, true, false, codes, decimal, Option, flat_map}
+use Rattle.std.proofs.Common.{◌≡◌, ◌≢◌, ◌⊎◌, ◌<◌, ℕ, List, [], ◌∷◌, ◌++◌, length, drop, refl, sym, ap, ◌∙◌, subst, append_assoc, Bool, true, false, codes, decimal, Option, flat_map}
 use Rattle.std.proofs.Common.{arith, length-append, length-drop, inl, inr}
 use Rattle.std.specs.Prelude.{not}
 use Rattle.std.specs.Io.KnownBytes.{Appends}
@@ -8,7 +8,7 @@ use Rattle.std.proofs.lemmas.List.{flat_map_more}
 use Rattle.mv_machine.specs.Lines.{numbered}
 use Rattle.mv_lines.specs.LinesView.{ended}
 use Rattle.mv_lines.specs.Pieces.{TakesPiece, piece_text}
-use Rattle.moveledger.specs.Answered.{Writes, WritesPart, WritesWholeLines, number_at}
+use Rattle.moveledger.specs.Answered.{WritesPart, WritesWholeLines, number_at}
 use Rattle.moveledger.specs.Writing.{BreaksOff}
 use Rattle.moveledger.specs.declared.streaming.EngineError.{EngineError}
 use Rattle.moveledger.specs.declared.streaming.EngineError.TheVariants.{Read, Write, Memory}
@@ -75,10 +75,6 @@ HasWritten-next n begun last piece all old new a b c h takes w =
     let text : List ℕ = written_piece n begun last piece in
     let more : List ℕ = text_left n (not last) new in
     (h.0 ++ text, (h.1.0 ∙ ap (λ l. h.0 ++ l) (left-piece n begun last piece old new takes) ∙ sym (append_assoc h.0 text more), Appends-trans a b c h.0 text h.1.1 w))
-
-pub HasWritten-end : (n : ℕ) (begun : Bool) (all left : List (List ℕ)) (a b : Option (List ℕ)) → HasWritten n begun all left a b → left ≡ [] → Writes n all a b
-HasWritten-end n true all left a b h e = subst (Appends a b) (sym (h.1.0 ∙ ap (λ l. h.0 ++ text_left n true l) e ∙ append-nil h.0)) h.1.1
-HasWritten-end n false all left a b h e = subst (Appends a b) (sym (h.1.0 ∙ ap (λ l. h.0 ++ text_left n false l) e ∙ append-nil h.0)) h.1.1
 
 pub HasWritten-part : (n : ℕ) (begun : Bool) (all left : List (List ℕ)) (a b : Option (List ℕ)) → HasWritten n begun all left a b → WritesPart n all a b
 HasWritten-part n begun all left a b h = (h.0, starts_with_of_append (flat_map (numbered n) all) h.0 (text_left n begun left) h.1.0, h.1.1)

@@ -45,13 +45,6 @@ one_line Memory t is = cc
 lines_text : (n : ℕ) (reply : Reply) (t : Told) (text : List ℕ) → told reply ≡ Some t → text ≡ line_of t → numbered n text ≡ flat_map (numbered n) (reply_lines t)
 lines_text n reply t text is line = ap (numbered n) line ∙ sym (ap (flat_map (numbered n)) (one_line reply t is) ∙ append-nil (numbered n (line_of t)))
 
--- a line of what is told was written
-pub reply_is_written : (n : ℕ) (reply : Reply) (held holds : Option (List ℕ)) (text : List ℕ) → ((t : Told) × ((told reply ≡ Some t) × (text ≡ line_of t))) → Appends held holds (numbered n text)
-    → WritesReply n (told reply) held holds
-reply_is_written n reply held holds text h w =
-    let P : Option Told → Type 0 = λ o. WritesReply n o held holds in
-    subst P (sym h.1.0) (subst (Appends held holds) (lines_text n reply h.0 text h.1.0 h.1.1) w)
-
 -- a prefix of it was
 pub reply_is_begun : (n : ℕ) (reply : Reply) (held holds : Option (List ℕ)) (text part : List ℕ) → ((t : Told) × ((told reply ≡ Some t) × (text ≡ line_of t))) → StartsWith (numbered n text) part
     → Appends held holds part

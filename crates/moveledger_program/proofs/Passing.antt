@@ -30,10 +30,6 @@ whole-more whole text payload kind w is =
     (AreRecords-push w.0 (whole ++ (text ++ more)) (text ++ more) more r (w.1 (text ++ more)) (text, is, refl)) in
     (w.0 ++ r ∷ [], read)
 
--- nothing was read
-pub at-first : StandsAt (standing.Record 0) []
-at-first = ([], [], ([], λ more. refl), refl, inl (refl, refl))
-
 -- these bytes more
 more-bytes : (given whole part bytes : List ℕ) → given ≡ whole ++ part → given ++ bytes ≡ whole ++ (part ++ bytes)
 more-bytes given whole part bytes e = ap (λ z. z ++ bytes) e ∙ append_assoc whole part bytes

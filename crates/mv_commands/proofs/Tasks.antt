@@ -3,7 +3,7 @@ use Rattle.std.proofs.Common.{◌≡◌, ◌∙◌, List, [], Option, Some, None
 use Rattle.clap.specs.Words.{App, HasKind, IsAmong, Kinds, Row, Text, is_simple_and_free, kind_of}
 use Rattle.clap.specs.declared.error.Error.{Error}
 use Rattle.clap.specs.declared.error.kind.ErrorKind.TheVariants.{OutOfMemory}
-use Rattle.mv_commands.specs.Line.{Applies, Seen, moveledger, named_task, task_in}
+use Rattle.mv_commands.specs.Line.{Seen, moveledger, named_task, task_in}
 
 pub now_of : (o : Option (Bor Text)) (d : Bor Text) → (unwrap_or o d).now ≡ unwrap_or (option_map (λ s. s.now) o) d.now
 now_of None d = refl
@@ -23,11 +23,6 @@ task_of_named (Some p) name rows task n r t =
     let name_is : name ≡ p.0 = cc in
     let rows_are : rows ≡ p.1 = cc in
     t ∙ ap (λ (x : Text). named_task x rows) name_is ∙ ap (λ (x : List Row). named_task p.0 x) rows_are
-
--- where there is no subcommand no file is given
-pub task_of_none : (o : Option (Text × List Row)) → o ≡ None → Applies [] None None ≡ task_in o
-task_of_none None e = refl
-task_of_none (Some p) e = cc
 
 -- where memory didn't run out, the error has one of the kinds
 pub among : (kinds : Kinds) (e : Error) → HasKind kinds e → (kind_of e ≡ OutOfMemory → ⊥) → IsAmong (kind_of e) kinds

@@ -1,12 +1,11 @@
 -- A block of the ledger is begun, taken back and kept where blocks of its parts are.
 --   begun-holds, begun-is      a block is begun in each part
---   given_up-holds, given_up-is    it is begun in a part, and given up
 --   taken-back                 a block of each part is taken back
 --   kept-holds, kept-is        or kept
-use Rattle.mv_ledger.proofs.Common.{[], ◌++◌, ◌∙◌, ◌∷◌, ◌≡◌, List, ap, arith, length, refl, subst, sym, ℕ, FlatEntry, LedgerView, PublishedView, IsLedger, all_of, view_of}
+use Rattle.mv_ledger.proofs.Common.{[], ◌++◌, ◌∷◌, ◌≡◌, List, ap, arith, length, refl, subst, ℕ, FlatEntry, LedgerView, PublishedView, IsLedger, all_of, view_of}
 use Rattle.mv_ledger_state.specs.View.{HeldView, HeldModules, held_of, held_now}
 use Rattle.mv_ledger.specs.Marks.{AreLedgers, held_at, held_marks, marked}
-use Rattle.mv_ledger.proofs.Marks.{ends-same, held-begun, ledgers-begun, ledgers-back}
+use Rattle.mv_ledger.proofs.Marks.{held-begun, ledgers-begun, ledgers-back}
 
 -- what a ledger with these parts holds, now and at its marks
 abbrev pub whole : PublishedView → List FlatEntry → ℕ → List (List FlatEntry) → List ℕ → LedgerView
@@ -25,21 +24,6 @@ module _ (p q : PublishedView) (s t : List FlatEntry) (runs : ℕ) (ss ts : List
 
   pub begun-is : AreLedgers p.marks ss rs → whole q t runs ts us ≡ marked (whole p s runs ss rs) (held_marks p.marks ss rs ++ held_of (whole p s runs ss rs) ∷ [])
   begun-is a = rw (first, same, second, third) (ap (marked (view_of p.modules s (all_of p.tallies) runs)) (held-begun p.marks ss rs (held_now p) s runs a))
-
--- ---- a block is begun, and kept at once, since there is no memory for another part's
-
-module _ (p q r : PublishedView) (first : q ≡ record p { marks = p.marks ++ held_now p ∷ [] }) (modules : r.modules ≡ q.modules) (tallies : r.tallies ≡ q.tallies)
-    (closed : (h : HeldModules) × (q.marks ≡ r.marks ++ h ∷ [])) where
-  -- the marks are those of before
-  pub given_up-marks : r.marks ≡ p.marks
-  given_up-marks = (ends-same r.marks p.marks closed.0 (held_now p) (sym closed.1 ∙ ap (λ (v : PublishedView). v.marks) first)).0
-
-  module _ (s t : List FlatEntry) (runs : ℕ) (ss ts : List (List FlatEntry)) (rs us : List ℕ) (same : t ≡ s) (second : ts ≡ ss) (third : us ≡ rs) where
-    pub given_up-holds : Holds p s runs ss rs → Holds r t runs ts us
-    given_up-holds h = rw (modules, tallies, given_up-marks, first, same, second, third) h
-
-    pub given_up-is : whole r t runs ts us ≡ whole p s runs ss rs
-    given_up-is = rw (modules, tallies, given_up-marks, first, same, second, third) refl
 
 -- ---- a block is closed
 

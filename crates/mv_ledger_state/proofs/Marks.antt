@@ -5,7 +5,7 @@ use Rattle.std.proofs.lemmas.Bool.{true≢false}
 use Rattle.std.proofs.lemmas.List.{map-append}
 use Rattle.std.proofs.lemmas.Option.{slice_get-get_or}
 use Rattle.std.specs.Option.{option_or}
-use Rattle.std.specs.Prelude.{◌<◌, Err, None, Ok, OnOk, Option, Result, Some, false, get_or, slice_get, slice_set, true, unwrap_or}
+use Rattle.std.specs.Prelude.{◌<◌, Err, None, Ok, OnOk, Option, Result, Some, get_or, slice_get, slice_set, true, unwrap_or}
 use Rattle.std.specs.List.{AllByRecursion}
 use Rattle.std.specs.Vec.{vec_capacity, vec_len}
 use Rattle.std.specs.declared.alloc.Global.{Global}
@@ -122,14 +122,6 @@ each-back xs h all =
 pub none-held-at : (noted : List TallyBefore) (ms : List Mark) (modules : List PublishedModule) (tallies : List (List Tally)) → held_at noted ms modules tallies ≡ [] → ms ≡ []
 none-held-at noted [] modules tallies e = refl
 none-held-at noted (m ∷ ms) modules tallies e = absurd (let no : ⊥ = cc in no)
-
-pub not-open : (ms : List Mark) → is_open ms ≡ false → ms ≡ []
-not-open [] e = refl
-not-open (m ∷ ms) e = absurd (let no : ⊥ = cc in no)
-
-pub is-open : (ms : List Mark) (count : ℕ) → 0 ≡ length ms → is_open ms ≡ false
-is-open [] count e = refl
-is-open (m ∷ ms) count e = absurd (omega (arith, e))
 
 -- but the last
 pub but_last-append : {X : Type 0} (xs : List X) (x : X) → but_last (xs ++ x ∷ []) ≡ xs

@@ -4,7 +4,6 @@ use Rattle.mv_ledger_state.proofs.Common.{[], ◌++◌, ◌+◌, ◌∙◌, ◌�
 use Rattle.mv_ledger_state.proofs.Common.{All-append, All-nil, All, IsSome, filter_map, slice_get, unwrap_or, Module, name_at, StructName, PublishedModule, InBounds, StructTally, scarce_name, scarce_structs}
 use Rattle.mv_ledger_state.proofs.Common.{untouched_tally, Tallied, then_found, IsPublishable, IsStore, tables_in, All-at, nameless, fresh_tally, tally_after, struct_of, ArePlaced, AreScarce}
 use Rattle.mv_ledger_state.proofs.Common.{IsNamed, IsTalliedStore, all_of, scarce_indices, mapped-at, tallied, Tally}
-use Rattle.mv_linker.proofs.Joining.Empty.{no_modules}
 use Rattle.mv_ledger_state.proofs.Bundles.TalliesFresh.{struct_there, fresh-tallied, fresh-named, AreThere}
 use Rattle.mv_ledger_state.proofs.Loads.BodyTallies.{placed-kept}
 use Rattle.mv_ledger_state.proofs.Loads.LoadedTallies.{still-scarce}
@@ -125,7 +124,3 @@ module _ (modules : List PublishedModule) (tss : List (List Tally)) (held : IsTa
   -- their counts are read
   pub read-held : (uss : List (List Tally)) → map (map struct_of) uss ≡ map (map struct_of) tss → IsTalliedStore modules uss
   read-held uss kept = record { few = held.few; store = held.store; placed = placed-kept 0 uss tss kept held.placed; scarce = still-scarce (tables_in modules) tss uss kept held.scarce }
-
--- nothing published
-pub none-held : IsTalliedStore [] []
-none-held = record { few = omega arith; store = no_modules; placed = tt; scarce = tt }

@@ -1,9 +1,9 @@
 -- Counts with more values of structs: what is added to them one after the other.
-use Rattle.mv_ledger_state.proofs.Common.{[], ⊎_elim, ◌*◌, ◌++◌, ◌+◌, ◌-◌, ◌<◌, ◌^◌, ◌∙◌, ◌∷◌, ◌≡◌, ◌≤◌, Bool, List, None, Option, Some, ap, arith, cond, false, get_or, length, refl, subst, suc, sym}
+use Rattle.mv_ledger_state.proofs.Common.{[], ⊎_elim, ◌*◌, ◌++◌, ◌+◌, ◌-◌, ◌<◌, ◌^◌, ◌∙◌, ◌∷◌, ◌≡◌, ◌≤◌, Bool, List, Some, ap, arith, cond, false, get_or, length, refl, subst, suc, sym}
 use Rattle.mv_ledger_state.proofs.Common.{take, true, ℕ, cases_eq, get_or-set_other, get_or-set_same, length-set, take_all, take_more, same_Some, option_map_or, min, slice_set, Module, name_at}
-use Rattle.mv_ledger_state.proofs.Common.{StructName, same_struct, Definition, same_struct-is, same_struct-same, AreFieldsAt, IsMadeOf, Part, index_of, structs_in_part, structs_in_parts, structs_under}
+use Rattle.mv_ledger_state.proofs.Common.{StructName, same_struct, Definition, same_struct-is, same_struct-same, IsMadeOf, Part, index_of, structs_in_part, structs_in_parts, structs_under}
 use Rattle.mv_ledger_state.proofs.Common.{structs_within, Adds, HasRows, capped, count_at, row_at, with_count, IsOfStore}
-use Rattle.mv_ledger_state.proofs.Saves.LayoutParts.{structs-there, missing-name}
+use Rattle.mv_ledger_state.proofs.Saves.LayoutParts.{structs-there}
 
 -- ---- numbers up to a greatest one
 
@@ -58,14 +58,6 @@ module _ (rows : List (List ℕ)) (d : Definition) (n : ℕ) where
 -- ---- what is added
 
 module _ (ms : List Module) (n : ℕ) where
-  pub adds-none : (f : StructName → ℕ) (rows : List (List ℕ)) → ((s : StructName) → f s ≡ 0) → Adds ms n f rows rows
-  adds-none f rows none = record {
-    rows = λ has. has;
-    counts = λ has d name named. ap capped (nothing (count_at rows d) (f name) (none name));
-  }
-    where
-      nothing : (a k : ℕ) → k ≡ 0 → a ≡ a + n * k
-      nothing a k e = rw e (omega arith)
 
   pub adds-as : (f g : StructName → ℕ) (old new : List (List ℕ)) → ((s : StructName) → f s ≡ g s) → Adds ms n f old new → Adds ms n g old new
   adds-as f g old new same h = record {
@@ -125,15 +117,6 @@ module _ (ms : List Module) (n : ℕ) where
 -- ---- a struct and its parts
 
 module _ (ms : List Module) (n : ℕ) where
-  pub adds-no_depth : (depth : ℕ) (d : Definition) (rows : List (List ℕ)) → depth ≡ 0 → Adds ms n (λ s. structs_under depth ms s d) rows rows
-  adds-no_depth depth d rows e = adds-none ms n (λ s. structs_under depth ms s d) rows (λ s. ap (λ k. structs_under k ms s d) e ∙ by_name s (name_at ms d.place d.index))
-    where
-      by_name : (s : StructName) (o : Option StructName) → option_map_or (structs_within 0 ms s) o 0 ≡ 0
-      by_name s None = refl
-      by_name s (Some name) = refl
-
-  pub adds-no_struct : (depth : ℕ) (d : Definition) (rows : List (List ℕ)) → AreFieldsAt ms d None → Adds ms n (λ s. structs_under depth ms s d) rows rows
-  adds-no_struct depth d rows none = adds-none ms n (λ s. structs_under depth ms s d) rows (λ s. ap (λ o. option_map_or (structs_within depth ms s) o 0) (missing-name ms d none))
 
   pub adds-struct : IsOfStore ms → (depth : ℕ) (d : Definition) (parts : List Part) (old mid new : List (List ℕ)) → (depth ≡ 0 → ⊥) → IsMadeOf ms d parts → mid ≡ with_count old d n
       → Adds ms n (λ s. structs_in_parts (depth - 1) ms s parts) mid new → Adds ms n (λ s. structs_under depth ms s d) old new
@@ -154,9 +137,6 @@ module _ (ms : List Module) (n : ℕ) where
     append : (s : StructName) (xs : List Part) (x : Part) → structs_in_parts depth ms s (xs ++ x ∷ []) ≡ structs_in_parts depth ms s xs + structs_in_part depth ms s x
     append s [] x = omega arith
     append s (y ∷ xs) x = omega (arith, append s xs x)
-
-    pub adds-first : (rows : List (List ℕ)) → AddsFirst 0 rows rows
-    adds-first rows = adds-none ms n (λ s. structs_in_parts depth ms s (take 0 parts)) rows (λ s. refl)
 
     -- one part more
     pub adds-more : (i : ℕ) (d : Part) (old mid new : List (List ℕ)) → i < length parts → AddsFirst i old mid → Adds ms n (λ s. structs_in_part depth ms s (get_or parts i d)) mid new

@@ -1,24 +1,14 @@
 -- Reading what stands after the modules of a saved ledger: how far it has come.
-use Rattle.mv_ledger_state.proofs.Common.{[], ◌++◌, ◌+◌, ◌-◌, ◌<◌, ◌∙◌, ◌∷◌, ◌≡◌, ◌≤◌, Err, List, None, Ok, Option, Result, Some, ap, append-nil, append_assoc, arith, drop, false, get_or}
-use Rattle.mv_ledger_state.proofs.Common.{length, map, option_map, refl, suc, sym, take, true, ℕ, map-set_same, drop_all, drop_more, map-append, take_more_set, OnErr, slice_set, Module}
-use Rattle.mv_ledger_state.proofs.Common.{◌>>=◌, Definition, Key, LeafKind, number_from, after, Read, FlatStorage, FlatEntry, counts_of, entry_from}
+use Rattle.mv_ledger_state.proofs.Common.{[], ◌++◌, ◌+◌, ◌-◌, ◌<◌, ◌∙◌, ◌∷◌, ◌≡◌, List, None, Option, Some, ap, append_assoc, arith, drop, get_or}
+use Rattle.mv_ledger_state.proofs.Common.{length, map, option_map, refl, suc, sym, take, true, ℕ, map-set_same, drop_more, map-append, take_more_set, slice_set, Module}
+use Rattle.mv_ledger_state.proofs.Common.{◌>>=◌, Definition, Key, LeafKind, after, Read, FlatStorage, FlatEntry, counts_of, entry_from}
 use Rattle.mv_ledger_state.proofs.Common.{group_into, groups_into, is_after, leaves_from, rising_into, struct_of, with_entry, leaf_from, Tally}
-use Rattle.mv_module_text.proofs.Entries.{after-nil}
-
--- what holds anyway holds of an error
-pub OnErr-any : {T E : Type 0} (r : Result T E) (P : Type 0) → P → OnErr r P
-OnErr-any (Ok x) P h = tt
-OnErr-any (Err e) P h = h
 
 -- ---- leaves
 
 -- what was read of the first i leaves
 pub record LeavesOn (kinds : List LeafKind) (i : ℕ) (start : List ℕ) (words cur : List ℕ) : Type 0 where
   pub goes : leaves_from kinds start ≡ option_map (after words) (leaves_from (drop i kinds) cur)
-
--- none are read yet
-pub LeavesOn-start : (kinds : List LeafKind) (start : List ℕ) → LeavesOn kinds 0 start [] start
-LeavesOn-start kinds start = record { goes = after-nil (leaves_from kinds start) }
 
 after-one : (words : List ℕ) (n : ℕ) (o : Read (List ℕ)) → option_map (after words) (o >>= λ xs. Some (n ∷ xs.0, xs.1)) ≡ option_map (after (words ++ n ∷ [])) o
 after-one words n None = refl
@@ -30,17 +20,6 @@ pub LeavesOn-next : (kinds : List LeafKind) (i : ℕ) (start words cur next : Li
 LeavesOn-next kinds i start words cur next k n lt is e g =
     let own : leaf_from (get_or kinds i k) cur ≡ Some (n, next) = ap (λ z. leaf_from z cur) (sym is) ∙ e in
     record { goes = g.goes ∙ rw (drop_more kinds i k lt, own) (after-one words n (leaves_from (drop (i + 1) kinds) next)) }
-
--- the next can't be read
-pub LeavesOn-stops : (kinds : List LeafKind) (i : ℕ) (start words cur : List ℕ) (k : LeafKind) → i < length kinds → k ≡ get_or kinds i k
-    → leaf_from k cur ≡ None → LeavesOn kinds i start words cur → leaves_from kinds start ≡ None
-LeavesOn-stops kinds i start words cur k lt is e g =
-    let own : leaf_from (get_or kinds i k) cur ≡ None = ap (λ z. leaf_from z cur) (sym is) ∙ e in
-    g.goes ∙ rw (drop_more kinds i k lt, own) refl
-
--- all are read
-pub LeavesOn-end : (kinds : List LeafKind) (i : ℕ) (start words cur : List ℕ) → length kinds ≤ i → LeavesOn kinds i start words cur → leaves_from kinds start ≡ Some (words, cur)
-LeavesOn-end kinds i start words cur le g = g.goes ∙ rw (drop_all i kinds le) (ap (λ z. Some (z, cur)) (append-nil words))
 
 -- ---- tallies
 
@@ -68,29 +47,6 @@ pub RisingOn-next : (each : List ℕ → Read FlatEntry) (n i : ℕ) (before : F
     → i < n → each cur ≡ Some (e, next) → is_after last e.key ≡ true → RisingOn each n i before start last storage cur → RisingOn each n (i + 1) before start (Some e.key) (with_entry storage e) next
 RisingOn-next each n i before start last storage cur next e lt e_is rises g = let k : n - i ≡ suc (n - (i + 1)) = omega arith in record { goes = g.goes ∙ rw (k, e_is, rises) refl }
 
--- the values after their number
-group-at : (each : List ℕ → Read FlatEntry) (n : ℕ) (before : FlatStorage) (bytes start : List ℕ) → number_from 18446744073709551615 bytes ≡ Some (n, start)
-    → group_into each before bytes ≡ rising_into each n None before start
-group-at each n before bytes start e = ap (λ r. r >>= λ n. rising_into each n.0 None before n.1) e
-
--- the next can't be read
-pub RisingOn-stops : (each : List ℕ → Read FlatEntry) (n i : ℕ) (before : FlatStorage) (bytes start : List ℕ) (last : Option Key) (storage : FlatStorage) (cur : List ℕ)
-    → number_from 18446744073709551615 bytes ≡ Some (n, start) → i < n → each cur ≡ None → RisingOn each n i before start last storage cur → group_into each before bytes ≡ None
-RisingOn-stops each n i before bytes start last storage cur number lt none g =
-    let k : n - i ≡ suc (n - (i + 1)) = omega arith in group-at each n before bytes start number ∙ g.goes ∙ rw (k, none) refl
-
--- the next has a key that isn't above the last
-pub RisingOn-falls : (each : List ℕ → Read FlatEntry) (n i : ℕ) (before : FlatStorage) (bytes start : List ℕ) (last : Option Key) (storage : FlatStorage) (cur next : List ℕ) (e : FlatEntry)
-    → number_from 18446744073709551615 bytes ≡ Some (n, start) → i < n → each cur ≡ Some (e, next) → is_after last e.key ≡ false → RisingOn each n i before start last storage cur
-    → group_into each before bytes ≡ None
-RisingOn-falls each n i before bytes start last storage cur next e number lt e_is falls g =
-    let k : n - i ≡ suc (n - (i + 1)) = omega arith in group-at each n before bytes start number ∙ g.goes ∙ rw (k, e_is, falls) refl
-
--- all are put
-pub RisingOn-end : (each : List ℕ → Read FlatEntry) (n i : ℕ) (before : FlatStorage) (bytes start : List ℕ) (last : Option Key) (storage : FlatStorage) (cur : List ℕ)
-    → number_from 18446744073709551615 bytes ≡ Some (n, start) → n ≤ i → RisingOn each n i before start last storage cur → group_into each before bytes ≡ Some (storage, cur)
-RisingOn-end each n i before bytes start last storage cur number le g = let k : n - i ≡ 0 = omega arith in group-at each n before bytes start number ∙ g.goes ∙ rw k refl
-
 -- what was put into a storage of the first i structs' values
 pub record GroupsOn (modules : List Module) (ds : List Definition) (i : ℕ) (before : FlatStorage) (start : List ℕ) (storage : FlatStorage) (cur : List ℕ) : Type 0 where
   pub goes : groups_into modules ds before start ≡ groups_into modules (drop i ds) storage cur
@@ -102,15 +58,3 @@ pub GroupsOn-next : (modules : List Module) (ds : List Definition) (i : ℕ) (be
 GroupsOn-next modules ds i before start storage more cur next d lt is e g =
     let own : group_into (entry_from modules (Some (get_or ds i d))) storage cur ≡ Some (more, next) = ap (λ z. group_into (entry_from modules (Some z)) storage cur) (sym is) ∙ e in
     record { goes = g.goes ∙ rw (drop_more ds i d lt, own) refl }
-
--- those of the next can't be read
-pub GroupsOn-stops : (modules : List Module) (ds : List Definition) (i : ℕ) (before : FlatStorage) (start : List ℕ) (storage : FlatStorage) (cur : List ℕ) (d : Definition) → i < length ds
-    → d ≡ get_or ds i d → group_into (entry_from modules (Some d)) storage cur ≡ None → GroupsOn modules ds i before start storage cur → groups_into modules ds before start ≡ None
-GroupsOn-stops modules ds i before start storage cur d lt is e g =
-    let own : group_into (entry_from modules (Some (get_or ds i d))) storage cur ≡ None = ap (λ z. group_into (entry_from modules (Some z)) storage cur) (sym is) ∙ e in
-    g.goes ∙ rw (drop_more ds i d lt, own) refl
-
--- those of all are put
-pub GroupsOn-end : (modules : List Module) (ds : List Definition) (i : ℕ) (before : FlatStorage) (start : List ℕ) (storage : FlatStorage) (cur : List ℕ) → length ds ≤ i
-    → GroupsOn modules ds i before start storage cur → groups_into modules ds before start ≡ Some (storage, cur)
-GroupsOn-end modules ds i before start storage cur le g = g.goes ∙ ap (λ z. groups_into modules z storage cur) (drop_all i ds le)

@@ -1,12 +1,12 @@
 -- The text of what is stored is read as its words, and what is read is such a text.
-use Rattle.mv_ledger_state.proofs.Common.{[], ◌++◌, ◌<◌, ◌^◌, ◌∙◌, ◌∷◌, ◌≡◌, ◌≤◌, ◌⊎◌, Bool, IsTrue, List, None, Option, Some, ap, ap₂, arith, cond, flat_map, inl, inr, length, lt-ltb, map, refl, subst}
+use Rattle.mv_ledger_state.proofs.Common.{[], ◌++◌, ◌<◌, ◌^◌, ◌∙◌, ◌∷◌, ◌≡◌, ◌≤◌, ◌⊎◌, IsTrue, List, None, Some, ap, ap₂, arith, flat_map, inl, inr, length, lt-ltb, map, refl, subst}
 use Rattle.mv_ledger_state.proofs.Common.{suc, sym, true, zero, ℕ, and_from, length-map, All-head, All-tail, slice_get_within, first_so, second_so, AllByRecursion, filter, list_all, All, nat_le}
 use Rattle.mv_ledger_state.proofs.Common.{slice_get, leaves_within, Module, name_at, name_of_struct, StructName, ◌>>=◌, PublishedModule, Definition, Key, uleb, few_structs, HasText, Front, on_bind}
 use Rattle.mv_ledger_state.proofs.Common.{counted, is_index, AreBytes, same_key-to, entries_from_words, with_words, words_under, Ascends, FlatEntry, flat_storage, Storage, same_key, is_fine_entry}
 use Rattle.mv_ledger_state.proofs.Common.{is_fine_storage, all_at, IsPublishable, IsStore, tables_in, struct_is_small, on_found, IsAscending, is_keyed, storage_into, with_entry, First, Form, Second}
 use Rattle.mv_ledger_state.proofs.Common.{addressed_text, is_under, keyed_from, storage_text, stored_text, struct_text}
 use Rattle.mv_linker.proofs.Joining.Scopes.{within_tables}
-use Rattle.mv_ledger_state.proofs.Loads.BodyLookups.{or_else, words-append, puts, words-puts, Ascends-puts, puts-ascending, is_of, under, is_key_of, words-under, under-puts}
+use Rattle.mv_ledger_state.proofs.Loads.BodyLookups.{words-append, puts, words-puts, Ascends-puts, puts-ascending, is_of, under, is_key_of, words-under, under-puts}
 use Rattle.mv_ledger_state.proofs.Loads.BodyEntries.{entry_text, IsEntry}
 use Rattle.mv_ledger_state.proofs.Loads.BodyGroups.{rises-ascends, ascends-rises, group-parts, group-whole, Among, group_text, groups-parts, groups-whole, is-own, own-is, own-entry}
 use Rattle.mv_ledger_state.proofs.Loads.BodyKeyed.{keyed-distinct, keyed-among}
@@ -135,10 +135,6 @@ written published store few k name named =
     let index : k.index < length m.structs = slice_get_within m.structs k.index d d_is in
     let most : length m.structs ≤ 65536 = few_structs m (text-at published k.place m store.passed m_is) in
     record { place = lt-ltb k.place (2 ^ 16) (omega arith); index = lt-ltb k.index (2 ^ 16) (omega arith) }))
-
--- the first of two, where the second is what the first may be
-or-same : (b : Bool) (o : Option (List ℕ)) → or_else (cond b o None) o ≡ o
-or-same b o = grind arith
 
 -- what stands under a key among what is stored of structs
 lookup-groups : (es : List FlatEntry) (q : Key) (ds : List Definition) → (words_under es q ≡ None) ⊎ Among (struct_under q) ds → words_under (flat_map (λ d. under d es) ds) q ≡ words_under es q

@@ -1,6 +1,6 @@
 -- Reading the tallies of all modules: how far it has come, and what stays.
-use Rattle.mv_ledger_state.proofs.Common.{[], ◌++◌, ◌+◌, ◌<◌, ◌∙◌, ◌∷◌, ◌≡◌, ◌≤◌, List, None, Some, ap, append-nil, append_assoc, arith, drop, get_or, length, length-append, map, option_map, refl, subst, lists_of}
-use Rattle.mv_ledger_state.proofs.Common.{suc, sym, take, zero, zero-add, ℕ, map-set_same, drop-set-lt, drop_all, drop_more, get_or-map, length-map, map-append, map-set, take_all, take_more_set}
+use Rattle.mv_ledger_state.proofs.Common.{[], ◌++◌, ◌+◌, ◌<◌, ◌∙◌, ◌∷◌, ◌≡◌, List, None, Some, ap, append-nil, append_assoc, arith, drop, get_or, length, length-append, map, option_map, refl, subst, lists_of}
+use Rattle.mv_ledger_state.proofs.Common.{suc, sym, take, zero, zero-add, ℕ, map-set_same, drop-set-lt, drop_more, get_or-map, length-map, map-append, map-set, take_more_set}
 use Rattle.mv_ledger_state.proofs.Common.{with_items_is, All-cons, All-head, All-nil, All-tail, All, slice_set, with_items, Global, Vec, ◌>>=◌, Definition, after, Read, entries_from, counts_of}
 use Rattle.mv_ledger_state.proofs.Common.{struct_of, ArePlaced, all_of, Tally}
 use Rattle.mv_module_text.proofs.Entries.{after-nil}
@@ -79,23 +79,6 @@ TalliesOn-next each n i start tss cur next d ts lt e g =
           ∙ ap (λ z. option_map (after (map counts_of (all_of (take (i + 1) (slice_set tss i ts))))) (entries_from each (length (all_of z)) next)) (sym back);
     }
 
--- those of the next module can't be read
-pub TalliesOn-stops : (each : List ℕ → Read (ℕ × ℕ)) (n i : ℕ) (start : List ℕ) (tss : List (List Tally)) (cur : List ℕ) (d : List Tally) → i < length tss
-    → entries_from each (length (get_or tss i d)) cur ≡ None → TalliesOn each n i start tss cur → entries_from each n start ≡ None
-TalliesOn-stops each n i start tss cur d lt e g =
-    let done : List (ℕ × ℕ) = map counts_of (all_of (take i tss)) in
-    let left : ℕ = length (all_of (drop (i + 1) tss)) in
-    g.goes ∙ ap (option_map (after done)) (left-is each i tss cur d lt ∙ ap (with_more each left) e)
-
--- all are read
-pub TalliesOn-end : (each : List ℕ → Read (ℕ × ℕ)) (n i : ℕ) (start : List ℕ) (tss : List (List Tally)) (cur : List ℕ) → length tss ≤ i
-    → TalliesOn each n i start tss cur → entries_from each n start ≡ Some (map counts_of (all_of tss), cur)
-TalliesOn-end each n i start tss cur le g =
-    g.goes
-    ∙ ap (λ z. option_map (after (map counts_of (all_of z))) (entries_from each (length (all_of (drop i tss))) cur)) (take_all i tss le)
-    ∙ ap (λ z. option_map (after (map counts_of (all_of tss))) (entries_from each (length (all_of z)) cur)) (drop_all i tss le)
-    ∙ ap (λ z. Some (z, cur)) (append-nil (map counts_of (all_of tss)))
-
 -- ---- what stays
 
 -- which struct each tally is of
@@ -150,10 +133,6 @@ module _ (vs : List (Vec Tally Global)) (i : ℕ) (v : Vec Tally Global) (before
   reads-next each n start cur next e g =
       subst (λ z. TalliesOn each n (i + 1) start z next) (sym lists-set)
       (TalliesOn-next each n i start (lists_of vs) cur next [] ts short-lists (ap (λ z. entries_from each (length z) cur) here-is ∙ e) g)
-
-  pub reads-stop : (each : List ℕ → Read (ℕ × ℕ)) (n : ℕ) (start cur : List ℕ) → entries_from each (length before) cur ≡ None → TalliesOn each n i start (lists_of vs) cur
-      → entries_from each n start ≡ None
-  reads-stop each n start cur e g = TalliesOn-stops each n i start (lists_of vs) cur [] short-lists (ap (λ z. entries_from each (length z) cur) here-is ∙ e) g
 
 -- whatever counts were read, they stand with their modules
 pub whole-placed : (own : Vec (Vec Tally Global) Global) (vs : List (Vec Tally Global)) (start : List (List Tally)) → length vs ≡ own.len → structs_in (lists_of vs) ≡ structs_in start → ArePlaced 0 start

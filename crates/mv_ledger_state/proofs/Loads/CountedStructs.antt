@@ -1,7 +1,7 @@
 -- The values that are stored, counted one after the other under their structs, and then struct by struct at any depth.
 use Rattle.mv_ledger_state.proofs.Common.{[], ◌*◌, ◌++◌, ◌+◌, ◌<◌, ◌^◌, ◌∙◌, ◌∷◌, ◌≡◌, ◌≤◌, Bool, List, None, Option, Some, ap, ap₂, arith, false, get_or, length, map, refl, subst, suc, sym, take, true}
-use Rattle.mv_ledger_state.proofs.Common.{zero, ℕ, get_or-map, get_or-replicate, length-map, length-replicate, map-append, map-set, take_all, take_more, slice_get_within, option_map_or, All, replicate}
-use Rattle.mv_ledger_state.proofs.Common.{slice_get, slice_set, Global, Vec, Module, name_at, name_of_struct, StructName, PublishedModule, Definition, on_bind, count, FlatEntry, storage_of, IsStore}
+use Rattle.mv_ledger_state.proofs.Common.{zero, ℕ, get_or-map, length-map, map-append, map-set, take_all, take_more, option_map_or, All, replicate}
+use Rattle.mv_ledger_state.proofs.Common.{slice_set, Global, Vec, Module, name_at, StructName, PublishedModule, Definition, count, FlatEntry, storage_of, IsStore}
 use Rattle.mv_ledger_state.proofs.Common.{tables_in, fine_words-typed, typed_is_fine, IsFineWords, structs_under, structs_within, structs_in, Adds, AreAll, AreStored, HasRows, capped, count_at}
 use Rattle.mv_ledger_state.proofs.Common.{no_counts, row_at, with_count, IsOfStore, keyed_from}
 use Rattle.std.proofs.lemmas.List.{set_past}
@@ -48,30 +48,6 @@ rows-past vs place row le = sym (set_past (rows_in vs) place row (omega (arith, 
 -- ---- nothing is counted
 
 module _ (ms : List Module) where
-  -- where a struct with a name stands
-  record Stands (d : Definition) : Type 0 where
-    pub place : d.place < length ms
-    pub index : d.index < structs_in ms d.place
-
-  stands : (d : Definition) (name : StructName) → name_at ms d.place d.index ≡ Some name → Stands d
-  stands d name named =
-      on_bind (slice_get ms d.place) _ name named (λ m m_is e1.
-      on_bind (slice_get m.structs d.index) (name_of_struct m) name e1 (λ x x_is e2.
-      let low : d.index < length m.structs = slice_get_within m.structs d.index x x_is in
-      let same : structs_in ms d.place ≡ length m.structs = ap (λ o. option_map_or (λ m. length m.structs) o 0) m_is in
-      record { place = slice_get_within ms d.place m m_is; index = omega (arith, low, same) }))
-
-  row-at : (d : Definition) (name : StructName) → name_at ms d.place d.index ≡ Some name → row_at (no_counts ms) d.place ≡ replicate (structs_in ms d.place) 0
-  row-at d name named = row-is ms d.place (stands d name named).place
-
-  none-rows : HasRows ms (no_counts ms)
-  none-rows d name named =
-      let s = stands d name named in
-      let long : length (row_at (no_counts ms) d.place) ≡ structs_in ms d.place = ap length (row-at d name named) ∙ length-replicate {A = ℕ} (structs_in ms d.place) 0 in
-      (omega (arith, s.place, length-map ms (λ m. replicate {A = ℕ} (length m.structs) 0)), omega (arith, s.index, long))
-
-  none-counts : (d : Definition) (name : StructName) → name_at ms d.place d.index ≡ Some name → count_at (no_counts ms) d ≡ 0
-  none-counts d name named = ap (λ row. get_or row d.index 0) (row-at d name named) ∙ get_or-replicate (structs_in ms d.place) d.index 0 0 (stands d name named).index
 
   -- ---- value by value
 
@@ -79,22 +55,6 @@ module _ (ms : List Module) where
   pub record IsCounting (storage left : List FlatEntry) (rows : List (List ℕ)) : Type 0 where
     pub has : HasRows ms rows
     pub counts : (d : Definition) (name : StructName) → name_at ms d.place d.index ≡ Some name → count_at rows d + stored_of left d ≡ stored_of storage d
-
-  pub count-start : (storage left : List FlatEntry) (rows : List (List ℕ)) → left ≡ storage → rows ≡ no_counts ms → IsCounting storage left rows
-  count-start storage left rows all none = subst (IsCounting storage left) (sym none) (record {
-    has = none-rows;
-    counts = λ d name named.
-        let same : stored_of left d ≡ stored_of storage d = ap (λ es. stored_of es d) all in
-        omega (arith, same, none-counts d name named);
-  })
-
-  pub count-all : (storage left : List FlatEntry) (rows : List (List ℕ)) → left ≡ [] → IsCounting storage left rows → AreStored ms storage rows
-  count-all storage left rows none h = record {
-    has = h.has;
-    counts = λ d name named.
-        let over : stored_of left d ≡ 0 = ap (λ es. stored_of es d) none in
-        omega (arith, over, h.counts d name named);
-  }
 
   below-cap : (n : ℕ) → n < 2 ^ 63 → capped n ≡ n
   below-cap n lt = omega arith
@@ -135,9 +95,6 @@ module _ (ms : List Module) where
   pub record IsAdding (es : List FlatEntry) (ds : List Definition) (rows : List (List ℕ)) : Type 0 where
     pub has : HasRows ms rows
     pub counts : (d : Definition) (name : StructName) → name_at ms d.place d.index ≡ Some name → capped (count_at rows d) ≡ capped (by_structs (structs_under 8 ms name) es ds)
-
-  pub add-start : (es : List FlatEntry) (ds : List Definition) (rows : List (List ℕ)) → rows ≡ no_counts ms → IsAdding es (take 0 ds) rows
-  add-start es ds rows none = subst (IsAdding es []) (sym none) (record { has = none-rows; counts = λ d name named. ap capped (none-counts d name named) })
 
   -- as many as are stored, of a struct that is there
   same-many : (es : List FlatEntry) (stored : List (List ℕ)) (d : Definition) (n : ℕ) (name : StructName) → AreStored ms es stored → n ≡ count_at stored d

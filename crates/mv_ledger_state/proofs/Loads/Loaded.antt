@@ -1,9 +1,9 @@
 -- From its parts, which ledger bytes are loaded as, and why they are not.
-use Rattle.mv_ledger_state.proofs.Common.{[], ◌*◌, ◌++◌, ◌+◌, ◌<◌, ◌^◌, ◌∙◌, ◌∷◌, ◌≡◌, ◌≤◌, ◌⊎◌, IsTrue, List, Some, ap, ap₂, arith, flat_map, inl, inr, length, map, refl, subst, sym, ℕ, length-map}
-use Rattle.mv_ledger_state.proofs.Common.{All-cons, All-nil, same_Some, first_so, second_so, list_all, All, Module, PublishedModule, Refusal, NoMemory, Phase, AreBytes, FlatStorage, count, flat}
+use Rattle.mv_ledger_state.proofs.Common.{[], ◌*◌, ◌++◌, ◌+◌, ◌<◌, ◌^◌, ◌∙◌, ◌∷◌, ◌≡◌, ◌≤◌, IsTrue, List, Some, ap, ap₂, arith, flat_map, length, map, refl, subst, sym, ℕ, length-map}
+use Rattle.mv_ledger_state.proofs.Common.{All-cons, All-nil, same_Some, first_so, second_so, list_all, All, Module, PublishedModule, AreBytes, FlatStorage, count, flat}
 use Rattle.mv_ledger_state.proofs.Common.{flat_storage, storage_of, LedgerState, Offer, scarce_structs, Tallied, Storage, is_fine_entry, is_fine_storage, IsStore, tables_in, fine_storage, IsFineWords}
 use Rattle.mv_ledger_state.proofs.Common.{StoreAccepted, StorageTyped, IsSoundLedger, IsAscending, FailsLoad, HasHead, IsLoadRefusal, IsLoaded, no_body, no_links, no_module, no_tallies, counts_of}
-use Rattle.mv_ledger_state.proofs.Common.{struct_of, AreCounted, AreNotJoined, EachBodyIsRead, EachReadIsBody, IsBody, IsNoBody, SavedHead, body_from, counted_by, head_from, reason_of}
+use Rattle.mv_ledger_state.proofs.Common.{struct_of, AreCounted, AreNotJoined, EachBodyIsRead, EachReadIsBody, IsBody, IsNoBody, SavedHead, body_from, counted_by, head_from}
 use Rattle.mv_ledger_state.proofs.Common.{AllPass, offered, offer_fits, HeadFits, IsSavedText, body_text, head_text, storage_text, tally_text, AreLinked, IsLedger, IsSmall, IsTalliedStore, all_of, state_of, tallied, view_of, Link}
 use Rattle.mv_ledger_state.proofs.Common.{BadModule, Tally}
 use Rattle.mv_soundness.proofs.Words.Decoding.{storage_decoded}
@@ -20,7 +20,6 @@ use Rattle.mv_ledger_state.proofs.Loads.LoadedTallies.{counts-are, still-many}
 use Rattle.mv_ledger_state.proofs.Spelling.{passed-spelled}
 use Rattle.mv_ledger_state.proofs.TalliedStores.{read-held, tallied-structs}
 use Rattle.mv_ledger_state.proofs.Lists.{all-weaker}
-use Rattle.mv_ledger_state.proofs.Phases.{phase-no-memory}
 
 -- ---- lists
 
@@ -50,13 +49,6 @@ module _ (modules : List Module) (runs : ℕ) (storage : Storage) where
       All-cons (IsSmall runs) t ts (omega (arith, packs), omega (arith, packs, unpacks)) (small-counts ts counted.1)
 
 -- ---- a part that is refused
-
--- a part is refused for what the bytes have there, or for want of memory
-pub refused-as : (bytes : List ℕ) (reason : LoadError) (e : Refusal) (r : LoadError) → r ≡ reason_of reason e → (e ≡ Phase 2) ⊎ (e ≡ NoMemory) → (e ≡ Phase 2 → IsLoadRefusal bytes reason)
-    → IsLoadRefusal bytes r
-refused-as bytes reason NoMemory r is errors fails = subst (IsLoadRefusal bytes) (sym is) tt
-refused-as bytes reason (Phase p) r is (inl two) fails = subst (IsLoadRefusal bytes) (sym is) (fails two)
-refused-as bytes reason (Phase p) r is (inr memory) fails = absurd (phase-no-memory (Phase p) p refl memory)
 
 -- a part is not read for what the bytes have there, or for want of memory
 pub unread-as : (bytes : List ℕ) (form : Form) (modules : List Module) (count : ℕ) (rest : List ℕ) (e : Unread) (r : LoadError) → r ≡ unread_as Body e → IsUnreadBody form modules count rest e

@@ -1,5 +1,5 @@
 -- Offered modules that are published one by one: that they pass, and that the published ones are those.
-use Rattle.mv_ledger_state.proofs.Common.{[], ◌++◌, ◌+◌, ◌<◌, ◌∙◌, ◌∷◌, ◌≡◌, ◌≤◌, ◌⊎◌, Bool, List, Option, Some, None, true, ap, ap₂, arith, get_or, inl, inr, length, refl, subst, sym, take, ℕ, map_more, take_all, take_more}
+use Rattle.mv_ledger_state.proofs.Common.{[], ◌++◌, ◌+◌, ◌<◌, ◌∙◌, ◌∷◌, ◌≡◌, ◌≤◌, ◌⊎◌, Bool, List, Option, Some, None, true, ap, ap₂, arith, get_or, inl, inr, length, refl, subst, sym, take, ℕ, map_more, take_more}
 use Rattle.mv_ledger_state.proofs.Common.{IfSome, slice_get, All-at, bytes_eq, PublishedModule, Offer, AreBytes, IsReadByText, IsPublishable, IsStore, offer_of, offers_of, offered, AllPass}
 use Rattle.mv_ledger_state.proofs.Common.{IsOffered, IsPassed, Passes, IsRefusedAmong, IsRefusedOffer, Refusal, Offered}
 use Rattle.std.proofs.lemmas.Option.{slice_get_cases}
@@ -68,10 +68,3 @@ offered-more offers store i d had lt within is = by_place (slice_get_cases store
         → AllPass (offers_of (take (i + 1) offers)) (take (i + 1) store)
     by_place (inl found) = step found.0 found.2 found.3
     by_place (inr past) = absurd (omega (arith, past.0, within))
-
--- all of them
-pub offered-all : (offers : List Offered) (store : List PublishedModule) (i : ℕ) → AllPass (offers_of (take i offers)) (take i store) → length store ≡ length offers → length offers ≤ i
-    → AllPass (offers_of offers) store
-offered-all offers store i all many past =
-    subst (λ (xs : List Offered). AllPass (offers_of xs) store) (take_all i offers past)
-    (subst (AllPass (offers_of (take i offers))) (take_all i store (omega (arith, many, past))) all)

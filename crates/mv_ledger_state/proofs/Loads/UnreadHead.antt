@@ -109,17 +109,9 @@ module _ (bytes marked : List ℕ) (e : Unread) (marks_are : marks_from bytes �
       by Malformed none = λ more. ap (λ o. o >>= formed_from) (marks-follow bytes marked more marks_are) ∙ none more
       by Memory none = tt
 
-  -- the form isn't
-  pub form-unread : IsUnread form_from marked e → IsUnread head_from bytes e
-  form-unread none = formed-unread (unread-first form_from (λ form. runs_from form.0 form.1) marked e none)
-
   module _ (form : Form) (formed : List ℕ) (form_is : form_from marked ≡ Some (form, formed)) where
     after-form : IsUnread (runs_from form) formed e → IsUnread head_from bytes e
     after-form none = formed-unread (unread-next form_from (λ form. runs_from form.0 form.1) marked formed form e form-extends form_is none)
-
-    -- the number of runs isn't
-    pub runs-unread : IsUnread (number_from 4294967296) formed e → IsUnread head_from bytes e
-    runs-unread none = after-form (unread-first (number_from 4294967296) (λ runs. offered_from form runs.0 runs.1) formed e none)
 
     -- the modules aren't
     pub modules-unread : (runs : ℕ) (counted : List ℕ) → number_from 4294967296 formed ≡ Some (runs, counted) → IsUnread (counted_from 4096 offer_from) counted e → IsUnread head_from bytes e

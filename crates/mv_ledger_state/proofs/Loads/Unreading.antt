@@ -1,12 +1,12 @@
 -- What is not read at the front of bytes, nor at that of longer ones where they are malformed: from the parts to the whole.
-use Rattle.mv_ledger_state.proofs.Common.{[], ◌++◌, ◌+◌, ◌*◌, ◌-◌, ◌/◌, ◌<◌, ◌∙◌, ◌∷◌, ◌≡◌, ◌≤◌, List, None, Option, Some, ap, append-nil, arith, drop, eq-eqb, false, get_or, inl, inr, le-leb}
-use Rattle.mv_ledger_state.proofs.Common.{length, lt-ltb, map, option_map, refl, subst, suc, sym, true, ℕ, cases_eq, drop-set-lt, drop_more, none-some, some_pair_parts, then_some, nat_le, option_and_then, slice_set, Module}
+use Rattle.mv_ledger_state.proofs.Common.{[], ◌++◌, ◌+◌, ◌*◌, ◌-◌, ◌/◌, ◌<◌, ◌∙◌, ◌∷◌, ◌≡◌, ◌≤◌, List, None, Option, Some, ap, append-nil, arith, drop, eq-eqb, false, get_or}
+use Rattle.mv_ledger_state.proofs.Common.{length, map, option_map, refl, subst, suc, sym, true, ℕ, drop-set-lt, drop_more, none-some, some_pair_parts, then_some, nat_le, option_and_then, slice_set, Module}
 use Rattle.mv_ledger_state.proofs.Common.{◌>>=◌, Definition, FlatEntry, FlatStorage, Key, LeafKind, number_from, after, Read, byte_from, entries_from, entry_from, group_into, groups_into, is_after}
 use Rattle.mv_ledger_state.proofs.Common.{leaf_from, leaves_from, rising_into, with_entry, Form, body_from, IsNoBody, Tally, all_of, lists_of, struct_of, with_items, Global, Vec, address_from, count_from, tally_from}
 use Rattle.mv_ledger_state.specs.Layouts.{kinds_under}
 use Rattle.mv_ledger_state.specs.Parts.BodyParts.{storage_into, struct_from}
 use Rattle.std.proofs.Common.{ne_eqb}
-use Rattle.std.proofs.lemmas.Bool.{cases_lt, lt-leb}
+use Rattle.std.proofs.lemmas.Bool.{lt-leb}
 use Rattle.mv_uleb.specs.Parsing.{spelled, with_low}
 use Rattle.mv_uleb.proofs.Spelled.{spelled-further}
 use Rattle.mv_ledger_state.specs.Unread.{IsUnread, IsUnreadBody}
@@ -203,32 +203,6 @@ number-behind : (most b : ℕ) (bs : List ℕ) → 128 ≤ b → number_from mos
 unfolding behind
 number-behind most b bs ge = ap (option_and_then (λ r. then_some (nat_le r.0 most) r)) (spelled-further b bs ge)
 
--- a last byte
-pub number-last : (most b : ℕ) (bs : List ℕ) → b < 128 → b ≤ most → number_from most (b ∷ bs) ≡ Some (b, bs)
-number-last most b bs lt le = rw (lt-ltb b 128 lt, le-leb b most le) refl
-
-pub number-last-above : (most b : ℕ) (bs : List ℕ) → b < 128 → most < b → number_from most (b ∷ bs) ≡ None
-number-last-above most b bs lt above = rw (lt-ltb b 128 lt, lt-leb b most above) refl
-
--- a further byte before nothing that is read
-pub number-behind-none : (most b : ℕ) (bs : List ℕ) → 128 ≤ b → number_from (most / 128) bs ≡ None → number_from most (b ∷ bs) ≡ None
-unfolding behind
-number-behind-none most b bs ge is = number-behind most b bs ge ∙ by (spelled bs) is
-  where
-    by : (r : Option (ℕ × List ℕ)) → option_and_then (λ r. then_some (nat_le r.0 (most / 128)) r) r ≡ None → behind most b r ≡ None
-    by None is = refl
-    by (Some r) is =
-        elim (cases_eq r.0 0) [
-          | inl z ↦ rw (eq-eqb r.0 0 z) refl
-          | inr ne ↦
-              elim (cases_lt (most / 128) r.0) [
-                | inr le ↦ absurd (none-some r (sym is ∙ rw (le-leb r.0 (most / 128) le) refl))
-                | inl above ↦
-                    let much : most < b - 128 + 128 * r.0 = omega arith in
-                    rw (ne_eqb r.0 0 ne, lt-leb (b - 128 + 128 * r.0) most much) refl
-              ]
-        ]
-
 -- a further byte before 0
 pub number-behind-zero : (most b high : ℕ) (bs rest : List ℕ) → 128 ≤ b → high ≡ 0 → number_from (most / 128) bs ≡ Some (high, rest) → number_from most (b ∷ bs) ≡ None
 unfolding behind
@@ -239,17 +213,6 @@ number-behind-zero most b high bs rest ge z is =
     by : (high : ℕ) → high ≡ 0 → behind most b (Some (high, rest)) ≡ None
     by high z = rw (eq-eqb high 0 z) refl
 
--- a further byte before another number
-pub number-behind-some : (most b high : ℕ) (bs rest : List ℕ) → 128 ≤ b → 0 < high → b - 128 + 128 * high ≤ most → number_from (most / 128) bs ≡ Some (high, rest)
-    → number_from most (b ∷ bs) ≡ Some (b - 128 + 128 * high, rest)
-unfolding behind
-number-behind-some most b high bs rest ge pos le is =
-    let p = number-kept (most / 128) high rest (spelled bs) is in
-    number-behind most b bs ge ∙ ap (behind most b) p.0 ∙ by (λ z. omega arith)
-  where
-    by : (high ≡ 0 → ⊥) → behind most b (Some (high, rest)) ≡ Some (b - 128 + 128 * high, rest)
-    by ne = rw (ne_eqb high 0 ne, le-leb (b - 128 + 128 * high) most le) refl
-
 pub number-behind-above : (most b high : ℕ) (bs rest : List ℕ) → 128 ≤ b → 0 < high → most < b - 128 + 128 * high → number_from (most / 128) bs ≡ Some (high, rest)
     → number_from most (b ∷ bs) ≡ None
 unfolding behind
@@ -259,21 +222,6 @@ number-behind-above most b high bs rest ge pos above is =
   where
     by : (high ≡ 0 → ⊥) → behind most b (Some (high, rest)) ≡ None
     by ne = rw (ne_eqb high 0 ne, lt-leb (b - 128 + 128 * high) most above) refl
-
--- a further byte where the greatest number has none
-pub number-short : (most b : ℕ) (bs : List ℕ) → 128 ≤ b → most < 128 → number_from most (b ∷ bs) ≡ None
-unfolding behind
-number-short most b bs ge short = number-behind most b bs ge ∙ by (spelled bs)
-  where
-    by : (r : Option (ℕ × List ℕ)) → behind most b r ≡ None
-    by None = refl
-    by (Some r) =
-        elim (cases_eq r.0 0) [
-          | inl z ↦ rw (eq-eqb r.0 0 z) refl
-          | inr ne ↦
-              let much : most < b - 128 + 128 * r.0 = omega arith in
-              rw (ne_eqb r.0 0 ne, lt-leb (b - 128 + 128 * r.0) most much) refl
-        ]
 
 -- ---- the same of bytes whose first was read
 
@@ -325,13 +273,6 @@ module _ (modules : List Module) (of : Option Definition) (bytes addressed keyed
   pub entry-shapeless : e ≡ Malformed → kinds_under modules d ≡ None → IsUnread (entry_from modules of) bytes e
   entry-shapeless malformed is = entry-after (subst (λ z. IsUnread (kinds_from modules address d) keyed z) (sym malformed) (λ more. ap (λ o. o >>= λ kinds. words_from address d kinds (keyed ++ more)) is))
 
--- the struct isn't read
-pub struct-unread : (modules : List Module) (of : Option Definition) (bytes addressed : List ℕ) (address : ℕ) (e : Unread) → address_from bytes ≡ Some (address, addressed)
-    → IsUnread (struct_from of) addressed e → IsUnread (entry_from modules of) bytes e
-struct-unread modules of bytes addressed address e is none =
-    unread-next address_from (λ a. addressed_from modules of a.0 a.1) bytes addressed address e address-extends is
-    (unread-first (struct_from of) (λ d. kinds_from modules address d.0 d.1) addressed e none)
-
 -- what is made of nothing
 pub made-none : {A B : Type 0} (f : A → B) (o : Option A) (r : Option B) → option_map f o ≡ r → ((a : A) → o ≡ Some a → ⊥) → r ≡ None
 made-none f None r is empty = sym is
@@ -346,11 +287,6 @@ storage-unread form modules count bytes rest counts e is none =
     (unread-next (entries_from (tally_from form) count) (λ counts. storage_into modules form [] counts.1 >>= λ stored. Some ((counts.0, stored.0), stored.1)) bytes rest counts e
     (entries-extends (tally_from form) (tally-extends form) count) is
     (unread-first (storage_into modules form []) (λ stored. Some ((counts, stored.0), stored.1)) rest e none))
-
-pub tallies-not : (form : Form) (modules : List Module) (count : ℕ) (bytes : List ℕ) (e : Unread) → IsUnread (entries_from (tally_from form) count) bytes e → IsUnreadBody form modules count bytes e
-tallies-not form modules count bytes e none =
-    body-unread form modules count bytes e
-    (unread-first (entries_from (tally_from form) count) (λ counts. storage_into modules form [] counts.1 >>= λ stored. Some ((counts.0, stored.0), stored.1)) bytes e none)
 
 -- bytes are left
 pub body-left : (form : Form) (modules : List Module) (count : ℕ) (bytes counted rest : List ℕ) (counts : List (ℕ × ℕ)) (stored : FlatStorage) → entries_from (tally_from form) count bytes ≡ Some (counts, counted)

@@ -1,11 +1,11 @@
 -- Some of the structs with key, one after the other: in which order they stand, and what is stored of them.
 use Rattle.mv_ledger_state.proofs.Common.{[], ◌++◌, ◌+◌, ◌-◌, ◌<◌, ◌∙◌, ◌∷◌, ◌≡◌, ◌≤◌, Bool, Err, List, Ok, Result, ap, arith, cond, drop, eq-eqb, false, flat_map, get_or, le-leb, length, lt-ltb}
-use Rattle.mv_ledger_state.proofs.Common.{map, refl, subst, suc, sym, take, true, zero, ℕ, and_from, false≢true, AllByRecursion, filter, ◌&&◌, ◌==◌, nat_le, nat_lt, IfOk, IsSome, Global, Vec}
+use Rattle.mv_ledger_state.proofs.Common.{map, refl, subst, suc, sym, true, zero, ℕ, and_from, false≢true, AllByRecursion, filter, ◌&&◌, ◌==◌, nat_le, nat_lt, IfOk, IsSome, Global, Vec}
 use Rattle.mv_ledger_state.proofs.Common.{Module, Definition, FlatEntry, Storage, some-of, AreSections, definition_at, section_at, sections_of, stored_in, addressed_text, is_under, keyed_from, keyed_indices, Section}
 use Rattle.std.specs.Prelude.{slice_range}
 use Rattle.std.proofs.lemmas.Bool.{or_left, or_right}
 use Rattle.std.proofs.lemmas.List.{get_or-drop, get_or-take, length-take}
-use Rattle.std.proofs.lemmas.List.Elements.{All-from_get_or, All-nil}
+use Rattle.std.proofs.lemmas.List.Elements.{All-from_get_or}
 use Rattle.mv_ledger_state.specs.Parts.Saving.{is_between, is_by, stored_between, struct_under, HasSection, HaveSections}
 use Rattle.mv_ledger_state.proofs.Lists.{all-append}
 use Rattle.mv_ledger_state.proofs.Loads.BodyKeyed.{placed, IsUp, keyed-low, keyed-up}
@@ -113,10 +113,3 @@ module _ (modules : List Module) where
         subst (λ (l : List Definition). HaveSections modules entries (sections_of v.items) (slice_range l i j)) ds_are
         (have-sections entries (sections_of v.items) (subst (λ (l : List Definition). j ≤ length l) (sym ds_are) within) are)
     sections-so (Err x) entries within are = tt
-
-  -- of none there is none
-  pub sections-none : (entries : List FlatEntry) (rows : List (List Section)) (ds : List Definition) (i j : ℕ) → j ≤ i → HaveSections modules entries rows (slice_range ds i j)
-  sections-none entries rows ds i j le = subst (λ (n : ℕ). HaveSections modules entries rows (take n (drop i ds))) (gone i j le) (All-nil (HasSection modules entries rows))
-    where
-      gone : (i j : ℕ) → j ≤ i → 0 ≡ j - i
-      gone i j le = omega (arith, le)

@@ -1,9 +1,9 @@
 -- Of what the fields of structs are made, and the kinds of their leaves.
-use Rattle.mv_ledger_state.proofs.Common.{[], ◌++◌, ◌+◌, ◌-◌, ◌<◌, ◌∙◌, ◌∷◌, ◌≡◌, ◌≢◌, ◌≤◌, Bool, List, None, Option, Some, add-one, ap, append-nil, append_assoc, ap₂, arith, cond, drop, false, get_or}
-use Rattle.mv_ledger_state.proofs.Common.{length, refl, subst, suc, sym, take, true, zero, ℕ, drop-cons, drop_all, length-take-le, take_more, get_or_from_slice_get, none-some, slice_get_within, list_all}
+use Rattle.mv_ledger_state.proofs.Common.{[], ◌++◌, ◌+◌, ◌-◌, ◌<◌, ◌∙◌, ◌∷◌, ◌≡◌, ◌≢◌, Bool, List, None, Option, Some, add-one, ap, append-nil, append_assoc, ap₂, arith, cond, drop, false, get_or}
+use Rattle.mv_ledger_state.proofs.Common.{length, refl, subst, suc, sym, take, true, ℕ, drop-cons, length-take-le, take_more, get_or_from_slice_get, none-some, slice_get_within, list_all}
 use Rattle.mv_ledger_state.proofs.Common.{option_map_or, is_some, nat_le, slice_get, leaves_within, Module, StructDefinition, name_at, name_of_struct, struct_abilities, struct_name}
 use Rattle.mv_ledger_state.proofs.Common.{StructName, same_struct, ◌>>=◌, PublishedModule, Definition, Field, Abilities, LeafKind, Token, Plain, OfLeaf, OfStruct, on_bind}
-use Rattle.mv_ledger_state.proofs.Common.{map-is, abilities_at, all_at, name-found, IsStore, tables_in, AreFieldsAt, AreParts, IsMadeOf, IsPart, keyed_in, is_of_value}
+use Rattle.mv_ledger_state.proofs.Common.{map-is, abilities_at, all_at, name-found, IsStore, tables_in, AreParts, IsMadeOf, IsPart, keyed_in, is_of_value}
 use Rattle.mv_ledger_state.proofs.Common.{struct_is_small, Part, Nothing, on_found, structs_in_fields, structs_in_part, structs_in_parts, structs_in_token, structs_within, is_keyed, kinds_of_fields}
 use Rattle.mv_ledger_state.proofs.Common.{kinds_of_token, kinds_within, leaf_kinds, IsOfStore, PutsKinds, keyed_at, kinds_at, kinds_of_part, kinds_of_parts, keyed_from}
 use Rattle.mv_ledger_state.proofs.Common.{IsSome, definition_at, some-of}
@@ -11,16 +11,13 @@ use Rattle.mv_interface.specs.Handles.{IsStructAt}
 use Rattle.mv_interface.specs.Shapes.{has_key}
 use Rattle.mv_interface.specs.declared.shapes.Part.TheVariants.{Leaf, Struct}
 use Rattle.mv_ledger_state.proofs.Loads.LeafKinds.{kinds-count}
-use Rattle.mv_linker.proofs.Named.{defined, named, no_definition}
+use Rattle.mv_linker.proofs.Named.{defined, named}
 
 -- ---- the kinds of the leaves of parts, as they are put one after the other
 
 -- these kinds before others, if there are any
 abbrev before : List LeafKind → Option (List LeafKind) → Option (List LeafKind)
 before ks o = o >>= λ rest. Some (ks ++ rest)
-
-before-none : (o : Option (List LeafKind)) → o ≡ before [] o
-before-none o = grind arith
 
 before-both : (ks ls : List LeafKind) (o : Option (List LeafKind)) → before ks (before ls o) ≡ before (ks ++ ls) o
 before-both ks ls None = refl
@@ -39,9 +36,6 @@ module _ (modules : List Module) (depth : ℕ) (parts : List Part) where
   -- those of so many parts were put
   abbrev pub ArePut : ℕ → List LeafKind → List LeafKind → Type 0
   ArePut i old new = (ks : List LeafKind) × (new ≡ old ++ ks) × (kinds_of_parts modules depth parts ≡ before ks (kinds_of_parts modules depth (drop i parts)))
-
-  pub put-first : (old : List LeafKind) → ArePut 0 old old
-  put-first old = ([], sym (append-nil old), before-none (kinds_of_parts modules depth parts))
 
   module _ (i : ℕ) (d : Part) (lt : i < length parts) (old new : List LeafKind) (h : ArePut i old new) where
     abbrev part : Part
@@ -64,21 +58,6 @@ module _ (modules : List Module) (depth : ℕ) (parts : List Part) where
           one.2 ∙ ap (λ l. l ++ one.0) h.1 ∙ append_assoc old h.0 one.0,
           following (Some one.0) one.1 ∙ before-both h.0 one.0 (kinds_of_parts modules depth (drop (i + 1) parts)),
         )
-
-    pub put-stops : (there : Bool) (after : List LeafKind) → there ≡ false → PutsKinds (kinds_of_part modules depth part) there new after
-        → PutsKinds (kinds_of_parts modules depth parts) false old after
-    put-stops there after fails put =
-        let none = put-false (kinds_of_part modules depth part) new after (subst (λ (b : Bool). PutsKinds (kinds_of_part modules depth part) b new after) fails put) in
-        subst (λ (o : Option (List LeafKind)). PutsKinds o false old after) (sym (following None none)) refl
-
-  pub put-all : (i : ℕ) (old new : List LeafKind) → length parts ≤ i → ArePut i old new → PutsKinds (kinds_of_parts modules depth parts) true old new
-  put-all i old new le h =
-      let whole : kinds_of_parts modules depth parts ≡ Some (h.0 ++ []) = h.2 ∙ ap (λ l. before h.0 (kinds_of_parts modules depth l)) (drop_all i parts le) in
-      subst (λ (o : Option (List LeafKind)). PutsKinds o true old new) (sym whole) (refl, h.1 ∙ ap (λ l. old ++ l) (sym (append-nil h.0)))
-
--- a list of kinds, or none
-pub puts-some : (o : Option (List LeafKind)) (new : List LeafKind) → PutsKinds o true [] new → o ≡ Some new
-puts-some o new h = let one = put-true o [] new h in one.1 ∙ ap (λ ks. Some ks) (sym one.2)
 
 -- ---- of what a field is made
 
@@ -142,16 +121,7 @@ module _ (modules : List Module) where
   pub keyed-same : (d : Definition) → keyed_in modules d ≡ is_keyed modules d
   keyed-same d = key-at d (slice_get modules d.place)
 
-  pub missing-name : (d : Definition) → AreFieldsAt modules d None → name_at modules d.place d.index ≡ None
-  missing-name d h = no_definition d name_of_struct (slice_get modules d.place) h
-
   -- ---- kinds that were put
-
-  pub puts-none : (o : Option (List LeafKind)) (old new : List LeafKind) → o ≡ None → PutsKinds o false old new
-  puts-none o old new e = let P : Option (List LeafKind) → Type 0 = λ o. PutsKinds o false old new in subst P (sym e) refl
-
-  pub no_depth : (o : Option StructName) → (o >>= kinds_within zero modules) ≡ None
-  no_depth o = grind arith
 
 -- a struct that is there is one of its own, with those of its parts
 pub record HasStructs (modules : List Module) (k : ℕ) (d : Definition) (parts : List Part) : Type 0 where

@@ -1,6 +1,6 @@
 -- Sections of structs: empty ones, and one with one value more.
 use Rattle.mv_ledger_state.proofs.Common.{[], ◌++◌, ◌+◌, ◌<◌, ◌∙◌, ◌∷◌, ◌≡◌, ◌≤◌, Err, List, Ok, Result, Some, ap, arith, eq-eqb, get_or, inl, inr, length, length-append, option_map, refl, subst}
-use Rattle.mv_ledger_state.proofs.Common.{sym, true, ℕ, and_from, cases_eq, length-map, map-set, get_or_from_slice_get, none-some, same_Some, slice_get-map, slice_get_read, slice_get_within}
+use Rattle.mv_ledger_state.proofs.Common.{sym, true, ℕ, and_from, cases_eq, length-map, map-set, get_or_from_slice_get, same_Some, slice_get-map, slice_get_read, slice_get_within}
 use Rattle.mv_ledger_state.proofs.Common.{option_map_or, All, IsSome, OnOk, slice_get, slice_set, Global, Vec, Module, ◌>>=◌, Definition, Key, LeafKind, on_bind, address_text, some-of, then_found}
 use Rattle.mv_ledger_state.proofs.Common.{element_at, coded, kinds_under, structs_in, AddsValue, AreSections, HasOneMore, IsAdded, IsEmpty, definition_at, is_same_definition, section_at, sections_of, Section}
 use Rattle.mv_ledger_state.specs.Parts.Saving.{struct_under}
@@ -15,8 +15,6 @@ pub record AreEmptyRows (modules : List Module) (n : ℕ) (rows : List (List Sec
   pub each : (k : ℕ) (row : List Section) → slice_get rows k ≡ Some row → (length row ≡ structs_in modules k) × All IsEmpty row
 
 module _ (modules : List Module) where
-  pub empty-start : AreEmptyRows modules 0 []
-  empty-start = record { len = refl; each = λ k row e. absurd (none-some row e) }
 
   pub empty-more : (n : ℕ) (rows : List (List Section)) (row : List Section) → AreEmptyRows modules n rows → length row ≡ structs_in modules n → All IsEmpty row → AreEmptyRows modules (n + 1)
       (rows ++ row ∷ [])
@@ -111,9 +109,6 @@ module _ (rows : List (Vec Section Global)) (d : Definition) (there : IsSome (se
     module _ (s : Section) (s_is : s ≡ get_or row.items d.index s) where
       pub index-at : slice_get row.items d.index ≡ Some s
       index-at = slice_get_read row.items (length row.items) d.index s refl index-in s_is
-
-      pub section-is : section_at (sections_of rows) d ≡ Some s
-      section-is = then_found (slice_get (sections_of rows) d.place) (λ row. slice_get row d.index) row.items (Some s) items-at index-at
 
 -- a value was added to the section of its struct, if memory did not run out
 pub adds-value : {T E : Type 0} (r : Result T E) (modules : List Module) (rows : List (Vec Section Global)) (key : Key) (p i : ℕ) (row new : Vec Section Global) (s ready t : Section) (words : List ℕ)

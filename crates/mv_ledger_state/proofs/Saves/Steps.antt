@@ -24,19 +24,6 @@ use Rattle.mv_frames.proofs.Counts.{definition-to}
 
 -- ---- the modules and the tallies
 
-pub head-comes : (s : LedgerState) (published : List PublishedModule) (runs : ℕ) (none mark one two three : List ℕ) → s.published ≡ published → s.runs ≡ runs → none ≡ []
-    → mark ≡ 0x4D ∷ 0x56 ∷ 0x4C ∷ 0x32 ∷ [] → one ≡ none ++ mark → two ≡ one ++ uleb runs → three ≡ two ++ uleb (length published) → Comes s Head three (Modules 0)
-head-comes s published runs none mark one two three p r n m o t h =
-    let a : List ℕ = uleb s.runs in
-    let k : List ℕ = uleb (length (map offered s.published)) in
-    let f : List ℕ = flat_map offer_text (map offered s.published) in
-    let b : List ℕ = body_text Second s in
-    let joined : (a ++ (k ++ f)) ++ b ≡ (a ++ k) ++ (f ++ b) = append_assoc a (k ++ f) b ∙ ap (λ l. a ++ l) (append_assoc k f b) ∙ sym (append_assoc a k (f ++ b)) in
-    let count : k ≡ uleb (length published) = ap uleb (length-map s.published offered ∙ ap length p) in
-    let front : one ≡ 0x4D ∷ 0x56 ∷ 0x4C ∷ 0x32 ∷ [] = o ∙ ap₂ (λ (x y : List ℕ). x ++ y) n m in
-    let whole : three ≡ 0x4D ∷ 0x56 ∷ 0x4C ∷ 0x32 ∷ (a ++ k) = h ∙ ap₂ (λ (x y : List ℕ). x ++ y) (t ∙ ap₂ (λ (x y : List ℕ). x ++ y) front (ap uleb (sym r))) (sym count) in
-    record { text = ap (λ (l : List ℕ). 0x4D ∷ 0x56 ∷ 0x4C ∷ 0x32 ∷ l) joined ∙ sym (ap (λ l. l ++ (f ++ b)) whole); nearer = omega arith }
-
 pub module-comes : (s : LedgerState) (store : List PublishedModule) (place : ℕ) (text first after bytes certificate : List ℕ) → s.published ≡ store → place < length store → text ≡ []
     → IfSome (slice_get store place) (λ p. bytes ≡ p.text) → IfSome (slice_get store place) (λ p. certificate ≡ p.certificate) → first ≡ text ++ sized bytes → after ≡ first ++ sized certificate
     → Comes s (Modules place) after (Modules (place + 1))
@@ -54,15 +41,6 @@ module-comes s store place text first after bytes certificate same lt empty byte
           ∙ append_assoc (offer_text (offered p.0)) rest b ∙ ap (λ l. l ++ (rest ++ b)) (sym whole)
           ∙ ap (λ (l : List PublishedModule). after ++ (flat_map offer_text (map offered (drop (place + 1) l)) ++ b)) (sym same);
       nearer = omega (arith, lt, count);
-    }
-
-pub modules-end : (s : LedgerState) (store : List PublishedModule) (place : ℕ) (text : List ℕ) → s.published ≡ store → length store ≤ place → text ≡ [] → Comes s (Modules place) text Counts
-modules-end s store place text same le empty =
-    let b : List ℕ = body_text Second s in
-    record {
-      text = ap (λ (l : List PublishedModule). flat_map offer_text (map offered (drop place l)) ++ b) same
-          ∙ ap (λ (l : List PublishedModule). flat_map offer_text (map offered l) ++ b) (drop_all place store le) ∙ ap (λ l. l ++ b) (sym empty);
-      nearer = omega arith;
     }
 
 pub counts-come : (s : LedgerState) (ts : List Tally) (text after : List ℕ) → s.tallies ≡ map (tallied (modules_of s)) ts → text ≡ [] → after ≡ text ++ counts_text ts → Comes s Counts after (Sections 0)
@@ -192,16 +170,6 @@ module _ (modules : List Module) (stored : List FlatEntry) where
 
 -- ---- pages
 
--- what a page tells, and what the next ones do
-pub page-coded : (kinds : List LeafKind) (stored : List FlatEntry) (d : Definition) (from : ℕ) (told : List FlatEntry) (next : Option ℕ) (text : List ℕ)
-    → told ++ option_map_or (values_from stored d) next [] ≡ values_from stored d from → text ≡ values_coded kinds told
-    → text ++ option_map_or (λ n. values_coded kinds (values_from stored d n)) next [] ≡ values_coded kinds (values_from stored d from)
-page-coded kinds stored d from told None text all t =
-    ap (λ l. l ++ []) t ∙ sym (flat_map-append (λ (e : FlatEntry). address_text e.key.address ++ coded kinds e.words) told []) ∙ ap (values_coded kinds) all
-page-coded kinds stored d from told (Some n) text all t =
-    ap (λ l. l ++ values_coded kinds (values_from stored d n)) t ∙ sym (flat_map-append (λ (e : FlatEntry). address_text e.key.address ++ coded kinds e.words) told (values_from stored d n))
-    ∙ ap (values_coded kinds) all
-
 -- one value more of a page
 pub page-more : (kinds : List LeafKind) (e : FlatEntry) (told rest : List FlatEntry) (text one two whole : List ℕ) → told ≡ e ∷ rest → one ≡ text ++ address_text e.key.address
     → two ≡ one ++ coded kinds e.words → text ++ values_coded kinds told ≡ whole → two ++ values_coded kinds rest ≡ whole
@@ -288,9 +256,6 @@ module _ (modules : List Module) (stored : List FlatEntry) where
     pub from : i ≤ at
     pub text_is : flat_map text_under (drop i (keyed_from 0 modules)) ≡ text ++ flat_map text_under (drop at (keyed_from 0 modules))
 
-  pub counted-start : (i : ℕ) (text : List ℕ) → text ≡ [] → IsCounted i i text
-  counted-start i text empty = record { from = omega arith; text_is = ap (λ l. l ++ flat_map text_under (drop i (keyed_from 0 modules))) (sym empty) }
-
   module _ (of : IsOfStore modules) (rows : List (List ℕ)) (are : AreStored modules stored rows) (ds : List Definition) (ds_are : ds ≡ keyed_from 0 modules) (at : ℕ) (e : Definition)
       (lt : at < length ds) where
     abbrev d : Definition
@@ -344,16 +309,6 @@ module _ (modules : List Module) (stored : List FlatEntry) where
         nearer = omega (arith, h.from, lt, ap length ds_are, ap length (ap (keyed_from 0) is.modules_are));
       }
 
-  -- all of them
-  pub counted-all : (s : LedgerState) → IsStored modules stored s → (ds : List Definition) → ds ≡ keyed_from 0 modules → (i at : ℕ) (text : List ℕ) → length ds ≤ at → IsCounted i at text
-      → Comes s (Sections i) text End
-  counted-all s is ds ds_are i at text le h =
-      let few : length (keyed_from 0 modules) ≤ at = omega (arith, le, ap length ds_are) in
-      record {
-        text = sections-are modules stored s is i ∙ h.text_is ∙ ap (λ (l : List Definition). text ++ flat_map text_under l) (drop_all at (keyed_from 0 modules) few);
-        nearer = omega arith;
-      }
-
 -- ---- some structs at once
 
 module _ (modules : List Module) (stored : List FlatEntry) (s : LedgerState) (is : IsStored modules stored s) (i end : ℕ) (lt : i < end) (within : end ≤ length (keyed_from 0 modules)) (text : List ℕ)
@@ -367,13 +322,6 @@ module _ (modules : List Module) (stored : List FlatEntry) (s : LedgerState) (is
             ∙ ap₂ (λ (x y : List ℕ). x ++ y) (sym text_is) (sym (sections-are modules stored s is end));
         nearer = omega (arith, lt, within, ap length (keyed-are modules stored s is));
       }
-
-  -- the last ones
-  pub batch-ends : length (keyed_from 0 modules) ≤ end → Comes s (Sections i) text End
-  batch-ends le = record {
-    text = batch-comes.text ∙ ap (λ l. text ++ l) (sections-are modules stored s is end ∙ ap (flat_map (struct_text (storage_of modules stored))) (drop_all end (keyed_from 0 modules) le));
-    nearer = omega arith;
-  }
 
 -- ---- one call after the other
 

@@ -1,8 +1,8 @@
 -- The parts of a saved ledger, as they are written one after the other.
 use Rattle.mv_ledger_state.proofs.Common.{[], ◌++◌, ◌+◌, ◌-◌, ◌<◌, ◌∙◌, ◌∷◌, ◌≡◌, ◌≤◌, Err, List, None, Ok, Option, Result, Some, ap, append-nil, append_assoc, ap₂, arith, flat_map, get_or, length, map, refl}
-use Rattle.mv_ledger_state.proofs.Common.{subst, suc, sym, take, zero, ℕ, flat_map_more, length-map, map_more, take_all, take_more, flat_map-append, All-weaker, get_or_from_slice_get, none-some, same_Some}
+use Rattle.mv_ledger_state.proofs.Common.{subst, suc, sym, take, zero, ℕ, flat_map_more, map_more, take_all, take_more, flat_map-append, All-weaker, get_or_from_slice_get, none-some, same_Some}
 use Rattle.mv_ledger_state.proofs.Common.{unwrap_or-slice_get, AllByRecursion, All, IfOk, IfSome, IsSome, slice_get, unwrap_or, Global, Vec, Module, StructDefinition}
-use Rattle.mv_ledger_state.proofs.Common.{PublishedModule, Definition, uleb, counted, FlatEntry, storage_of, then_found, element_at, tables_in, IsSoundLedger, IsSection, IsWritable}
+use Rattle.mv_ledger_state.proofs.Common.{PublishedModule, Definition, uleb, FlatEntry, storage_of, then_found, element_at, tables_in, IsSoundLedger, IsSection, IsWritable}
 use Rattle.mv_ledger_state.proofs.Common.{counts_text, definition_at, section_at, sections_of, written, offered, offer_text, sized, IsSavable, IsSavedText, Second, head_text, keyed_from}
 use Rattle.mv_ledger_state.proofs.Common.{keyed_indices, saved_text, struct_text, tally_text, IsSmall, LedgerView, all_of, state_of, tallied, view_of, Section, Tally}
 use Rattle.std.specs.Prelude.{slice_range}
@@ -75,14 +75,6 @@ module _ (store : List PublishedModule) where
       let added : after ≡ text ++ offer_text (offered p.0) =
       two ∙ ap (λ l. l ++ sized certificate) one ∙ append_assoc text (sized bytes) (sized certificate) ∙ ap₂ (λ (a b : List ℕ). text ++ (sized a ++ sized b)) own also in
       added ∙ ap (λ l. l ++ offer_text (offered p.0)) so_far ∙ flat_map_more offer_text old (map offered (take i store)) (offered p.0) ∙ sym (ap (λ l. old ++ flat_map offer_text l) more)
-
-  -- all of them, after their number
-  pub modules-all : (i : ℕ) (old text : List ℕ) → length store ≤ i → text ≡ (old ++ uleb (length store)) ++ flat_map offer_text (map offered (take i store))
-      → text ≡ old ++ counted offer_text (map offered store)
-  modules-all i old text le so_far =
-      so_far ∙ ap (λ (l : List PublishedModule). (old ++ uleb (length store)) ++ flat_map offer_text (map offered l)) (take_all i store le)
-      ∙ append_assoc old (uleb (length store)) (flat_map offer_text (map offered store))
-      ∙ ap (λ n. old ++ (uleb n ++ flat_map offer_text (map offered store))) (sym (length-map store offered))
 
 -- ---- tallies
 

@@ -1,5 +1,5 @@
 use Rattle.std.proofs.Common.{arith}
-use Rattle.moveledger.proofs.FirstRecord.{is-first, none-of-nothing, none-where-cut, none-without-length}
+use Rattle.moveledger.proofs.FirstRecord.{is-first, none-where-cut}
 use Rattle.moveledger.proofs.records.first_record.Goals as goal
 
 pub returns-in_err-payload : goal.returns-in_err-payload
