@@ -1,27 +1,47 @@
 -- Instructions that are read one by one.
-use Rattle.mv_binary_format.proofs.Common.{[], ℕ, ◌-◌, ◌≤◌, ◌∙◌, ◌∷◌, ◌≡◌, List, None, Some, ap, arith, refl, suc, sym, true, ◌>>=◌}
-use Rattle.mv_binary_format.proofs.Common.{Read, counted_from, entries_from, number_from, zero}
+use Rattle.mv_binary_format.proofs.Common.{[], ℕ, ◌++◌, ◌+◌, ◌-◌, ◌<◌, ◌≤◌, ◌∙◌, ◌∷◌, ◌≡◌, List, None, Some, ap, arith, refl, suc, sym, true, ◌>>=◌}
+use Rattle.mv_binary_format.proofs.Common.{Err, Result, Phase, Read, counted_from, entries_from, number_from, subst, zero}
 use Rattle.std.proofs.lemmas.Bool.{false≢true}
 use Rattle.std.proofs.Common.{is_some}
 use Rattle.std.specs.Option.{option_map_or}
 use Rattle.mv_move_types.specs.declared.instruction.Instruction.{Instruction}
+use Rattle.mv_move_types.specs.declared.refusal.Refusal.{Refusal}
 use Rattle.mv_module_text.specs.Parsing.{instruction_from}
-use Rattle.mv_module_text.proofs.Entries.{ReadsOn, ReadsOn-end}
+use Rattle.mv_module_text.specs.Reads.{Reads}
+use Rattle.mv_module_text.proofs.Entries.{ReadsOn, ReadsOn-start, ReadsOn-next, ReadsOn-stops, ReadsOn-end}
 unfoldable use Rattle.mv_binary_format.specs.Code.{instructions_in, instructions_stand}
+
+-- the first i of n entries were read and passed over
+pub record Passes {A : Type 0} (each : List ℕ → Read A) (n i : ℕ) (start cur : List ℕ) : Type 0 where
+  pub items : List A
+  pub goes : ReadsOn each n i start items cur
+
+pub Passes-start : {A : Type 0} (each : List ℕ → Read A) (n : ℕ) (start : List ℕ) → Passes each n 0 start start
+Passes-start each n start = record { items = []; goes = ReadsOn-start each n start }
+
+-- one more
+pub Passes-next : {A : Type 0} (each : List ℕ → Read A) (n i : ℕ) (start cur next : List ℕ) (x : A) → i < n → each cur ≡ Some (x, next)
+    → Passes each n i start cur → Passes each n (i + 1) start next
+Passes-next each n i start cur next x lt e p = record { items = p.items ++ x ∷ []; goes = ReadsOn-next each n i start p.items cur next x lt e p.goes }
+
+-- one can't be read
+pub Passes-stops : {A : Type 0} (each : List ℕ → Read A) (most n i : ℕ) (bytes start cur : List ℕ) → number_from most bytes ≡ Some (n, start) → i < n → each cur ≡ None
+    → Passes each n i start cur → counted_from most each bytes ≡ None
+Passes-stops each most n i bytes start cur e lt none p = ReadsOn-stops each most n i bytes start p.items cur e lt none p.goes
 
 -- the entries after a count
 counted-at : {A : Type 0} (most : ℕ) (each : List ℕ → Read A) (n : ℕ) (bytes start : List ℕ) → number_from most bytes ≡ Some (n, start)
     → counted_from most each bytes ≡ entries_from each n start
 counted-at most each n bytes start e = ap (λ r. r >>= λ c. entries_from each c.0 c.1) e
 
--- all were read, and are listed
-pub all-listed : (version most n i : ℕ) (bytes start cur : List ℕ) (items : List Instruction) → number_from most bytes ≡ Some (n, start) → n ≤ i → ReadsOn (instruction_from version) n i start items cur
-    → (counted_from most (instruction_from version) bytes ≡ Some (instructions_in version n start, cur)) × ((instructions_stand version n start ≡ true) × (items ≡ instructions_in version n start))
+-- all were read
+pub Passes-end : (version most n i : ℕ) (bytes start cur : List ℕ) → number_from most bytes ≡ Some (n, start) → n ≤ i → Passes (instruction_from version) n i start cur
+    → (counted_from most (instruction_from version) bytes ≡ Some (instructions_in version n start, cur)) × (instructions_stand version n start ≡ true)
 unfolding instructions_in instructions_stand
-all-listed version most n i bytes start cur items e le goes =
-    let all = ReadsOn-end (instruction_from version) most n i bytes start items cur e le goes in
+Passes-end version most n i bytes start cur e le p =
+    let all = ReadsOn-end (instruction_from version) most n i bytes start p.items cur e le p.goes in
     let here = sym (counted-at most (instruction_from version) n bytes start e) ∙ all in
-    (rw here all, (rw here refl, rw here refl))
+    (rw here all, rw here refl)
 
 -- none are left
 pub none-left : (version : ℕ) (bytes : List ℕ) → instructions_in version 0 bytes ≡ []
@@ -66,3 +86,7 @@ advances version (suc n) bytes rest i some e there = let less : suc n - 1 ≡ n 
 pub stands : (version left : ℕ) (bytes : List ℕ) → (left ≡ 0 → ⊥) → instructions_stand version left bytes ≡ true → instruction_from version bytes ≡ None → ⊥
 stands version zero bytes some there e = some refl
 stands version (suc n) bytes some there e = next-stands version n bytes there e
+
+-- what is refused in phase 2
+pub Reads-refused : {A : Type 0} (from : List ℕ → Read A) (old new : List ℕ) (r : Result A Refusal) → r ≡ Err (Phase 2) → from old ≡ None → Reads from old r new
+Reads-refused from old new r r_is none = subst (λ z. Reads from old z new) (sym r_is) (refl, none)

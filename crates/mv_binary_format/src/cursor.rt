@@ -1,12 +1,15 @@
 // The instructions of a function, read one by one from the module's bytes.
-ghost use Rattle.std.specs.Prelude.{◌<◌, ◌≡◌, length, slice_get, IfOk, IfSome, IsTrue};
+ghost use Rattle.std.specs.Prelude.{◌<◌, ◌≡◌, length, slice_get, IfOk, IfSome};
 ghost use Rattle.std.specs.Iterator.{YieldsFirst, item_count};
+ghost use Rattle.mv_move_types.specs.Limits.{most_instructions};
 ghost use Rattle.mv_move_types.specs.Versions.{version_number};
-ghost use Rattle.mv_binary_format.specs.Code.{instructions_in, instructions_stand};
+ghost use Rattle.mv_module_text.specs.Parsing.{counted_from, instruction_from};
+ghost use Rattle.mv_module_text.specs.Reads.{Reads};
 
 use super::Module;
 use mv_module_text::Reader;
-use mv_move_types::{Instruction, Version};
+use mv_move_types::limits::MOST_INSTRUCTIONS;
+use mv_move_types::{Instruction, Refusal, Version};
 use std::alloc::{AllocError, Global};
 use std::marker::Model;
 
@@ -33,16 +36,20 @@ impl<'a> Model for Cursor<'a> {
 }
 
 impl<'a> Cursor<'a> {
-    // The cursor over so many instructions, which stand at the front of what the reader has left.
-    pub(crate) fn of(version: Version, reader: Reader<'a>, left: usize) -> Self
-        requires { IsTrue (instructions_stand (version_number version) left reader) }
-        ensures { result ≡ instructions_in (version_number version) left reader.entry }
+    // Reads the code of a function: its instructions, as the version has them, after their number. None of them is kept.
+    pub(crate) fn read(version: Version, reader: &mut Reader<'a>) -> Result<Self, Refusal>
+        ensures { Reads (counted_from most_instructions (instruction_from (version_number version))) reader.old result reader.new }
     {
-        Cursor {
-            reader,
-            version,
-            left,
+        let count = reader.number(MOST_INSTRUCTIONS)?;
+        let first = reader.copied();
+        'reading: for _ in 0..count {
+            reader.instruction(version)?;
         }
+        Ok(Cursor {
+            reader: first,
+            version,
+            left: count as usize,
+        })
     }
 
     // Another cursor over the same instructions.

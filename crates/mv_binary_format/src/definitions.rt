@@ -1,13 +1,12 @@
 // Structs and functions as a module defines them.
-ghost use Rattle.std.specs.Prelude.{◌≡◌, IfOk};
+ghost use Rattle.std.specs.Prelude.{◌≡◌};
 ghost use Rattle.mv_module_text.specs.Parsing.{struct_definition_from, function_definition_from};
 ghost use Rattle.mv_module_text.specs.Entries.{struct_definition_text, function_definition_text};
 
 use super::cursor::Cursor;
 use super::entries::Entry;
-use super::listed::ListedCode;
 use mv_module_text::{FunctionParts, Reader, write_function_definition, write_struct_definition};
-use mv_move_types::{Field, Instruction, Refusal, Version, Visibility};
+use mv_move_types::{Field, Refusal, Version, Visibility};
 use std::alloc::{AllocError, Global};
 use std::marker::Model;
 
@@ -60,8 +59,7 @@ impl<'a> Entry<'a> for StructDefinition {
     }
 }
 
-/// A function that a module defines: its handle, who may call it, and its code, which remains in the module's bytes. The list of its
-/// instructions is there too, until it is taken.
+/// A function that a module defines: its handle, who may call it, and its code, which remains in the module's bytes.
 #[derive(Drop)]
 pub struct FunctionDefinition<'a> {
     handle: u16,
@@ -69,7 +67,7 @@ pub struct FunctionDefinition<'a> {
     is_entry: bool,
     acquires: Vec<u16>,
     locals: u16,
-    code: ListedCode<'a>,
+    code: Cursor<'a>,
 }
 
 impl<'a> Model for FunctionDefinition<'a> {
@@ -127,15 +125,7 @@ impl<'a> FunctionDefinition<'a> {
     pub fn code(&self) -> Cursor<'a>
         ensures { result ≡ self.now.code }
     {
-        self.code.cursor()
-    }
-
-    // Its instructions as a list, which was made as they were read, and is made anew where it was taken already.
-    pub(crate) fn take_code(&mut self, alloc: Global) -> Result<Vec<Instruction>, AllocError>
-        ensures same { self.new ≡ self.old }
-        ensures list { IfOk result (λ v. v.items ≡ self.old.code) }
-    {
-        self.code.take(alloc)
+        self.code.another()
     }
 }
 
@@ -151,7 +141,7 @@ impl<'a> Entry<'a> for FunctionDefinition<'a> {
         let is_entry = reader.flags()?;
         let acquires = reader.indices(alloc)?;
         let locals = reader.index()?;
-        let code = ListedCode::read(alloc, version, reader)?;
+        let code = Cursor::read(version, reader)?;
         Ok(FunctionDefinition {
             handle,
             visibility,

@@ -22,7 +22,6 @@ mod entries;
 mod headers;
 mod laws;
 mod layout;
-mod listed;
 mod module;
 mod names;
 

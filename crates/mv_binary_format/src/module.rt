@@ -1,5 +1,5 @@
 // A module as its tables.
-ghost use Rattle.std.specs.Prelude.{◌≡◌, ◌<◌, ◌≤◌, length, slice_get, option_map, Some, IsTrue, IfOk, IfErr, IfSome, nat_le};
+ghost use Rattle.std.specs.Prelude.{◌≡◌, ◌≤◌, length, slice_get, option_map, Some, IsTrue, IfOk, IfErr, nat_le};
 ghost use Rattle.std.specs.List.{list_all};
 ghost use Rattle.mv_move_types.specs.Versions.{version_number};
 ghost use Rattle.mv_move_types.specs.Module.{Module as Tables};
@@ -17,10 +17,9 @@ use super::{FunctionDefinition, StructDefinition};
 use mv_module_text::Constant;
 use mv_move_types::limits::MOST_FUNCTIONS;
 use mv_move_types::{
-    Address, FieldHandle, FunctionHandle, Instruction, ModuleHandle, Refusal, StructHandle, Token,
-    Version,
+    Address, FieldHandle, FunctionHandle, ModuleHandle, Refusal, StructHandle, Token, Version,
 };
-use std::alloc::{AllocError, Global};
+use std::alloc::Global;
 use std::marker::Model;
 
 // What a module has.
@@ -231,20 +230,6 @@ impl<'a> Module<'a> {
         ensures few { IsTrue (nat_le (length self.now.functions) 256) }
     {
         &self.parts().functions
-    }
-
-    /// The instructions of function `f` as a list, which was made as the module was decoded. It is handed out without a copy, and is made
-    /// anew where it was taken already.
-    ///
-    /// # Errors
-    /// If an allocation failed.
-    pub fn take_code(&mut self, alloc: Global, f: usize) -> Result<Vec<Instruction>, AllocError>
-        requires { f < length self.old.functions }
-        ensures same { self.new ≡ self.old }
-        ensures list { IfOk result (λ v. IfSome (slice_get self.old.functions f) (λ d. v.items ≡ d.code)) }
-    {
-        let parts = &mut self.parts[0];
-        parts.functions[f].take_code(alloc)
     }
 
     /// The fields that its code names.
