@@ -8,16 +8,13 @@ use Rattle.mv_move_types.specs.declared.instruction.Instruction.{Instruction}
 use Rattle.mv_move_types.specs.declared.refusal.Refusal.{Refusal}
 use Rattle.mv_module_text.specs.Parsing.{instruction_from}
 use Rattle.mv_module_text.specs.Reads.{Reads}
-use Rattle.mv_module_text.proofs.Entries.{ReadsOn, ReadsOn-start, ReadsOn-next, ReadsOn-stops, ReadsOn-end}
+use Rattle.mv_module_text.proofs.Entries.{ReadsOn, ReadsOn-next, ReadsOn-stops, ReadsOn-end}
 unfoldable use Rattle.mv_binary_format.specs.Code.{instructions_in, instructions_stand}
 
 -- the first i of n entries were read and passed over
 pub record Passes {A : Type 0} (each : List ℕ → Read A) (n i : ℕ) (start cur : List ℕ) : Type 0 where
   pub items : List A
   pub goes : ReadsOn each n i start items cur
-
-pub Passes-start : {A : Type 0} (each : List ℕ → Read A) (n : ℕ) (start : List ℕ) → Passes each n 0 start start
-Passes-start each n start = record { items = []; goes = ReadsOn-start each n start }
 
 -- one more
 pub Passes-next : {A : Type 0} (each : List ℕ → Read A) (n i : ℕ) (start cur next : List ℕ) (x : A) → i < n → each cur ≡ Some (x, next)
