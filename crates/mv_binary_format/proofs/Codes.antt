@@ -2,7 +2,7 @@
 use Rattle.mv_binary_format.proofs.Common.{[], ℕ, ◌++◌, ◌+◌, ◌-◌, ◌<◌, ◌≤◌, ◌∙◌, ◌∷◌, ◌≡◌, List, None, Some, ap, arith, refl, suc, sym, true, ◌>>=◌}
 use Rattle.mv_binary_format.proofs.Common.{Err, Result, Phase, Read, counted_from, entries_from, number_from, subst, zero}
 use Rattle.std.proofs.lemmas.Bool.{false≢true}
-use Rattle.std.proofs.Common.{is_some}
+use Rattle.std.proofs.Common.{is_some, length}
 use Rattle.std.specs.Option.{option_map_or}
 use Rattle.mv_move_types.specs.declared.instruction.Instruction.{Instruction}
 use Rattle.mv_move_types.specs.declared.refusal.Refusal.{Refusal}
@@ -56,6 +56,24 @@ listed o = option_map_or (λ r. r.0) o []
 first-of : {A : Type 0} (x : A) (o : Read (List A)) → is_some (before x o) ≡ true → (is_some o ≡ true) × (listed (before x o) ≡ x ∷ listed o)
 first-of x None e = absurd (false≢true e)
 first-of x (Some r) e = (refl, refl)
+
+before-short : {A : Type 0} (x : A) (o : Read (List A)) (n : ℕ) → length (listed o) ≤ n → length (listed (before x o)) ≤ suc n
+before-short x None n h = omega arith
+before-short x (Some r) n h = omega (arith, h)
+
+first-short : {A : Type 0} (each : List ℕ → Read A) (n : ℕ) → ((bytes : List ℕ) → length (listed (entries_from each n bytes)) ≤ n)
+    → (o : Read A) → length (listed (o >>= λ x. before x.0 (entries_from each n x.1))) ≤ suc n
+first-short each n short None = omega arith
+first-short each n short (Some x) = before-short x.0 (entries_from each n x.1) n (short x.1)
+
+entries-short : {A : Type 0} (each : List ℕ → Read A) (n : ℕ) (bytes : List ℕ) → length (listed (entries_from each n bytes)) ≤ n
+entries-short each zero bytes = omega arith
+entries-short each (suc n) bytes = first-short each n (entries-short each n) (each bytes)
+
+-- there are no more of them than were asked for
+pub few-instructions : (version n : ℕ) (bytes : List ℕ) → length (instructions_in version n bytes) ≤ n
+unfolding instructions_in
+few-instructions version n bytes = entries-short (instruction_from version) n bytes
 
 -- the next one, and those after it
 pub next-read : (version n : ℕ) (bytes rest : List ℕ) (i : Instruction) → instruction_from version bytes ≡ Some (i, rest) → instructions_stand version (suc n) bytes ≡ true

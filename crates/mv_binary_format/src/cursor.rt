@@ -72,7 +72,7 @@ impl<'a> Cursor<'a> {
     {
         let mut instructions = Vec::with_capacity(alloc, self.left)?;
         for instruction in self {
-            instructions.push(instruction)?;
+            instructions.push_reserved(instruction);
         }
         Ok(instructions)
     }
