@@ -142,7 +142,7 @@ fn addresses_differ(alloc: Global, m: &Module) -> Result<bool, AllocError>
 fn identifiers<'a>(alloc: Global, m: &Module<'a>) -> Result<Vec<&'a [u8]>, AllocError>
     ensures { IfOk result (λ v. map (λ name. name.now) v.items ≡ m.now.identifiers) }
 {
-    let mut names = Vec::new(alloc);
+    let mut names = Vec::with_capacity(alloc, m.identifier_count())?;
     for i in 0..m.identifier_count() {
         if let Some(name) = m.identifier(i) {
             names.push(name)?;
@@ -174,7 +174,7 @@ fn identifiers_differ(alloc: Global, m: &Module) -> Result<bool, AllocError>
 fn signature_codes(alloc: Global, m: &Module) -> Result<Vec<Vec<u32>>, AllocError>
     ensures { IfOk result (λ v. map (λ codes. codes.items) v.items ≡ map (map token_code) m.now.signatures) }
 {
-    let mut lists = Vec::new(alloc);
+    let mut lists = Vec::with_capacity(alloc, m.signature_count())?;
     for i in 0..m.signature_count() {
         if let Some(tokens) = m.signature(i) {
             lists.push(token_codes(alloc, tokens)?)?;
@@ -187,7 +187,7 @@ fn signature_codes(alloc: Global, m: &Module) -> Result<Vec<Vec<u32>>, AllocErro
 fn slices_of<'a>(alloc: Global, lists: &'a [Vec<u32>]) -> Result<Vec<&'a [u32]>, AllocError>
     ensures { IfOk result (λ v. map (λ slice. slice.now) v.items ≡ map (λ list. list.items) lists.now) }
 {
-    let mut slices = Vec::new(alloc);
+    let mut slices = Vec::with_capacity(alloc, lists.len())?;
     for list in lists {
         slices.push(list.as_slice())?;
     }
@@ -210,7 +210,7 @@ fn constant_keys<'a>(
 ) -> Result<Vec<(u32, &'a [u8])>, AllocError>
     ensures { IfOk result (λ v. map {B = ℕ × List ℕ} (λ k. (k.0, k.1.now)) v.items ≡ map {B = ℕ × List ℕ} (λ (c : ConstantEntry). (token_code c.token, c.bytes)) constants.now) }
 {
-    let mut keys = Vec::new(alloc);
+    let mut keys = Vec::with_capacity(alloc, constants.len())?;
     for constant in constants {
         keys.push((token_code(constant.token()), constant.bytes()))?;
     }

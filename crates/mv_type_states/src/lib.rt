@@ -42,8 +42,9 @@ fn flow_graphs(alloc: Global, m: &Bounded<'_>) -> Result<Vec<Cfg>, Refusal>
     ensures ok { IfOk result (λ graphs. AreGraphs m.now.functions (length m.now.functions) graphs.items) }
     ensures refused { IfErr result (IsRefusedIn 7 (FlowHolds m.now)) }
 {
-    let mut graphs = Vec::new(alloc);
-    for f in 0..m.module().functions().len() {
+    let count = m.module().functions().len();
+    let mut graphs = Vec::with_capacity(alloc, count)?;
+    for f in 0..count {
         let graph = mv_cfg::blocks(alloc, m, f)?;
         graphs.push(graph).map_err(AllocError::from)?;
     }
@@ -63,8 +64,10 @@ fn check_functions(
     ensures refused { IfErr result (IsRefusedIn 8 (TypesHold m.now)) }
 {
     let mut stacks = Vec::with_capacity(alloc, graphs.len())?;
+    // The functions use it one after the other.
+    let mut stack = Vec::new(alloc);
     for (f, graph) in graphs.iter().enumerate() {
-        let all = check_function(alloc, m, f, graph)?;
+        let all = check_function(alloc, m, f, graph, &mut stack)?;
         stacks.push(all).map_err(AllocError::from)?;
     }
     Ok(stacks)

@@ -37,12 +37,13 @@ fn carry(
 
 /// Accepts a function exactly where each instruction of each block finds the types that it needs, and each block begins
 /// and ends with none: the types before each. Each block is level already; `code` is the function's code, and `g` its flow
-/// graph.
+/// graph. The types are put on `stack`, whatever it contains.
 fn check_blocks(
     alloc: Global,
     scope: &Scope<'_, '_>,
     code: &[Instruction],
     g: &Cfg,
+    stack: &mut Vec<Token>,
 ) -> Result<StackTypes, Refusal>
     requires scope { IsScope scope.now }
     requires code { code.now ≡ scope.now.function.now.code }
@@ -54,20 +55,22 @@ fn check_blocks(
 {
     let mut all = StackTypes::with_room(alloc, code.len())?;
     // Each block leaves it empty.
-    let mut stack = Vec::new(alloc);
+    stack.clear();
     for block in &g.blocks {
-        carry(scope, &code[block.first..=block.last], &mut stack, &mut all)?;
+        carry(scope, &code[block.first..=block.last], stack, &mut all)?;
     }
     Ok(all)
 }
 
 /// Accepts function `f` exactly if each instruction of each block finds the types that it needs, and each block begins and
-/// ends with none; returns the types of the whole stack before each instruction. `g` is the function's flow graph.
+/// ends with none; returns the types of the whole stack before each instruction. `g` is the function's flow
+/// graph. The types are put on `stack`, whatever it contains.
 pub fn check_function(
     alloc: Global,
     m: &Bounded<'_>,
     f: usize,
     g: &Cfg,
+    stack: &mut Vec<Token>,
 ) -> Result<StackTypes, Refusal>
     requires function { f < length m.now.functions }
     requires graph { IfSome (slice_get m.now.functions f) (λ d. IsFlowGraph d.code g.now) }
@@ -77,5 +80,5 @@ pub fn check_function(
 {
     let scope = scope_of(m, f);
     mv_stack_use::check(m, f, g)?;
-    check_blocks(alloc, &scope, m.code(f), g)
+    check_blocks(alloc, &scope, m.code(f), g, stack)
 }
