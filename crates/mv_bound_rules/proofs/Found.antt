@@ -1,7 +1,7 @@
 -- Options one after the other, and entries of lists by their places: what a search finds, and what a filter keeps.
 use Rattle.mv_bound_rules.proofs.Common.{◌++◌, ◌+◌, All, All-contains, Bor, IsItemAt, option_copied, slice_get_past, slice_get_read, slice_get_within, take_more}
 use Rattle.mv_bound_rules.proofs.Common.{[], ℕ, ◌&&◌, ◌<◌, ◌>>=◌, ◌∙◌, ◌∷◌, ◌≡◌, ◌≤◌, Bool, IsSome, List, None, Option, Some, all_differ, ap, arith, both_ways}
-use Rattle.mv_bound_rules.proofs.Common.{cases_Bool, cases_lt, cases_order, cond, cons_option, false, filter, filter_map, find_index, first_so, get_or, get_or_from_slice_get, inl, inr, length}
+use Rattle.mv_bound_rules.proofs.Common.{cases_Bool, cases_lt, cases_order, cond, false, filter, find_index, first_so, get_or, get_or_from_slice_get, inl, inr, length}
 use Rattle.mv_bound_rules.proofs.Common.{list_all, list_any, none-some, not, not-true, option_map, option_map_or, or_cases, position, refl, same_Some, second_so, slice_get}
 use Rattle.mv_bound_rules.proofs.Common.{slice_get-get_or, subst, suc, sym, take, true, unwrap_or, zero}
 use Rattle.std.proofs.lemmas.List.Quantifiers.{position-Some}
@@ -160,43 +160,6 @@ kept_back p y x ys kept false q rest j e = (let r = rest j e in record { passes 
 pub kept_from : {A : Type 0} (p : A → Bool) (xs : List A) (j : ℕ) (x : A) → slice_get (filter p xs) j ≡ Some x → Kept p xs x
 kept_from p [] j x e = absurd (none-some x e)
 kept_from p (y ∷ ys) j x e = kept_back p y x ys (filter p ys) (p y) refl (λ i q. kept_from p ys i x q) j e
-
--- what a filter makes
-pub made_at : {A B : Type 0} (f : A → Option B) (xs : List A) (k : ℕ) (x : A) (y : B) → slice_get xs k ≡ Some x → f x ≡ Some y → Somewhere (filter_map f xs) y
-made_at f [] k x y e h = absurd (none-some x e)
-made_at f (z ∷ zs) zero x y e h = (0, grind arith)
-made_at f (z ∷ zs) (suc k) x y e h =
-    let r = made_at f zs k x y e h in
-    elim (f z) as (λ o. Somewhere (cons_option o (filter_map f zs)) y) [ None ↦ r | Some w ↦ (suc r.0, r.1) ]
-
-pub record Made {A B : Type 0} (f : A → Option B) (xs : List A) (y : B) : Type 0 where
-  pub entry : A
-  pub place : ℕ
-  pub at : slice_get xs place ≡ Some entry
-  pub makes : f entry ≡ Some y
-
-made_back : {A B : Type 0} (f : A → Option B) (z : A) (zs : List A) (made : List B) (y : B) (o : Option B) → f z ≡ o → ((i : ℕ) → slice_get made i ≡ Some y → Made f zs y) → (j : ℕ)
-    → slice_get (cons_option o made) j ≡ Some y → Made f (z ∷ zs) y
-made_back f z zs made y None q rest j e = (let r = rest j e in record { entry = r.entry; place = suc r.place; at = r.at; makes = r.makes })
-made_back f z zs made y (Some w) q rest zero e = record { entry = z; place = 0; at = refl; makes = q ∙ e }
-made_back f z zs made y (Some w) q rest (suc j) e = (let r = rest j e in record { entry = r.entry; place = suc r.place; at = r.at; makes = r.makes })
-
-pub made_from : {A B : Type 0} (f : A → Option B) (xs : List A) (j : ℕ) (y : B) → slice_get (filter_map f xs) j ≡ Some y → Made f xs y
-made_from f [] j y e = absurd (none-some y e)
-made_from f (z ∷ zs) j y e = made_back f z zs (filter_map f zs) y (f z) refl (λ i q. made_from f zs i y q) j e
-
--- where none is found, none passes
-pub none_passes : {A : Type 0} (p : A → Bool) (xs : List A) (k : ℕ) (x : A) → find_index p xs ≡ None → slice_get xs k ≡ Some x → p x ≡ true → ⊥
-none_passes p [] k x none at passes = none-some x at
-none_passes p (y ∷ ys) zero x none at passes =
-    let same : p y ≡ true = ap p (same_Some y x at) ∙ passes in
-    none-some 0 (sym none ∙ ap (λ b. cond b (Some 0) (option_map suc (find_index p ys))) same)
-none_passes p (y ∷ ys) (suc k) x none at passes = none_passes p ys k x (rest (p y) (find_index p ys) none) at passes
-  where
-    rest : (b : Bool) (o : Option ℕ) → cond b (Some 0) (option_map suc o) ≡ None → o ≡ None
-    rest true o e = absurd cc
-    rest false None e = refl
-    rest false (Some k) e = absurd cc
 
 -- what holds of each holds at each place
 pub at-all : {A : Type 0} (P : A → Type 0) (xs : List A) (k : ℕ) (x : A) → All P xs → slice_get xs k ≡ Some x → P x

@@ -1,19 +1,10 @@
 -- What a function's index leads to.
-use Rattle.mv_bound_rules.proofs.Common.{[], ℕ, ◌++◌, ◌+◌, ◌<◌, ◌∷◌, ◌≡◌, IfSome, List, None, Option, Some, arith, length, length-append, refl, suc, sym, zero, and_parts}
-use Rattle.mv_bound_rules.proofs.Common.{ltb-true, none-some, slice_get, option_map, FunctionDefinition, Module, FunctionHandle, Token, InBounds, function_in, IsDefined}
-use Rattle.std.proofs.Common.{IsSome}
+use Rattle.mv_bound_rules.proofs.Common.{[], ℕ, ◌++◌, ◌+◌, ◌<◌, ◌≡◌, IfSome, List, None, Option, Some, length, length-append, refl, sym, and_parts}
+use Rattle.mv_bound_rules.proofs.Common.{ltb-true, slice_get, FunctionDefinition, Module, FunctionHandle, Token, InBounds, function_in, IsDefined}
 use Rattle.mv_move_types.specs.Options.{◌>>=◌}
 use Rattle.mv_move_types.specs.Module.{parameter_tokens, result_tokens, local_tokens, local_type}
 use Rattle.mv_bound_rules.specs.Bounds.{function_handle_in, local_count}
 use Rattle.mv_bound_rules.proofs.Entries.{all_at}
-
--- what an index below the length reads
-pub some_there : {A B : Type 0} (f : A → B) (o : Option A) (xs : List B) (i j : ℕ) → option_map f o ≡ slice_get xs i → i ≡ j → j < length xs → IsSome o
-some_there f None [] i j e s h = absurd (omega (arith, h))
-some_there f None (x ∷ xs) zero j e s h = absurd (none-some x e)
-some_there f None (x ∷ xs) (suc i) zero e s h = absurd (omega (arith, s))
-some_there f None (x ∷ xs) (suc i) (suc j) e s h = some_there f None xs i j e (omega (arith, s)) (omega (arith, h))
-some_there f (Some y) xs i j e s h = refl
 
 module _ (m : Module) (bounds : InBounds m) where
   -- a function names a handle of the table, and a signature
