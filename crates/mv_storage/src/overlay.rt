@@ -98,6 +98,15 @@ impl Overlay<'_> {
         self.storage.word(key, at)
     }
 
+    /// The word at a place among those that the run sees under a key, where that is known with no search: such a key was looked up
+    /// lately. Where it isn't known, nothing is said.
+    #[inline(always)]
+    pub fn known_word(&self, key: &Key, at: usize) -> Option<u128>
+        ensures { MatchOption result (Unit {0}) (λ word. option_and_then (λ words. slice_get words at) (words_under self.now.storage.now.current key.now) ≡ Some word) }
+    {
+        self.storage.known_word(key, at)
+    }
+
     /// Whether the run sees a value under a key.
     #[inline]
     pub fn exists(&self, key: &Key) -> bool

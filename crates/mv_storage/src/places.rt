@@ -4,9 +4,9 @@ ghost use Rattle.std.specs.Prelude.{◌≡◌, ◌<◌, ◌↔◌, ◌∷◌, �
 ghost use Rattle.std.specs.BTreeMap.{get, IsOrdered};
 ghost use Rattle.mv_move_types.specs.declared.tables.Key.{Key};
 ghost use Rattle.mv_machine.specs.State.{same_key};
-ghost use Rattle.std.specs.Prelude.{◌≤◌, ◌+◌, IfSome, take, drop, option_map, option_and_then, slice_get};
+ghost use Rattle.std.specs.Prelude.{◌≤◌, ◌+◌, IfSome, MatchOption, take, drop, option_map, option_and_then, slice_get};
 ghost use Rattle.std.specs.Borrow.{sem};
-ghost use Rattle.mv_storage.specs.Slots.{key_cmp, slot_at, free_after, IsSound, IsVacantAt, IsRemembered, IsOwn, of_layer};
+ghost use Rattle.mv_storage.specs.Slots.{key_cmp, slot_at, free_after, IsSound, IsVacantAt, IsRemembered, IsOwn, of_layer, value_at};
 ghost use Rattle.mv_storage.specs.Lending.{LendsAt};
 ghost use Rattle.mv_storage.specs.declared.slot.Slot.{Slot};
 ghost use Rattle.mv_storage.specs.declared.slot.Layer.TheVariants.{Current};
@@ -120,6 +120,16 @@ impl Places {
         let found = self.place(&key)?;
         known.note(key, found);
         Some(found)
+    }
+
+    // The word at a place among those that the run sees under a key, if the key's place is remembered.
+    #[inline(always)]
+    pub(crate) fn known_word(&self, known: &Known, key: &Key, at: usize) -> Option<u128>
+        requires { IsRemembered self.now.tree known.now.lines }
+        ensures { MatchOption result (Unit {0}) (λ word. option_and_then (λ words. slice_get words at) (value_at Current self.now key.now) ≡ Some word) }
+    {
+        let place = known.recalled(&self.tree, key)?;
+        self.slots.get(place)?.word(at)
     }
 
     // Whether a place is free.

@@ -117,14 +117,6 @@ impl Slot {
         )
     }
 
-    // Whether both versions of a value stand here.
-    #[inline(always)]
-    pub(crate) fn has_versions(&self) -> bool
-        ensures { result ≡ true → is_change self.now ≡ true }
-    {
-        matches!(self, Slot::Changed(_))
-    }
-
     // Whether it is no key's.
     #[inline]
     pub(crate) fn is_vacant(&self) -> bool
@@ -324,15 +316,16 @@ impl Slot {
         }
     }
 
-    // A place, if so many words are there.
+    // Whether both versions of a value stand here, and so many words of the run's are there from a place on.
     #[inline(always)]
-    pub(crate) fn place_if(&self, place: usize, from: usize, width: usize) -> Option<usize>
-        ensures { result ≡ cond (is_some (option_and_then (piece from width) (of_layer Current self.now))) (Some place) None }
+    pub(crate) fn is_ready(&self, from: usize, width: usize) -> bool
+        ensures own { result ≡ true → IsOwn self.now }
+        ensures there { result ≡ true → is_some (option_and_then (piece from width) (of_layer Current self.now)) ≡ true }
     {
-        if self.holds(from, width) {
-            return Some(place);
+        match self {
+            Slot::Changed(_) => self.holds(from, width),
+            _ => false,
         }
-        None
     }
 
     // Makes sure that the run has what it sees to itself, and gives its place, if so many words are there. It fails only where

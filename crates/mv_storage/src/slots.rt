@@ -7,7 +7,7 @@ ghost use Rattle.mv_move_types.specs.declared.tables.Key.{Key};
 ghost use Rattle.mv_machine.specs.State.{same_key};
 ghost use Rattle.mv_storage.specs.WordLists.{piece};
 ghost use Rattle.mv_storage.specs.Slots.{key_cmp, value_at, ShowsSame, ShowsAt, is_change, is_gone, KeepsPinned, IsSound, ArePlaced, IsRemembered, IsSettling, IsSettledAt, IsTracked, IsSettled, IsOwnAt};
-ghost use Rattle.std.specs.Prelude.{IfSome};
+ghost use Rattle.std.specs.Prelude.{◌≤◌, IfSome};
 ghost use Rattle.mv_storage.specs.declared.slot.Layer.{Layer};
 ghost use Rattle.mv_storage.specs.declared.slot.Layer.TheVariants.{Committed, Current};
 
@@ -19,27 +19,8 @@ use mv_move_types::Key;
 use std::alloc::{AllocError, Global};
 
 // Makes sure that the key of a slot that is about to be changed is among the keys touched.
-#[inline(always)]
+#[inline]
 fn note(
-    slot: &Slot,
-    touched: &mut Vec<(Key, usize)>,
-    key: &Key,
-    place: usize,
-) -> Result<(), AllocError>
-    ensures noted { OnOk result (is_change slot.now ≡ false → list_any (λ t. same_key key.now t.0) touched.new.items ≡ true) }
-    ensures kept { (q : Key) → list_any (λ t. same_key q t.0) touched.old.items ≡ true → list_any (λ t. same_key q t.0) touched.new.items ≡ true }
-    ensures placed { (tree : BTreeMap Key ℕ) → get key_cmp tree key.now ≡ Some place → ArePlaced tree touched.old.items → ArePlaced tree touched.new.items }
-{
-    if slot.has_versions() {
-        return Ok(());
-    }
-    note_any(slot, touched, *key, place)
-}
-
-// The same for any slot, kept out of the common path.
-#[cold]
-#[inline(never)]
-fn note_any(
     slot: &Slot,
     touched: &mut Vec<(Key, usize)>,
     key: Key,
@@ -94,53 +75,38 @@ pub(crate) fn take_from(
     let Some(place) = places.recall(known, key) else {
         return Ok(None);
     };
-    note(&places.slots[place], touched, key, place)?;
+    note(&places.slots[place], touched, *key, place)?;
     places.slots[place].take(alloc)
 }
 
-// Makes sure that the run has what it sees under a key to itself, and gives its place, if so many words are there from a place on.
+// The place of a key that is remembered, where the run has a value to itself already, and so many words are there from a place
+// on, one at least.
 #[inline(always)]
-pub(crate) fn own_in(
-    places: &mut Places,
-    touched: &mut Vec<(Key, usize)>,
-    known: &mut Known,
+pub(crate) fn ready_in(
+    places: &Places,
+    known: &Known,
     key: &Key,
     from: usize,
     width: usize,
-    alloc: Global,
-) -> Result<Option<usize>, AllocError>
-    requires tracked { IsTracked places.old touched.old.items }
-    requires remembered { IsRemembered places.old.tree known.old.lines }
-    ensures tracked { IsTracked places.new touched.new.items }
-    ensures remembered { IsRemembered places.new.tree known.new.lines }
-    ensures pinned { KeepsPinned places.old places.new }
-    ensures same { (layer : Layer) → ShowsSame layer places.old places.new }
-    ensures none { IfOk result (λ found. is_some found ≡ is_some (option_and_then (piece from width) (value_at Current places.old key.now))) }
-    ensures own { IfOk result (λ found. IfSome found (IsOwnAt places.new key.now)) }
+) -> Option<usize>
+    requires sound { IsSound places.now }
+    requires remembered { IsRemembered places.now.tree known.now.lines }
+    ensures own { IfSome result (IsOwnAt places.now key.now) }
+    ensures there { is_some result ≡ true → is_some (option_and_then (piece from width) (value_at Current places.now key.now)) ≡ true }
+    ensures some { is_some result ≡ true → 1 ≤ width }
 {
-    if let Some(place) = known.recalled(&places.tree, key) {
-        if places.slots[place].has_versions() {
-            return Ok(places.slots[place].place_if(place, from, width));
-        }
+    let place = known.recalled(&places.tree, key)?;
+    if width > 0 && places.slots[place].is_ready(from, width) {
+        return Some(place);
     }
-    own_any(
-        places,
-        touched,
-        known,
-        key.address,
-        key.place,
-        key.index,
-        from,
-        width,
-        alloc,
-    )
+    None
 }
 
-// The same for any slot, kept out of the common path, which then pays nothing for it. The key is passed in its parts, since a
-// whole one would be spilled to memory on that path.
+// Makes sure that the run has what it sees under a key to itself, and gives its place, if so many words are there from a place
+// on. The key is passed in its parts, since a whole one would be spilled to memory where the run has the value already.
 #[cold]
 #[inline(never)]
-fn own_any(
+pub(crate) fn own_in(
     places: &mut Places,
     touched: &mut Vec<(Key, usize)>,
     known: &mut Known,
@@ -168,7 +134,7 @@ fn own_any(
     let Some(at) = places.recall(known, &key) else {
         return Ok(None);
     };
-    note(&places.slots[at], touched, &key, at)?;
+    note(&places.slots[at], touched, key, at)?;
     places.slots[at].own_place(at, from, width, alloc)
 }
 
@@ -252,8 +218,21 @@ pub(crate) fn put_into(
 }
 
 // Makes one layer of the touched slots the committed one, and takes out those that are then empty, unless an open block needs
-// their places.
+// their places. Where none is touched it costs nothing.
+#[inline(always)]
 pub(crate) fn settle(places: &mut Places, touched: &mut Vec<(Key, usize)>, layer: Layer)
+    requires { IsTracked places.old touched.old.items }
+    ensures settled { IsSettled places.new touched.new.items }
+    ensures same { ShowsSame layer places.old places.new }
+    ensures pinned { layer ≡ Committed → KeepsPinned places.old places.new }
+{
+    if !touched.is_empty() {
+        settle_all(places, touched, layer);
+    }
+}
+
+// The same where some are touched.
+fn settle_all(places: &mut Places, touched: &mut Vec<(Key, usize)>, layer: Layer)
     requires { IsTracked places.old touched.old.items }
     ensures settled { IsSettled places.new touched.new.items }
     ensures same { ShowsSame layer places.old places.new }

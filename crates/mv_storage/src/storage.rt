@@ -17,7 +17,7 @@ use crate::changes::{Changes, firsts, newest};
 use crate::known::Known;
 use crate::places::Places;
 use crate::slot::Layer;
-use crate::slots::{own_in, place_for, put_into, settle, take_from};
+use crate::slots::{own_in, place_for, put_into, ready_in, settle, take_from};
 use crate::{Entries, Overlay, Value};
 use mv_move_types::{Address, Key};
 use mv_undo::Marks;
@@ -304,6 +304,14 @@ impl Storage {
         }
     }
 
+    // The word at a place among those that the run sees under a key, where that is known with no search.
+    #[inline(always)]
+    pub(crate) fn known_word(&self, key: &Key, at: usize) -> Option<u128>
+        ensures { MatchOption result (Unit {0}) (λ word. option_and_then (λ words. slice_get words at) (words_under self.now.current key.now) ≡ Some word) }
+    {
+        self.places.known_word(&self.known, key, at)
+    }
+
     // The words that the run sees under a key.
     #[inline]
     pub(crate) fn find(&self, key: &Key) -> Option<&[u128]>
@@ -380,17 +388,28 @@ impl Storage {
         ensures there { there.new ≡ false → option_and_then (piece from width) (words_under self.old.current key.now) ≡ None }
         ensures ascends { Ascends self.old.current }
     {
-        let own = own_in(
-            &mut self.places,
-            &mut self.touched,
-            &mut self.known,
-            key,
-            from,
-            width,
-            self.alloc,
-        );
-        let place = own_place(own, width, there, lent);
-        self.places.words_at(place, from, width)
+        match ready_in(&self.places, &self.known, key, from, width) {
+            Some(place) => {
+                *there = true;
+                *lent = true;
+                self.places.words_at(Some(place), from, width)
+            }
+            None => {
+                let own = own_in(
+                    &mut self.places,
+                    &mut self.touched,
+                    &mut self.known,
+                    key.address,
+                    key.place,
+                    key.index,
+                    from,
+                    width,
+                    self.alloc,
+                );
+                let place = own_place(own, width, there, lent);
+                self.places.words_at(place, from, width)
+            }
+        }
     }
 
     // Takes the value under a key out of what the run sees. It fails only where memory runs out, and nothing changes then.

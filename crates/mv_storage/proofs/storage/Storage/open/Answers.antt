@@ -1,4 +1,5 @@
-use Rattle.mv_storage.proofs.Common.{◌∙◌, ap, refl, subst, sym, ℕ, Ascends, words_under, Current}
+use Rattle.mv_storage.proofs.Common.{◌∙◌, ◌≡◌, Some, ap, false, is_some, refl, subst, sym, true, ℕ, Ascends, words_under, value_at, Current}
+use Rattle.std.specs.Prelude.{Ok}
 use Rattle.std.specs.Option.{option_and_then}
 use Rattle.mv_storage.specs.WordLists.{piece}
 use Rattle.std.specs.BTreeMap.{BTreeMap}
@@ -6,17 +7,63 @@ use Rattle.mv_move_types.specs.declared.tables.Key.{Key}
 use Rattle.mv_storage.specs.Map.{Layers, written_if}
 use Rattle.mv_storage.specs.Slots.{IsRemembered, layers, written_at}
 use Rattle.mv_storage.proofs.Undoing.{keeps-undoable, with_marks, written-marks}
-use Rattle.mv_storage.proofs.Lent.{can-lend, none-there, opened-layers, opened-pinned, opened-tracked, opened-tree, opened-words}
+use Rattle.mv_storage.proofs.Lent.{Found, can-lend, none-there, opened-layers, opened-pinned, opened-tracked, opened-tree, opened-words}
 use Rattle.mv_storage.proofs.Shown.{Ascends-shown}
 use Rattle.mv_storage.proofs.storage.Storage.open.Goals as goal
 
-pub words_at-requires : goal.words_at-requires
-words_at-requires c =
+-- the run has the value to itself already
+
+pub invariant_of-self-lent : goal.invariant_of-self-lent
+invariant_of-self-lent c = λ w.
+    let m = c.self.inside.places in
+    let had = c.self.invariant.0 in
+    let key = c.args.key.now in
+    let p = c.in-Some.place in
+    let there : true ≡ is_some (option_and_then (piece c.args.from c.args.width) (value_at Current m key)) = sym (c.in-Some.ensures.there refl) in
+    let how : Found m key c.args.width (Some p) true (Ok (Some p)) = (c.in-Some.ensures.own, (refl, c.in-Some.ensures.some refl, refl)) in (
+      opened-tracked m m c.self.inside.touched.items had had.sound.ordered (λ layer q. refl) key c.args.from c.args.width (Ok (Some p)) there (Some p) true how w,
+      subst (λ (tree : BTreeMap Key ℕ). IsRemembered tree c.self.inside.known.lines)
+          (sym (opened-tree m m c.self.inside.touched.items had had.sound.ordered (λ layer q. refl) key c.args.from c.args.width (Ok (Some p)) there (Some p) w)) c.self.invariant.1,
+      keeps-undoable m (written_at m (Some p) c.args.from w) c.self.inside.undo.items
+          (opened-pinned m m c.self.inside.touched.items had had.sound.ordered (λ layer q. refl) key c.args.from c.args.width (Ok (Some p)) there (Some p) true how w) c.self.invariant.2,
+      c.self.invariant.3,
+      c.self.invariant.4,
+    )
+
+pub returns-in-Some : goal.returns-in-Some
+returns-in-Some c =
+    let m = c.self.inside.places in
+    let touched = c.self.inside.touched.items in
+    let had = c.self.invariant.0 in
+    let ordered = had.sound.ordered in
+    let key = c.args.key.now in
+    let p = c.in-Some.place in
+    let there : true ≡ is_some (option_and_then (piece c.args.from c.args.width) (value_at Current m key)) = sym (c.in-Some.ensures.there refl) in
+    let how : Found m key c.args.width (Some p) true (Ok (Some p)) = (c.in-Some.ensures.own, (refl, c.in-Some.ensures.some refl, refl)) in (
+      (
+        refl,
+        λ w. ap (with_marks c.self.inside.undo.items c.self.inside.marks) (opened-layers m m touched had ordered (λ layer q. refl) key c.args.from c.args.width (Ok (Some p)) there (Some p) true how w)
+            ∙ written-marks c.self.inside.undo.items c.self.inside.marks true c.args.width (layers m) key c.args.from w
+            ∙ ap (λ (l : Layers). written_if true c.args.width l key c.args.from w) c.self.view_is,
+      ),
+      record {
+        loan = tt;
+        words = λ is. opened-words m m touched had ordered (λ layer q. refl) key c.args.from c.args.width (Ok (Some p)) there (Some p) true how c.words_at.result.now (λ e. (p, refl)) c.words_at.ensures.words c.words_at.ensures.none is
+            ∙ ap (λ (l : Layers). option_and_then (piece c.args.from c.args.width) (words_under l.current key)) c.self.view_is;
+        there = λ is. let e : true ≡ false = is in cc;
+        ascends = subst Ascends (ap (λ (l : Layers). l.current) c.self.view_is) (Ascends-shown Current m.slots.items m.tree.entries ordered);
+      },
+    )
+
+-- any other case
+
+pub words_at-requires-in-None : goal.words_at-requires-in-None
+words_at-requires-in-None c =
     can-lend c.self.inside.places c.own_in-own.new.places c.own_in-own.new.touched.items c.own_in-own.ensures.tracked c.self.invariant.0.sound.ordered c.own_in-own.ensures.same c.args.key.now c.args.from c.args.width c.own_in-own.result c.own_in-own.ensures.none
     c.own_place-place.result c.own_place-place.new.lent (c.own_in-own.ensures.own, c.own_place-place.ensures.place)
 
-pub invariant_of-self-lent : goal.invariant_of-self-lent
-invariant_of-self-lent c = λ w. (
+pub invariant_of-self-lent-in-None : goal.invariant_of-self-lent-in-None
+invariant_of-self-lent-in-None c = λ w. (
   opened-tracked c.self.inside.places c.own_in-own.new.places c.own_in-own.new.touched.items c.own_in-own.ensures.tracked c.self.invariant.0.sound.ordered c.own_in-own.ensures.same c.args.key.now c.args.from c.args.width c.own_in-own.result c.own_in-own.ensures.none
       c.own_place-place.result c.own_place-place.new.lent (c.own_in-own.ensures.own, c.own_place-place.ensures.place) w,
   subst (λ (tree : BTreeMap Key ℕ). IsRemembered tree c.own_in-own.new.known.lines)
@@ -29,8 +76,8 @@ invariant_of-self-lent c = λ w. (
   c.self.invariant.4,
 )
 
-pub returns : goal.returns
-returns c =
+pub returns-in-None : goal.returns-in-None
+returns-in-None c =
     let m = c.self.inside.places in
     let n = c.own_in-own.new.places in
     let touched = c.own_in-own.new.touched.items in
@@ -51,7 +98,7 @@ returns c =
       ),
       record {
         loan = tt;
-        words = λ is. opened-words m n touched had ordered same key c.args.from c.args.width own there place lent (c.own_in-own.ensures.own, how) c.words_at.result.now c.own_place-place.ensures.lent c.words_at.ensures.words c.words_at.ensures.none is
+        words = λ is. opened-words m n touched had ordered same key c.args.from c.args.width own there place lent (c.own_in-own.ensures.own, how) c.words_at-in-None.result.now c.own_place-place.ensures.lent c.words_at-in-None.ensures.words c.words_at-in-None.ensures.none is
             ∙ ap (λ (l : Layers). option_and_then (piece c.args.from c.args.width) (words_under l.current key)) c.self.view_is;
         there = λ is. ap (λ (l : Layers). option_and_then (piece c.args.from c.args.width) (words_under l.current key)) (sym c.self.view_is)
             ∙ none-there m key c.args.from c.args.width ordered own c.own_place-place.new.there there c.own_place-place.ensures.there c.own_place-place.ensures.refused is;

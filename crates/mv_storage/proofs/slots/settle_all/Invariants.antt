@@ -1,6 +1,6 @@
 use Rattle.mv_storage.proofs.Common.{◌≡◌, length, AreNoted, IsSound, ShowsSame, Committed}
 use Rattle.mv_storage.specs.Slots.{KeepsPinned}
-use Rattle.mv_storage.proofs.slots.settle.Given as goal
+use Rattle.mv_storage.proofs.slots.settle_all.Given as goal
 use Rattle.mv_storage.proofs.Steps.{AreSettling}
 
 -- what is left to touch holds each slot that is changed, and the layer shows what it showed

@@ -1,5 +1,5 @@
 use Rattle.mv_storage.proofs.Steps.{placed-push}
-use Rattle.mv_storage.proofs.slots.note_any.Goals as goal
+use Rattle.mv_storage.proofs.slots.note.Goals as goal
 
 pub returns-in_ok-push-clause-placed : goal.returns-in_ok-push-clause-placed
 returns-in_ok-push-clause-placed c tree at placed =

@@ -3,7 +3,7 @@ use Rattle.mv_storage.specs.WordLists.{piece}
 use Rattle.mv_storage.proofs.PlaceLemmas.{place-read}
 use Rattle.mv_storage.proofs.SlotReads.{own-at, set-read, some-cond}
 use Rattle.mv_storage.proofs.Steps.{wrote}
-use Rattle.mv_storage.proofs.slots.own_any.Goals as goal
+use Rattle.mv_storage.proofs.slots.own_in.Goals as goal
 
 pub returns : goal.returns
 returns c =

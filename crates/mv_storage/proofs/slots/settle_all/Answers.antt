@@ -1,6 +1,6 @@
 use Rattle.mv_storage.proofs.Common.{◌∙◌, refl, subst, AreNoted}
 use Rattle.mv_storage.proofs.Steps.{settling-placed, settling-last, settling-rest, noted-rest, AreSettling}
-use Rattle.mv_storage.proofs.slots.settle.Goals as goal
+use Rattle.mv_storage.proofs.slots.settle_all.Goals as goal
 
 pub loop-key-init : goal.loop-key-init
 loop-key-init c = record {
