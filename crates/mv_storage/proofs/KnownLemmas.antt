@@ -1,34 +1,11 @@
 -- The keys that are remembered with their places.
-use Rattle.mv_storage.proofs.Common.{[], ℕ, ⊎_elim, ◌∙◌, ◌∷◌, ◌≡◌, ◌⊎◌, List, None, Option, Some, ap, cond, false, inl, inr, slice_get, slice_set, subst, suc, sym, true, get, key_cmp, same_key, Key, Places}
-use Rattle.std.proofs.Common.{zero}
+use Rattle.mv_storage.proofs.Common.{ℕ, ⊎_elim, ◌∙◌, ◌≡◌, ◌⊎◌, List, None, Option, Some, ap, cond, false, slice_get, sym, true, get, key_cmp, same_key, Key, Places}
 use Rattle.std.proofs.lemmas.Bool.{cases_Bool}
-use Rattle.std.specs.Prelude.{MatchOption, replicate}
+use Rattle.std.specs.Prelude.{MatchOption}
 use Rattle.std.specs.BTreeMap.{BTreeMap}
-use Rattle.mv_storage.specs.Slots.{IsRemembered, IsForgotten, IsNotedDown}
+use Rattle.mv_storage.specs.Slots.{IsRemembered}
 use Rattle.mv_storage.proofs.Keys.{same_key-to}
 use Rattle.mv_storage.proofs.PlaceLemmas.{HasPlace}
-
-pub set-has : {X : Type 0} (xs : List X) (i j : ℕ) (x y : X) → slice_get (slice_set xs i x) j ≡ Some y → (Some y ≡ Some x) ⊎ (slice_get xs j ≡ Some y)
-set-has [] i j x y e = inr e
-set-has (z ∷ zs) zero zero x y e = inl (sym e)
-set-has (z ∷ zs) zero (suc j) x y e = inr e
-set-has (z ∷ zs) (suc i) zero x y e = inr e
-set-has (z ∷ zs) (suc i) (suc j) x y e = set-has zs i j x y e
-
-none-there : (n i : ℕ) (t : Key × ℕ) (o : Option ℕ) → slice_get (replicate n None) i ≡ Some (Some t) → o ≡ Some t.1
-none-there zero i t o e = cc
-none-there (suc n) zero t o e = cc
-none-there (suc n) (suc i) t o e = none-there n i t o e
-
-pub forgotten : (n : ℕ) → IsForgotten (replicate n None)
-forgotten n tree i t e = none-there n i t (get key_cmp tree t.0) e
-
-pub noted-down : (key : Key) (place : ℕ) (lines : List (Option (Key × ℕ))) (i : ℕ) → IsNotedDown key place lines (slice_set lines i (Some (key, place)))
-noted-down key place lines i tree at had j t e =
-    ⊎_elim
-    (λ (here : Some (Some t) ≡ Some (Some (key, place))). let one : t ≡ (key, place) = cc in subst (λ (u : Key × ℕ). get key_cmp tree u.0 ≡ Some u.1) (sym one) at)
-    (λ (was : slice_get lines j ≡ Some (Some t)). had j t was)
-    (set-has lines i j (Some (key, place)) (Some t) e)
 
 pub recalled-at : (tree : BTreeMap Key ℕ) (lines : List (Option (Key × ℕ))) (i : ℕ) (line : Option (Key × ℕ)) (key : Key) (r : Option ℕ) → IsRemembered tree lines → slice_get lines i ≡ Some line
     → MatchOption r (Unit {0}) (λ p. line ≡ Some (key, p)) → MatchOption r (Unit {0}) (λ p. get key_cmp tree key ≡ Some p)

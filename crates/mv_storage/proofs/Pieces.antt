@@ -1,10 +1,9 @@
 -- Pieces of words that are there.
-use Rattle.mv_storage.proofs.Common.{ℕ, ◌∙◌, ◌≡◌, ◌≤◌, ◌⊎◌, Bool, List, None, Option, Some, ap, arith, cond, false, inl, inr, is_some, length, option_and_then, refl, sym, take, true}
+use Rattle.mv_storage.proofs.Common.{ℕ, ◌∙◌, ◌≡◌, ◌≤◌, Bool, List, None, Option, Some, cond, false, is_some, length, option_and_then, refl, sym, take, true}
 use Rattle.std.proofs.Common.{◌+◌, drop, nat_le}
 use Rattle.std.specs.Prelude.{IfSome}
 use Rattle.std.specs.Option.{option_map}
-use Rattle.std.proofs.lemmas.Bool.{cases_Bool, le-leb, leb-true}
-use Rattle.std.proofs.lemmas.List.{length-drop, length-take}
+use Rattle.std.proofs.lemmas.Bool.{le-leb, leb-true}
 use Rattle.mv_storage.specs.WordLists.{piece}
 
 found : (b : Bool) (words : List ℕ) → is_some (cond b (Some words) None) ≡ b
@@ -20,17 +19,3 @@ piece-fits from width (Some old) h = leb-true (from + width) (length old) (sym (
 pub piece-is : (from width : ℕ) (o : Option (List ℕ)) → IfSome o (λ old. from + width ≤ length old) → option_and_then (piece from width) o ≡ option_map (λ old. take width (drop from old)) o
 piece-is from width None h = refl
 piece-is from width (Some old) h = rw (le-leb (from + width) (length old) h) refl
-
--- a piece is as long as it is wide
-pub piece-length : (from width : ℕ) (o : Option (List ℕ)) (now : List ℕ) → Some now ≡ option_and_then (piece from width) o → length now ≡ width
-piece-length from width None now e = cc
-piece-length from width (Some old) now e = by (cases_Bool (nat_le (from + width) (length old)))
-  where
-    by : (nat_le (from + width) (length old) ≡ true) ⊎ (nat_le (from + width) (length old) ≡ false) → length now ≡ width
-    by (inl room) =
-        let is : Some now ≡ Some (take width (drop from old)) = e ∙ ap (λ b. cond b (Some (take width (drop from old))) None) room in
-        let same : now ≡ take width (drop from old) = cc in
-        omega (arith, ap length same, leb-true (from + width) (length old) room, length-take width (drop from old), length-drop from old)
-    by (inr none) =
-        let is : Some now ≡ None = e ∙ ap (λ b. cond b (Some (take width (drop from old))) None) none in
-        cc

@@ -1,6 +1,6 @@
 -- Ranges of keys, and the entries that they show.
 use Rattle.mv_storage.proofs.Common.{[], ℕ, ⊎_elim, ◌∙◌, ◌∷◌, ◌≡◌, ◌≤◌, ◌==◌, Bool, List, None, Option, Some, ap, arith, false, length, refl, slice_get, sym, true, nat_tests}
-use Rattle.mv_storage.proofs.Common.{is_eq, is_lt, Less, Key, FlatEntry, key_before, layer_at, shown, key_cmp, Committed, Layer, Places, Slot}
+use Rattle.mv_storage.proofs.Common.{is_lt, Less, Key, FlatEntry, key_before, layer_at, shown, key_cmp, Committed, Layer, Places, Slot}
 use Rattle.std.proofs.Common.{ap₂, ◌+◌, ◌<◌, ◌^◌, ◌&&◌, nat_le, nat_lt, not}
 use Rattle.std.specs.declared.cmp.Ordering.{Ordering}
 use Rattle.std.specs.declared.cmp.Ordering.TheVariants.{Equal, Greater}
@@ -60,12 +60,6 @@ pub from-key : (key q : Key) → range_contains key_cmp (Included key) Unbounded
 from-key key q =
     and-true (is_le (key_cmp key q)) ∙ not-before (key_cmp key q)
     ∙ ap (λ o. not (is_lt o)) (sym (key_cmp_total.antisymm q key)) ∙ ap not (sym (key_before-is q key))
-
--- one key
-both-le : (o : Ordering) → (is_le o && not (is_lt o)) ≡ is_eq o
-both-le Less = refl
-both-le Equal = refl
-both-le Greater = refl
 
 -- the first of all keys at an address
 abbrev pub first_key : ℕ → Key

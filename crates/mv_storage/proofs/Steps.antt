@@ -1,14 +1,14 @@
 -- What a step of the code on its slots does to what they show.
 use Rattle.mv_storage.proofs.Common.{[], ℕ, ⊎_elim, ◌++◌, ◌||◌, ◌∙◌, ◌∷◌, ◌≡◌, ◌≤◌, Bool, List, None, Option, Some, ap, arith, cond, false, inl, inr, is_some, refl, slice_get}
 use Rattle.mv_storage.proofs.Common.{slice_index_or, slice_set, subst, sym, true, IsOrdered, get, is_at, lookup, option_and_then, Key, FlatEntry, same_key, words_under, AreNoted}
-use Rattle.mv_storage.proofs.Common.{IsSettling, IsSound, IsTracked, ShowsSame, is_changed, is_vacant, key_cmp, layer_at, of_layer, seen, slot_at, value_at, Places, Layer}
+use Rattle.mv_storage.proofs.Common.{IsSettling, IsSound, IsTracked, ShowsSame, is_changed, is_vacant, key_cmp, layer_at, of_layer, slot_at, value_at, Places, Layer}
 use Rattle.mv_storage.proofs.Common.{Committed, Current, Slot, Vacant}
 use Rattle.std.specs.BTreeMap.{BTreeMap}
 use Rattle.std.specs.List.{list_any}
 use Rattle.std.proofs.lemmas.List.Folds.{list_any-append}
 use Rattle.std.proofs.lemmas.Bool.{or_left, cases_Bool}
 use Rattle.mv_storage.specs.Map.{Layers}
-use Rattle.mv_storage.specs.Slots.{is_change, is_pinned, keeps_place, KeepsPinned, ArePlaced, IsSettled, IsSettledAt, ShowsAt, layers}
+use Rattle.mv_storage.specs.Slots.{is_change, is_pinned, keeps_place, KeepsPinned, ArePlaced, IsSettled, IsSettledAt, ShowsAt}
 use Rattle.mv_storage.proofs.Keys.{same_key-is, same_key-refl, same_key-symm, same_key-to}
 use Rattle.mv_storage.proofs.PlaceLemmas.{HasAt, HasPlace, Put, place-read, settling-used, wrote-at, removed-at, used-not_vacant, same-sound, same-slots, same-settling, wrote-settling}
 use Rattle.mv_storage.proofs.PlaceLemmas.{removed-settling, slice_set-again, slice_set-read}
@@ -194,16 +194,6 @@ tracked-added m n k p t touched had none put gets = record {
   placed = placed-added m n k p touched none gets had.placed;
 }
 
--- a key keeps the place that it has
-pub placed-same : (m n : Places) (k : Key) (p : ℕ) (touched : List (Key × ℕ)) → get key_cmp m.tree k ≡ Some p → HasPlace m n k (Some p) → ArePlaced m.tree touched → ArePlaced n.tree touched
-placed-same m n k p touched at gets placed =
-    placed-kept m.tree n.tree touched
-    (λ q place e.
-    ⊎_elim
-    (λ (here : same_key k q ≡ true). gets q ∙ ap (λ b. cond b (Some p) (get key_cmp m.tree q)) here ∙ sym at ∙ ap (get key_cmp m.tree) (same_key-to k q here) ∙ e)
-    (λ (off : same_key k q ≡ false). gets q ∙ ap (λ b. cond b (Some p) (get key_cmp m.tree q)) off ∙ e)
-    (cases_Bool (same_key k q))) placed
-
 pub placed-entries : (a b : BTreeMap Key ℕ) (touched : List (Key × ℕ)) → b.entries ≡ a.entries → ArePlaced a touched → ArePlaced b touched
 placed-entries a b touched same placed =
     placed-kept a b touched (λ q place e. ap (λ (es : List (Key × ℕ)). lookup (is_at (key_cmp q)) es) same ∙ e) placed
@@ -303,10 +293,6 @@ settles-removed layer m n k p s t sound settling is stands empty loose order get
 pub one-layer : (layer : Layer) (slot : Option Slot) → is_changed slot ≡ false → layer_at Committed slot ≡ layer_at layer slot
 one-layer Committed slot h = refl
 one-layer Current slot h = sym (layers-same slot h)
-
-pub seen-shown : (layer : Layer) (p : Places) → seen layer (layers p) ≡ shown_of layer p
-seen-shown Committed p = refl
-seen-shown Current p = refl
 
 -- what is committed once all is settled
 pub settled-shows : (layer : Layer) (m n : Places) (touched : List (Key × ℕ)) → IsSound m → IsSettled n touched → ShowsSame layer m n → shown_of Committed n ≡ shown_of layer m
