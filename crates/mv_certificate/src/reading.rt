@@ -44,15 +44,15 @@ fn read_availabilities(
     alloc: Global,
     reader: &mut Reader<'_>,
     count: usize,
-) -> Result<Vec<Availability>, Refusal>
-    ensures ok { IfOk result (λ v. entries_from availability_from count reader.old ≡ Some (v.items, reader.new)) }
+) -> Result<Availabilities, Refusal>
+    ensures ok { IfOk result (λ v. entries_from availability_from count reader.old ≡ Some (v, reader.new)) }
     ensures refused { result ≡ Err (Refusal.Phase 2) → entries_from availability_from count reader.old ≡ None }
     ensures errors { IfErr result (λ e. (e ≡ Refusal.Phase 2) ⊎ (e ≡ Refusal.Memory)) }
 {
-    let mut locals = Vec::new(alloc);
+    let mut locals = Availabilities::none();
     'locals: for _ in 0..count {
         let local = read_availability(reader)?;
-        locals.push(local).map_err(|_| Refusal::Memory)?;
+        locals.push(alloc, local).map_err(|_| Refusal::Memory)?;
     }
     Ok(locals)
 }
@@ -180,7 +180,6 @@ fn read_block(
     };
     let locals = read_availabilities(alloc, reader, count)?;
     let edges = read_edges(alloc, reader, m, d)?;
-    let locals = Availabilities::new(locals);
     Ok(Some(Known { locals, edges }))
 }
 
@@ -196,7 +195,7 @@ fn read_stated(
     ensures refused { result ≡ Err (Refusal.Phase 2) → stated_from m.now d.now (map (λ b. b.reached) blocks.now) reader.old ≡ None }
     ensures errors { IfErr result (λ e. (e ≡ Refusal.Phase 2) ⊎ (e ≡ Refusal.Memory)) }
 {
-    let mut stated = Vec::new(alloc);
+    let mut stated = Vec::with_capacity(alloc, blocks.len())?;
     'each: for block in blocks {
         let one = read_block(alloc, reader, m, d, block.reached)?;
         stated.push(one).map_err(|_| Refusal::Memory)?;
@@ -231,7 +230,7 @@ pub fn read_certificate(alloc: Global, m: &Typed<'_>, bytes: &[u8]) -> Result<Ce
 {
     let count = shape::function_count(m);
     let mut reader = Reader::new(bytes);
-    let mut functions = Vec::new(alloc);
+    let mut functions = Vec::with_capacity(alloc, count)?;
     'functions: for f in 0..count {
         let stated = read_function(alloc, &mut reader, m, f)?;
         functions.push(stated).map_err(|_| Refusal::Memory)?;

@@ -6,7 +6,7 @@ use Rattle.mv_certificate.proofs.reading.read_certificate.Goals as goal
 
 pub functions-init : goal.functions-init
 functions-init c =
-    CertOn-start c.args.m.now c.args.bytes.now c.new-reader.result (lists c.new-functions.result.items) (ap lists c.new-functions.ensures.items) c.new-reader.ensures
+    CertOn-start c.args.m.now c.args.bytes.now c.new-reader.result (lists c.in_ok-functions.functions.items) (ap lists c.in_ok-functions.ensures.items) c.new-reader.ensures
     (all-bytes c.args.bytes.now (λ i. omega (arith, c.type_inv.bytes i)))
 
 pub functions-preserved : goal.functions-preserved

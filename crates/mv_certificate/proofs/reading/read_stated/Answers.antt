@@ -17,7 +17,7 @@ each-preserved c =
 
 pub each-init : goal.each-init
 each-init c =
-    subst (λ z. StatedOn c.args.m.now c.args.d.now (map (λ b. b.reached) c.args.blocks.now) 0 c.args.reader.now z c.args.reader.now) (sym c.new-stated.ensures.items)
+    subst (λ z. StatedOn c.args.m.now c.args.d.now (map (λ b. b.reached) c.args.blocks.now) 0 c.args.reader.now z c.args.reader.now) (sym c.in_ok-stated.ensures.items)
     (StatedOn-start c.args.m.now c.args.d.now (map (λ b. b.reached) c.args.blocks.now) c.args.reader.now)
 
 pub returns-clause-ok : goal.returns-clause-ok
