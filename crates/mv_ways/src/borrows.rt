@@ -239,6 +239,7 @@ impl<'s> Borrows<'s> {
     }
 
     /// The edges as a graph, to be changed. It is made of a list, unless there is one.
+    #[inline(always)]
     pub fn grown(self, alloc: Global) -> Result<Graph, AllocError>
         ensures { IfOk result (λ g. g ≡ self.entry) }
     {
@@ -270,6 +271,19 @@ impl<'s> Borrows<'s> {
             Form::Stated(edges) => Ok(Borrows::of_stated(edges)),
             Form::Listed(edges) => Borrows::of_list(alloc, edges.copy(alloc)?),
             Form::Grown(graph) => Borrows::of_list(alloc, graph.settled(alloc)?),
+        }
+    }
+
+    /// Whether it is plain that there are no edges. Where it isn't, there may be none all the same: sources of a graph may be gone.
+    #[inline(always)]
+    pub fn are_plainly_none(&self) -> bool
+        ensures { IsTrue result → self.now ≡ [] }
+    {
+        match &self.form {
+            Form::Nothing => true,
+            Form::Stated(edges) => edges.as_slice().is_empty(),
+            Form::Listed(edges) => edges.as_slice().is_empty(),
+            Form::Grown(graph) => graph.has_no_reference(),
         }
     }
 
@@ -328,6 +342,9 @@ impl<'s> Borrows<'s> {
     pub fn leq(&self, other: &Borrows<'_>) -> bool
         ensures { result ≡ edges_leq self.now other.now }
     {
+        if self.are_plainly_none() {
+            return true;
+        }
         match (&self.form, other.list()) {
             (Form::Nothing, _) => true,
             (Form::Stated(edges), Some(others)) => edges.leq(others),

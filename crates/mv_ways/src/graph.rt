@@ -96,6 +96,13 @@ impl Graph {
         let _ways = &self.ways;
     }
 
+    /// Whether no node refers to anything, so that there are no edges.
+    pub(crate) fn has_no_reference(&self) -> bool
+        ensures { IsTrue result → self.now ≡ [] }
+    {
+        self.ways.has_no_reference()
+    }
+
     /// Whether all edges pass a test.
     #[tactic(auto, using(crate::proofs::Held::held_passing))]
     pub(crate) fn all_pass<T: EdgeTest>(&self, test: &T) -> bool

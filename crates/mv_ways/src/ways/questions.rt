@@ -286,6 +286,13 @@ impl WayGraph {
         })
     }
 
+    /// Whether no node refers to anything, so that there are no edges.
+    pub(crate) fn has_no_reference(&self) -> bool
+        ensures { IsTrue result → edges_of self.now ≡ [] }
+    {
+        self.references().is_empty()
+    }
+
     /// Whether a reference is one of these nodes.
     pub(super) fn has_reference<Q: NodeSet>(&self, to: &Q) -> bool
         ensures value { result ≡ list_any (λ r. Q.test to.now r.node) self.now.references }
@@ -295,6 +302,7 @@ impl WayGraph {
     }
 
     /// Whether an edge leads from one of the nodes to one of the others, in a small graph.
+    #[inline(never)]
     fn any_by_few<P: NodeSet, Q: NodeSet>(&self, from: &P, position: Option<u8>, to: &Q) -> bool
         requires { length self.now.ways ≤ FEW_WAYS }
         ensures { result ≡ any_between (P.test from.now) position (Q.test to.now) (edges_of self.now) }
@@ -303,6 +311,7 @@ impl WayGraph {
     }
 
     /// Whether an edge leads from one of the nodes to one of the others, in any graph.
+    #[inline(never)]
     fn any_by_many<P: NodeSet, Q: NodeSet>(&self, from: &P, position: Option<u8>, to: &Q) -> bool
         requires { length self.now.ways ≤ MOST_WAYS }
         ensures { result ≡ any_between (P.test from.now) position (Q.test to.now) (edges_of self.now) }
