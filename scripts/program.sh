@@ -18,11 +18,13 @@ sources() {
     find crates.txt HANDLES crates -regex 'crates/[^/]*/\(out\|must-fail\)' -prune -o "$@"
 }
 
-# Whether nothing of a list has changed since it was written. Each name takes one system call, and three parts are looked at side by side.
+# Whether nothing of a list has changed since it was written: each name takes one system call, also where find reads no lists.
 is_unchanged_since() {
-    [ -e "$1" ] && [ -z "$(cd "$top" && xargs -0 -n 1200 -P 3 sh -c '
-        list=$1 && shift && exec find "$@" -maxdepth 0 \( -cnewer "$list" -o -newerct now \) -print -quit
-    ' sh "$1" < "$1" 2>/dev/null || echo unknown)" ]
+    [ -e "$1" ] && [ -z "$(cd "$top" && {
+        find -files0-from "$1" -maxdepth 0 \( -cnewer "$1" -o -newerct now \) -print -quit || xargs -0 sh -c '
+            list=$1 && shift && exec find "$@" -maxdepth 0 \( -cnewer "$list" -o -newerct now \) -print -quit
+        ' sh "$1" < "$1"
+    } 2>/dev/null || echo unknown)" ]
 }
 
 # Writes a list of the sources. Its time lies before all that is looked at afterwards, though the clock of a file system may be behind.
