@@ -2,6 +2,7 @@ pub mod Edits
 pub mod Counting
 pub mod Entering
 pub mod Turning
+mod Halves
 pub mod Flat
 pub mod TypedCalls
 pub mod Joined
