@@ -3,10 +3,11 @@
 use mv_module_text::{Reader, write_instruction};
 use mv_move_types::Instruction::*;
 use mv_move_types::{Immediate, Instruction, Refusal, Version};
+use std::alloc::{AllocError, Global};
 use std::test::Fail;
 
 // The bytes of an instruction, whether version 6 alone has it, and the instruction.
-const ROWS: [(&[u8], bool, Instruction); 57] = [
+static ROWS: [(&[u8], bool, Instruction); 57] = [
     (&[0x01], false, Pop),
     (&[0x02], false, Ret),
     (&[0x03, 0x80, 0x01], false, BrTrue(128)),
@@ -76,49 +77,92 @@ const ROWS: [(&[u8], bool, Instruction); 57] = [
 
 const REFUSED: Result<Instruction, Refusal> = Err(Refusal::Phase(2));
 
+// Whether a version reads this of the front of the bytes.
+fn is_front(version: Version, bytes: &[u8], wanted: Result<Instruction, Refusal>) -> bool {
+    Reader::new(bytes).instruction(version) == wanted
+}
+
+// Whether the bytes are an instruction in each version that has it.
+fn is_read(bytes: &[u8], is_late: bool, instruction: Instruction) -> bool {
+    let mut six = Reader::new(bytes);
+    let wanted = if is_late { REFUSED } else { Ok(instruction) };
+    six.instruction(Version::Six) == Ok(instruction)
+        && six.is_empty()
+        && is_front(Version::Five, bytes, wanted)
+}
+
+// Whether an instruction is written as these bytes.
+fn is_written(alloc: Global, bytes: &[u8], instruction: Instruction) -> Result<bool, AllocError> {
+    let mut out = Vec::new(alloc);
+    write_instruction(instruction, &mut out)?;
+    Ok(out.as_slice() == bytes)
+}
+
 #[test]
 fn instructions_are_read_and_written(rt: HostRuntime) -> Result<(), Fail> {
-    for (bytes, is_late, instruction) in ROWS {
-        let mut six = Reader::new(bytes);
-        assert_eq!(rt; six.instruction(Version::Six), Ok(instruction));
-        assert!(rt; six.is_empty());
-        let wanted = if is_late { REFUSED } else { Ok(instruction) };
-        assert_eq!(rt; Reader::new(bytes).instruction(Version::Five), wanted);
-        let mut out = Vec::new(rt.alloc());
-        write_instruction(instruction, &mut out)?;
-        assert_eq!(rt; out.as_slice(), bytes);
+    for (bytes, is_late, instruction) in &ROWS {
+        assert!(rt; is_read(bytes, *is_late, *instruction), "{bytes:?}");
+        assert!(rt; is_written(rt.alloc(), bytes, *instruction)?, "{bytes:?}");
     }
     Ok(())
 }
 
 // Whether no version reads an instruction at the front of the bytes.
 fn is_refused(bytes: &[u8]) -> bool {
-    Reader::new(bytes).instruction(Version::Five) == REFUSED
-        && Reader::new(bytes).instruction(Version::Six) == REFUSED
+    is_front(Version::Five, bytes, REFUSED) && is_front(Version::Six, bytes, REFUSED)
+}
+
+// Whether no version reads an instruction of fewer of the bytes.
+fn are_cuts_refused(bytes: &[u8]) -> bool {
+    for count in 0..bytes.len() {
+        if !is_refused(&bytes[..count]) {
+            return false;
+        }
+    }
+    true
+}
+
+// Whether an index behind the opcode is refused in spellings that are longer than they need be.
+fn are_longer_refused(opcode: u8) -> bool {
+    is_refused(&[opcode, 0x80, 0x00]) && is_refused(&[opcode, 0x80, 0x80, 0x00])
+}
+
+// Whether an instruction has an index.
+fn has_index(instruction: Instruction) -> bool {
+    !matches!(
+        instruction.immediate(),
+        Immediate::Nothing | Immediate::Literal(_, _)
+    )
 }
 
 #[test]
 fn cut_and_longer_spellings_are_refused(rt: HostRuntime) {
-    for (bytes, _, instruction) in ROWS {
-        for count in 0..bytes.len() {
-            assert!(rt; is_refused(&bytes[..count]));
-        }
-        let has_index = !matches!(
-            instruction.immediate(),
-            Immediate::Nothing | Immediate::Literal(_, _)
-        );
-        if has_index {
-            assert!(rt; is_refused(&[instruction.opcode(), 0x80, 0x00]));
-            assert!(rt; is_refused(&[instruction.opcode(), 0x80, 0x80, 0x00]));
+    for (bytes, _, instruction) in &ROWS {
+        assert!(rt; are_cuts_refused(bytes), "{bytes:?}");
+        if has_index(*instruction) {
+            assert!(rt; are_longer_refused(instruction.opcode()), "{bytes:?}");
         }
     }
+}
+
+// Whether an instruction has this opcode.
+fn is_opcode(code: u8) -> bool {
+    for (bytes, _, _) in &ROWS {
+        if bytes.first() == Some(&code) {
+            return true;
+        }
+    }
+    false
 }
 
 #[test]
 fn other_opcodes_are_refused(rt: HostRuntime) {
     for code in 0..=u8::MAX {
-        if !ROWS.iter().any(|row| row.0.first() == Some(&code)) {
-            assert!(rt; is_refused(&[code, 0, 0, 0, 0, 0, 0, 0, 0, 0, 0, 0, 0, 0, 0, 0, 0]));
+        if !is_opcode(code) {
+            assert!(rt;
+                is_refused(&[code, 0, 0, 0, 0, 0, 0, 0, 0, 0, 0, 0, 0, 0, 0, 0, 0]),
+                "{code}"
+            );
         }
     }
 }
