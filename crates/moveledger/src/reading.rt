@@ -4,7 +4,7 @@ ghost use Rattle.std.specs.Io.KnownBytes.{Consumes, IsAtEnd};
 ghost use Rattle.mv_uleb.specs.Uleb.{IsUleb};
 ghost use Rattle.mv_move_types.specs.Limits.{most_payload_bytes};
 ghost use Rattle.moveledger.specs.Reading.{HasNoLength, IsLengthBegun, IsUnfinished, piece_limit};
-ghost use Rattle.moveledger.specs.Next.{IsNext};
+ghost use Rattle.moveledger.specs.Next.{IsNext, IsPayload};
 ghost use Rattle.moveledger.specs.Outcome.{left_of};
 
 use crate::streaming::EngineError;
@@ -76,28 +76,39 @@ fn read_length<R: Read>(reader: &mut R) -> Result<Option<u64>, EngineError>
 /// The most bytes of a payload that are read at once.
 const PIECE: usize = 65_536;
 
-/// How many bytes of a payload are read next, where so many are missing. The buffer grows only for these, whatever length the
-/// record states; where it grows, it may double.
+/// How many bytes of a payload are read next, where so many are missing. The list of the payload grows only for these, whatever length
+/// the record states; where it grows, it may double.
 fn piece_of(missing: usize) -> usize
     ensures { result ≡ min missing piece_limit }
 {
     missing.min(PIECE)
 }
 
-/// A payload of this many bytes, or None where the input ends before.
+/// Empties the list of the payload before. Its memory is kept for the next one, but one of more than 65,536 bytes is given back: so
+/// 131,072 bytes are kept at most.
+fn empty_payload(alloc: Global, payload: &mut Vec<u8>)
+    ensures { payload.new.items ≡ [] }
+{
+    if payload.len() > PIECE {
+        *payload = Vec::new(alloc);
+    }
+    payload.clear();
+}
+
+/// Reads a payload of this many bytes into a list, over what it held; false where the input ends before.
 fn read_payload<R: Read>(
     alloc: Global,
     reader: &mut R,
     len: usize,
-) -> Result<Option<Vec<u8>>, EngineError>
-    ensures ok { IfOk result (λ payload. (took : List ℕ)
+    payload: &mut Vec<u8>,
+) -> Result<bool, EngineError>
+    ensures ok { IfOk result (λ is_whole. (took : List ℕ)
         × Consumes (R.remaining reader.old) (R.remaining reader.new) took
-        × MatchOption payload ((length took < len) × IsAtEnd (R.remaining reader.new))
-        (λ p. (p.items ≡ took) × (length took ≡ len))) }
+        × IsPayload len took (R.remaining reader.new) payload.new.items is_whole) }
     ensures err { IfErr result (λ e. (e ≢ EngineError.Write) × (took : List ℕ)
         × Consumes (R.remaining reader.old) (R.remaining reader.new) took × (length took < len)) }
 {
-    let mut payload = Vec::new(alloc);
+    empty_payload(alloc, payload);
     while payload.len() < len {
         let start = payload.len();
         let piece = piece_of(len - start);
@@ -106,10 +117,10 @@ fn read_payload<R: Read>(
         }
         let n = fill(reader, &mut payload[start..])?;
         if n < piece {
-            return Ok(None);
+            return Ok(false);
         }
     }
-    Ok(Some(payload))
+    Ok(true)
 }
 
 /// What stands next in the input.
@@ -119,23 +130,30 @@ pub enum Next {
     End,
     /// Something that is no whole record.
     Cut,
-    /// A record: its kind and its payload.
-    Record(u8, Vec<u8>),
+    /// A record of this kind. Its payload was read into a list.
+    Record(u8),
 }
 
-/// Reads what stands behind the kind of a record.
-pub fn rest_of_record<R: Read>(alloc: Global, reader: &mut R, kind: u8) -> Result<Next, EngineError>
+/// Reads what stands behind the kind of a record, its payload into a list.
+pub fn rest_of_record<R: Read>(
+    alloc: Global,
+    reader: &mut R,
+    kind: u8,
+    payload: &mut Vec<u8>,
+) -> Result<Next, EngineError>
     ensures ok { IfOk result (λ next. (took : List ℕ)
         × Consumes (R.remaining reader.old) (R.remaining reader.new) took
-        × IsNext (kind ∷ took) (left_of (R.remaining reader.new)) next) }
+        × IsNext (kind ∷ took) (left_of (R.remaining reader.new)) payload.new.items next) }
     ensures err { IfErr result (λ e. (e ≢ EngineError.Write) × (took : List ℕ)
         × Consumes (R.remaining reader.old) (R.remaining reader.new) took × IsUnfinished (kind ∷ took)) }
 {
     let Some(len) = read_length(reader)? else {
         return Ok(Next::Cut);
     };
-    match read_payload(alloc, reader, len as usize)? {
-        None => Ok(Next::Cut),
-        Some(payload) => Ok(Next::Record(kind, payload)),
+    let is_whole = read_payload(alloc, reader, len as usize, payload)?;
+    if is_whole {
+        Ok(Next::Record(kind))
+    } else {
+        Ok(Next::Cut)
     }
 }

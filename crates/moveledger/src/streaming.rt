@@ -101,18 +101,19 @@ fn make_room<R, W: Write, A: AfterRecord<R, W>>(
     after.make_room(writer)
 }
 
-/// Reads the next record, and makes room for its line once it begins: what is then done for a publish or a run record needs no memory
-/// to be told.
+/// Reads the next record, its payload into a list, and makes room for its line once it begins: what is then done for a
+/// publish or a run record needs no memory to be told.
 fn next_with_room<R: Read, W: Write, A: AfterRecord<R, W>>(
     alloc: Global,
     reader: &mut R,
     writer: &mut W,
+    payload: &mut Vec<u8>,
     line: &mut Vec<u8>,
     after: &A,
 ) -> Result<Next, EngineError>
     ensures ok { IfOk result (λ next. (took : List ℕ)
         × Consumes (R.remaining reader.old) (R.remaining reader.new) took
-        × IsNext took (left_of (R.remaining reader.new)) next) }
+        × IsNext took (left_of (R.remaining reader.new)) payload.new.items next) }
     ensures err { IfErr result (λ e. (e ≢ EngineError.Write) × (took : List ℕ)
         × Consumes (R.remaining reader.old) (R.remaining reader.new) took × IsUnfinished took) }
     ensures kept { W.contents writer.new ≡ W.contents writer.old }
@@ -121,7 +122,7 @@ fn next_with_room<R: Read, W: Write, A: AfterRecord<R, W>>(
         return Ok(Next::End);
     };
     make_room(writer, line, after)?;
-    rest_of_record(alloc, reader, kind)
+    rest_of_record(alloc, reader, kind, payload)
 }
 
 /// Answers the records of an input, each before the next is read, and numbers the first one `answered + 1`: the one loop of
@@ -162,17 +163,18 @@ pub fn answer_from<R: Read, W: Write, A: AfterRecord<R, W>>(
         ledger.old (R.remaining reader.new) e after.old after.new) }
 {
     let alloc = ledger.allocator();
-    // The line of each reply is made in the memory of the one before it.
+    // Each payload is read into the memory of the one before it, and the line of each reply is made in that of the one before it.
+    let mut payload = Vec::new(alloc);
     let mut line = Vec::new(alloc);
     for n in *answered..u64::MAX {
-        match next_with_room(alloc, reader, writer, &mut line, after)? {
+        match next_with_room(alloc, reader, writer, &mut payload, &mut line, after)? {
             Next::End => return Ok(()),
             Next::Cut => {
                 write_reply(writer, n + 1, Reply::Refused(1), &mut line)?;
                 *answered = n + 1;
                 return Ok(());
             }
-            Next::Record(kind, payload) => {
+            Next::Record(kind) => {
                 answer(alloc, writer, ledger, n + 1, kind, &payload, &mut line)?;
                 after.answered(n + 1, reader, writer)?;
                 *answered = n + 1;

@@ -19,27 +19,27 @@ returns-in_default-clause-ok g c =
     let len = rw c.in_default.is at c.in_ok-len.ensures.ok in
     (len.0, len.1, cut-no_length c.args.kind len.0 (left_of (g.R.Read.remaining c.read_length.new.reader)) len.2)
 
-pub returns-in_err-read_payload-clause-err : goal.returns-in_err-read_payload-clause-err
-returns-in_err-read_payload-clause-err g c =
-    let p = err_from_is_err_and c.from_residual-in_err-read_payload.result c.from_residual-in_err-read_payload.ensures.1 in
-    let e = c.in_err-read_payload.ensures.err in
+pub returns-in_err-is_whole-clause-err : goal.returns-in_err-is_whole-clause-err
+returns-in_err-is_whole-clause-err g c =
+    let p = err_from_is_err_and c.from_residual-in_err-is_whole.result c.from_residual-in_err-is_whole.ensures.1 in
+    let e = c.in_err-is_whole.ensures.err in
     let len = rw c.in-Some.is at c.in_ok-len.ensures.ok in
     rw (p.1, p.2) (e.0, len.0 ++ e.1, Consumes-trans _ _ _ _ _ len.1 e.2, in_payload c.args.kind c.in-Some.len len.0 e.1 len.2.0 len.2.1 e.3)
 
-pub returns-in-None-clause-ok : goal.returns-in-None-clause-ok
-returns-in-None-clause-ok g c =
+pub returns-then-is_whole-clause-ok : goal.returns-then-is_whole-clause-ok
+returns-then-is_whole-clause-ok g c =
     let len = rw c.in-Some.is at c.in_ok-len.ensures.ok in
-    let e = rw c.in-None.is at c.in_ok-read_payload.ensures.ok in (
+    let e = rw c.if-is_whole.true at c.in_ok-is_whole.ensures.ok in (
+      len.0 ++ e.0,
+      Consumes-trans _ _ _ _ _ len.1 e.1,
+      IsText-from c.args.kind c.in-Some.len len.0 e.0 c.read_payload.new.payload.items len.2.0 len.2.1 e.2.0 e.2.1,
+    )
+
+pub returns-else-is_whole-clause-ok : goal.returns-else-is_whole-clause-ok
+returns-else-is_whole-clause-ok g c =
+    let len = rw c.in-Some.is at c.in_ok-len.ensures.ok in
+    let e = rw c.if-is_whole.false at c.in_ok-is_whole.ensures.ok in (
       len.0 ++ e.0,
       Consumes-trans _ _ _ _ _ len.1 e.1,
       cut-payload c.args.kind c.in-Some.len len.0 e.0 (left_of (g.R.Read.remaining c.read_payload.new.reader)) len.2.0 len.2.1 e.2.0 (left_of-end _ e.2.1),
-    )
-
-pub returns-in-Some-2-clause-ok : goal.returns-in-Some-2-clause-ok
-returns-in-Some-2-clause-ok g c =
-    let len = rw c.in-Some.is at c.in_ok-len.ensures.ok in
-    let e = rw c.in-Some-2.is at c.in_ok-read_payload.ensures.ok in (
-      len.0 ++ e.0,
-      Consumes-trans _ _ _ _ _ len.1 e.1,
-      IsText-from c.args.kind c.in-Some.len len.0 e.0 c.in-Some-2.payload.items len.2.0 len.2.1 e.2.0 e.2.1,
     )

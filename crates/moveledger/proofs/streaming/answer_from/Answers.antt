@@ -149,7 +149,7 @@ returns-in_err-answer-in-Record-clause-until g c =
     let p = err_from_is_err_and c.from_residual-in_err-answer-in-Record.result c.from_residual-in_err-answer-in-Record.ensures.1 in
     let e = rw c.in-Record.is at c.in_ok-next_with_room.ensures.ok in
     let other : p.0 ≢ Read = λ same. c.in_err-answer-in-Record.ensures.err.0 (sym p.2 ∙ same) in
-    rw (p.1) (done-until g.R.Read.remaining g.W.Write.contents g.A.AfterRecord.does _ _ _ _ _ _ _ _ _ _ _ inv c.loop-n.invariant.2 p.0 e.0 e.1 (inr (other, Whole c.in-Record.kind c.in-Record.payload.items, e.2)))
+    rw (p.1) (done-until g.R.Read.remaining g.W.Write.contents g.A.AfterRecord.does _ _ _ _ _ _ _ _ _ _ _ inv c.loop-n.invariant.2 p.0 e.0 e.1 (inr (other, Whole c.in-Record.kind c.next_with_room.new.payload.items, e.2)))
 
 pub returns-in_err-answered-in-Record-clause-err : goal.returns-in_err-answered-in-Record-clause-err
 returns-in_err-answered-in-Record-clause-err g c =
