@@ -8,10 +8,12 @@ returns-in_err-next-clause-refused c is =
 
 pub each-preserved : goal.each-preserved
 each-preserved c =
-    let pushed : c.push.new.self.items ≡ c.each.all.items ++ c.in_ok-next.next ∷ [] = grind (arith, common_steps) in
+    let pushed : c.push_reserved.new.self.items ≡ c.each.all.items ++ c.in_ok-next.next ∷ [] = c.push_reserved.ensures.items in
     record {
       reads = subst (λ z. ReadsOn argument_from c.in_ok-count.count (c.each.counter + 1) c.number.new.self z c.argument.new.reader) (sym pushed)
           (ReadsOn-next argument_from c.in_ok-count.count c.each.counter c.number.new.self c.each.all.items c.each.reader c.argument.new.reader c.in_ok-next.next
           (omega arith) c.in_ok-next.ensures.ok c.each.invariant.reads);
       range = grind (arith, common_steps);
+      filled = omega (arith, c.push_reserved.ensures.len, c.each.invariant.filled);
+      room = omega (arith, c.push_reserved.ensures.capacity, c.each.invariant.room);
     }
