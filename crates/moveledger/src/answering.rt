@@ -241,6 +241,40 @@ const SHOW: u8 = 3;
 /// The kind of an audit record.
 const AUDIT: u8 = 4;
 
+/// Answers a record that changes nothing: a show or an audit record, or one of another kind, which is refused. It isn't inlined: the
+/// lines that it goes over are large, and its caller would fill the place for them with zeros at each record.
+#[inline(never)]
+fn answer_unchanged<W: Write>(
+    alloc: Global,
+    writer: &mut W,
+    ledger: &Ledger,
+    number: u64,
+    kind: u8,
+    payload: &[u8],
+    line: &mut Vec<u8>,
+) -> Result<(), EngineError>
+    requires publish { kind ≢ 1 }
+    requires run { kind ≢ 2 }
+    ensures ok { OnOk result (IsAnswered number kind payload.now ledger.now ledger.now
+        (W.contents writer.old) (W.contents writer.new)) }
+    ensures err { IfErr result (λ e. (e ≢ EngineError.Read) × MayBeAnswered number kind payload.now ledger.now ledger.now
+        (W.contents writer.old) (W.contents writer.new)) }
+    ensures write { result ≡ Err EngineError.Write → IsBrokenOff number kind payload.now ledger.now ledger.now
+        (W.contents writer.old) (W.contents writer.new) }
+    ensures memory { result ≡ Err EngineError.Memory → MayBeAnsweredByLines number kind payload.now ledger.now ledger.now
+        (W.contents writer.old) (W.contents writer.new) }
+{
+    if kind == SHOW {
+        return write_report(alloc, writer, number, ledger.show_lines(payload), line);
+    }
+    if kind == AUDIT {
+        return write_report(alloc, writer, number, ledger.audit_lines(payload), line);
+    }
+    // For the prover: so the ledger is balanced.
+    ledger.is_sound();
+    write_reply(writer, number, Reply::Refused(1), line)
+}
+
 /// Answers a whole record, and writes its lines; that of a reply is made in the memory of another one's. Where an allocation
 /// fails, the ledger is as before or as after the record.
 pub fn answer<W: Write>(
@@ -269,13 +303,5 @@ pub fn answer<W: Write>(
     if kind == RUN {
         return write_reply(writer, number, ledger.execute(payload), line);
     }
-    if kind == SHOW {
-        return write_report(alloc, writer, number, ledger.show_lines(payload), line);
-    }
-    if kind == AUDIT {
-        return write_report(alloc, writer, number, ledger.audit_lines(payload), line);
-    }
-    // For the prover: so the ledger is balanced.
-    ledger.is_sound();
-    write_reply(writer, number, Reply::Refused(1), line)
+    answer_unchanged(alloc, writer, ledger, number, kind, payload, line)
 }
