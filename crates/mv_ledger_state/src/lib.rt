@@ -25,7 +25,7 @@ mod undoing;
 mod unread;
 
 pub use mv_linker::Store;
-pub use payload::{Bundle, Offered, RunRecord, read_bundle, read_run, read_run_in};
+pub use payload::{Bundle, Offered, RunRecord, read_bundle, read_run};
 pub use published::Published;
 pub use saved::flowing::Saving;
 pub use saved::loading::longer::refusal_of_longer;

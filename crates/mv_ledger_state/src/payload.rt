@@ -218,13 +218,9 @@ pub fn read_run<'a>(alloc: Global, payload: &'a [u8]) -> Result<RunRecord<'a>, R
     read_run_in(Vec::new(alloc), payload)
 }
 
-/// As `read_run`, with the arguments in the memory of a list. What the list holds means nothing. It takes memory only where it is too
-/// short for the arguments and one more, and grows to 32 of them at most.
-///
-/// # Errors
-///
-/// As `read_run`.
-pub fn read_run_in<'a>(room: Vec<Arg>, payload: &'a [u8]) -> Result<RunRecord<'a>, Refusal>
+/// The same, with the arguments in the memory of a list. What the list holds means nothing. It takes memory only where it is too short for
+/// the arguments and one more.
+fn read_run_in<'a>(room: Vec<Arg>, payload: &'a [u8]) -> Result<RunRecord<'a>, Refusal>
     ensures ok { IfOk result (λ r. IsShaped 2 payload.entry.now (Run (request_of r))) }
     ensures refused { result ≡ Err (Refusal.Phase 2) → IsShapeless 2 payload.entry.now }
     ensures errors { IfErr result (λ e. (e ≡ Refusal.Phase 2) ⊎ (e ≡ Refusal.Memory)) }
