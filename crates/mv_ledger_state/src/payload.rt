@@ -161,19 +161,16 @@ fn argument(reader: &mut Reader<'_>) -> Result<Arg, Refusal>
     }
 }
 
-/// Reads arguments, of which there are at most 16, after their number. They stand in the memory of a list, which has room for one
-/// more.
+/// Reads arguments, of which there are at most 16, after their number. Their list has room for one more.
 #[inline(always)]
-fn arguments(room: Vec<Arg>, reader: &mut Reader<'_>) -> Result<Vec<Arg>, Refusal>
+fn arguments(alloc: Global, reader: &mut Reader<'_>) -> Result<Vec<Arg>, Refusal>
     ensures ok { IfOk result (λ v. counted_from 16 argument_from reader.old ≡ Some (v.items, reader.new)) }
     ensures range { IfOk result (λ v. IsTrue (list_all (λ (a : Argument). number_fits a.kind a.number) v.items)) }
     ensures refused { result ≡ Err (Refusal.Phase 2) → counted_from 16 argument_from reader.old ≡ None }
     ensures errors { IfErr result (λ e. (e ≡ Refusal.Phase 2) ⊎ (e ≡ Refusal.Memory)) }
 {
     let count = reader.number(MOST_ARGUMENTS)?;
-    let mut all = room;
-    all.clear();
-    all.reserve(count as usize + 1)?;
+    let mut all = Vec::with_capacity(alloc, count as usize + 1)?;
     'each: for _ in 0..count {
         let next = argument(reader)?;
         all.push_reserved(next);
@@ -181,8 +178,8 @@ fn arguments(room: Vec<Arg>, reader: &mut Reader<'_>) -> Result<Vec<Arg>, Refusa
     Ok(all)
 }
 
-/// Reads a run that is asked for, its arguments into the memory of a list.
-fn next_run<'a>(room: Vec<Arg>, reader: &mut Reader<'a>) -> Result<RunRecord<'a>, Refusal>
+/// Reads a run that is asked for.
+fn next_run<'a>(alloc: Global, reader: &mut Reader<'a>) -> Result<RunRecord<'a>, Refusal>
     ensures ok { IfOk result (λ r. run_from reader.old ≡ Some (request_of r, reader.new)) }
     ensures range { IfOk result (λ r. IsTrue (list_all (λ (a : Argument). number_fits a.kind a.number) r.arguments.items)) }
     ensures refused { result ≡ Err (Refusal.Phase 2) → run_from reader.old ≡ None }
@@ -193,7 +190,7 @@ fn next_run<'a>(room: Vec<Arg>, reader: &mut Reader<'a>) -> Result<RunRecord<'a>
     let module = reader.identifier()?;
     let function = reader.identifier()?;
     let budget = reader.number(u64::MAX)?;
-    let arguments = arguments(room, reader)?;
+    let arguments = arguments(alloc, reader)?;
     Ok(RunRecord {
         sender,
         home,
@@ -215,19 +212,8 @@ pub fn read_run<'a>(alloc: Global, payload: &'a [u8]) -> Result<RunRecord<'a>, R
     ensures errors { IfErr result (λ e. (e ≡ Refusal.Phase 2) ⊎ (e ≡ Refusal.Memory)) }
     ensures range { IfOk result (λ r. IsTrue (list_all (λ (a : Argument). number_fits a.kind a.number) r.arguments.items)) }
 {
-    read_run_in(Vec::new(alloc), payload)
-}
-
-/// The same, with the arguments in the memory of a list. What the list holds means nothing. It takes memory only where it is too short for
-/// the arguments and one more.
-fn read_run_in<'a>(room: Vec<Arg>, payload: &'a [u8]) -> Result<RunRecord<'a>, Refusal>
-    ensures ok { IfOk result (λ r. IsShaped 2 payload.entry.now (Run (request_of r))) }
-    ensures refused { result ≡ Err (Refusal.Phase 2) → IsShapeless 2 payload.entry.now }
-    ensures errors { IfErr result (λ e. (e ≡ Refusal.Phase 2) ⊎ (e ≡ Refusal.Memory)) }
-    ensures range { IfOk result (λ r. IsTrue (list_all (λ (a : Argument). number_fits a.kind a.number) r.arguments.items)) }
-{
     let mut reader = Reader::new(payload);
-    let asked = next_run(room, &mut reader)?;
+    let asked = next_run(alloc, &mut reader)?;
     if reader.is_empty() {
         Ok(asked)
     } else {

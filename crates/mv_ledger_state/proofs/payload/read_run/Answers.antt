@@ -1,6 +1,6 @@
 use Rattle.mv_ledger_state.proofs.Common.{[], ◌∙◌, ◌≡◌, Err, None, Some, ap, arith, inl, inr, sym, true≢false, common_steps, all-bytes, request_of, run_from}
 use Rattle.mv_ledger_state.proofs.Shapes.{run-shaped, run-none, run-more}
-use Rattle.mv_ledger_state.proofs.payload.read_run_in.Goals as goal
+use Rattle.mv_ledger_state.proofs.payload.read_run.Goals as goal
 
 pub returns-in_err-asked-clause-refused : goal.returns-in_err-asked-clause-refused
 returns-in_err-asked-clause-refused c is =
