@@ -123,3 +123,8 @@ module _ (m : Module) (d : FunctionDefinition) (at : ℕ) (s : List Edge) (i : I
   -- where the types aren't known, a need fails
   pub step_unknown : (found : Option Point) → found ≡ None → found ≡ option_map (point_at m d) (slice_get (types_before m d) at) → edges_step m d at s ≡ None
   step_unknown found was e = rw code (unknown (slice_get (types_before m d) at) (sym was ∙ e))
+
+-- an instruction that leaves no edges where there are none
+pub step_of_none : (m : Module) (d : FunctionDefinition) (at : ℕ) (i : Instruction) (p : Point) (found : Option Point) → slice_get d.code at ≡ Some i → found ≡ Some p
+    → found ≡ option_map (point_at m d) (slice_get (types_before m d) at) → edges_after p i [] ≡ Some [] → edges_step m d at [] ≡ Some []
+step_of_none m d at i p found code was e leaves = step_is m d at [] i code p found was e ∙ ap ordered leaves

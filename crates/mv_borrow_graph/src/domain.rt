@@ -12,7 +12,7 @@ use super::site::{Site, leaves_edges};
 use mv_binary_format::FunctionDefinition;
 use mv_bound_rules::Bounded;
 use mv_lattice::{Domain, StepError};
-use mv_move_types::{Instruction, Node};
+use mv_move_types::{Instruction, Node, Token};
 use mv_type_rules::{StackTypes, Typed};
 use mv_ways::{Borrows, Graph};
 use std::alloc::{AllocError, Global};
@@ -32,14 +32,16 @@ fn stacks_of<'t>(m: &'t Typed<'_>, f: usize, function: &FunctionDefinition) -> &
 #[derive(Drop)]
 pub struct BorrowDomain<'t, 'm> {
     module: &'t Bounded<'m>,
-    place: usize,
     function: &'t FunctionDefinition<'m>,
+    parameters: &'t [Token],
+    others: &'t [Token],
     code: &'t [Instruction],
     stacks: &'t StackTypes,
 }
 
 impl<'t, 'm> Model for BorrowDomain<'t, 'm> {
-    ghost use Rattle.std.specs.Prelude.{◌≡◌, Some, slice_get, IsTrue};
+    ghost use Rattle.std.specs.Prelude.{◌≡◌, ◌++◌, Some, IsTrue};
+    ghost use Rattle.mv_move_types.specs.Module.{local_tokens};
     ghost use Rattle.std.specs.List.{list_all};
     ghost use Rattle.mv_type_rules.specs.Sound.{types_before};
     ghost use Rattle.mv_borrow_graph.specs.Domain.{Function, is_low};
@@ -48,7 +50,7 @@ impl<'t, 'm> Model for BorrowDomain<'t, 'm> {
 
     ghost view = { λ d. record { home = d.module.now; function = d.function.now } };
 
-    ghost invariant = { λ d. (slice_get d.module.now.functions d.place ≡ Some d.function.now)
+    ghost invariant = { λ d. (local_tokens d.module.now d.function.now ≡ Some (d.parameters.now ++ d.others.now))
         × (d.code.now ≡ d.function.now.code)
         × (d.stacks.now ≡ types_before d.module.now d.function.now)
         × IsTrue (list_all is_low (types_before d.module.now d.function.now)) };
@@ -65,8 +67,9 @@ impl<'t, 'm> BorrowDomain<'t, 'm> {
         let function = &module.module().functions()[f];
         BorrowDomain {
             module,
-            place: f,
             function,
+            parameters: module.parameters(f),
+            others: module.other_locals(f),
             code: module.code(f),
             stacks: stacks_of(m, f, function),
         }
@@ -80,6 +83,7 @@ impl<'t, 'm> BorrowDomain<'t, 'm> {
     }
 
     /// Where an instruction stands, if types are known before it.
+    #[inline(always)]
     fn site(&self, at: usize) -> Option<Site<'_, 'm>>
         ensures { result ≡ option_map (point_at self.now.home self.now.function) (slice_get (types_before self.now.home self.now.function) at) }
     {
@@ -88,8 +92,9 @@ impl<'t, 'm> BorrowDomain<'t, 'm> {
         }
         Some(Site {
             module: self.module,
-            place: self.place,
             function: self.function,
+            parameters: self.parameters,
+            others: self.others,
             stack: self.stacks.before(at),
         })
     }
@@ -112,6 +117,20 @@ impl<'t, 'm> BorrowDomain<'t, 'm> {
             return false;
         }
         self.is_known(at)
+    }
+
+    /// Whether the instruction at a place needs nothing and leaves no edges, where there are none.
+    #[tactic(auto, using(crate::proofs::Stacks::step_of_none))]
+    fn leaves_none(&self, at: usize) -> bool
+        ensures { IsTrue result → edges_step self.now.home self.now.function at [] ≡ Option.Some [] }
+    {
+        let Some(instruction) = self.instruction(at) else {
+            return false;
+        };
+        match self.site(at) {
+            Some(site) => site.leaves_none(&instruction),
+            None => false,
+        }
     }
 
     /// Changes the edges as the instruction at a place does. `Memory` is answered only if no need fails and the instruction puts a
@@ -169,11 +188,11 @@ impl<'t, 'm> Domain for BorrowDomain<'t, 'm> {
         Borrows::join(alloc, a, b)
     }
 
-    /// An instruction that leaves all edges gives back what it got. Another one changes a graph, which is made of a list and then
-    /// goes on from step to step.
+    /// An instruction that leaves all edges, or no edges where there are none, gives back what it got. Another one changes a graph,
+    /// which is made of a list and then goes on from step to step.
     #[inline(always)]
     fn step(&self, alloc: Global, s: Borrows<'t>, at: usize) -> Result<Borrows<'t>, StepError> {
-        if self.leaves_edges(at) {
+        if self.leaves_edges(at) || s.are_plainly_none() && self.leaves_none(at) {
             return Ok(s);
         }
         let mut graph = s.grown(alloc)?;

@@ -1,5 +1,5 @@
 // What types and nodes are, and which nodes the references among types have.
-ghost use Rattle.std.specs.Prelude.{◌≡◌, ◌+◌, ◌≤◌, ◌^◌, ◌++◌, ◌∷◌, [], length, IfOk, OnOk, if◌then◌else◌};
+ghost use Rattle.std.specs.Prelude.{◌≡◌, ◌+◌, ◌≤◌, ◌^◌, ◌++◌, ◌∷◌, [], length, slice_get, IfOk, OnOk, if◌then◌else◌};
 ghost use Rattle.mv_move_types.specs.declared.borrow.Node.TheVariants.{Glob};
 ghost use Rattle.mv_certificate_rules.specs.BorrowRules.{is_mutable_token, is_reference_token, is_root_node, is_temp, no_edge_out, reference_nodes};
 ghost use Rattle.mv_borrow_graph.specs.Domain.{is_picked};
@@ -25,6 +25,23 @@ pub fn is_reference(token: Token) -> bool
     match token {
         Token::Reference(_) | Token::MutableReference(_) => true,
         Token::Plain(_) => false,
+    }
+}
+
+/// The type at an index of a list, if it is there.
+pub fn token_at(types: &[Token], index: usize) -> Option<Token>
+    ensures { result ≡ slice_get types.now index }
+{
+    types.get(index).copied()
+}
+
+/// The type at an index of two lists, one after the other, if it is there.
+pub fn among(first: &[Token], second: &[Token], index: usize) -> Option<Token>
+    ensures { result ≡ slice_get (first.now ++ second.now) index }
+{
+    match index.checked_sub(first.len()) {
+        None => token_at(first, index),
+        Some(beyond) => token_at(second, beyond),
     }
 }
 

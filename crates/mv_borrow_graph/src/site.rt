@@ -1,5 +1,5 @@
 // Where an instruction stands in its function, and what it does to the edges.
-ghost use Rattle.std.specs.Prelude.{◌≡◌, ◌-◌, List, length, reverse, slice_get, Some, Err, IsTrue};
+ghost use Rattle.std.specs.Prelude.{◌≡◌, ◌-◌, List, [], length, reverse, slice_get, Some, Err, IsTrue};
 ghost use Rattle.std.specs.List.{list_any};
 ghost use Rattle.mv_move_types.specs.declared.borrow.Node.TheVariants.{Temp};
 ghost use Rattle.mv_move_types.specs.Module.{local_type as type_of_local};
@@ -10,7 +10,7 @@ ghost use Rattle.mv_certificate_rules.specs.BorrowRules.{edges_after, is_mutable
 ghost use Rattle.mv_borrow_graph.specs.Domain.{Follows, ordered, places_reference};
 
 use crate::changes::{keep, release};
-use crate::nodes::{is_free, is_mutable_reference};
+use crate::nodes::{among, is_free, is_mutable_reference, token_at};
 use mv_binary_format::FunctionDefinition;
 use mv_bound_rules::Bounded;
 use mv_lattice::StepError;
@@ -46,24 +46,27 @@ pub fn leaves_edges(instruction: &Instruction) -> bool
     }
 }
 
-/// An instruction's place in a function of a module, by the types on the stack before it, the last of them topmost.
+/// An instruction's place in a function of a module, by the types of the function's locals, parameters first, and those on the stack
+/// before it, the last of them topmost.
 #[derive(Drop)]
 pub struct Site<'d, 'm> {
     pub module: &'d Bounded<'m>,
-    pub place: usize,
     pub function: &'d FunctionDefinition<'m>,
+    pub parameters: &'d [Token],
+    pub others: &'d [Token],
     pub stack: &'d [Token],
 }
 
 impl<'d, 'm> Model for Site<'d, 'm> {
-    ghost use Rattle.std.specs.Prelude.{◌≡◌, ◌≤◌, Some, length, reverse, slice_get};
+    ghost use Rattle.std.specs.Prelude.{◌≡◌, ◌≤◌, ◌++◌, Some, length, reverse};
+    ghost use Rattle.mv_move_types.specs.Module.{local_tokens};
     ghost use Rattle.mv_type_rules.specs.TypesHold.{Point, point_at};
 
     ghost Value = { Point };
 
     ghost view = { λ s. point_at s.module.now s.function.now (reverse s.stack.now) };
 
-    ghost invariant = { λ s. (slice_get s.module.now.functions s.place ≡ Some s.function.now) × (length s.stack.now ≤ 128) };
+    ghost invariant = { λ s. (local_tokens s.module.now s.function.now ≡ Some (s.parameters.now ++ s.others.now)) × (length s.stack.now ≤ 128) };
 }
 
 /// The nodes that are mutable references where an instruction stands.
@@ -95,14 +98,14 @@ impl<'d, 'm> Site<'d, 'm> {
     pub fn local(&self, local: u16) -> Option<Token>
         ensures { result ≡ type_of_local self.now.home self.now.function local }
     {
-        self.module.local(self.place, local)
+        among(self.parameters, self.others, usize::from(local))
     }
 
     /// The type of an operand by its place from the bottom, if it is there.
     fn operand(&self, place: u16) -> Option<Token>
         ensures { result ≡ slice_get (reverse self.now.types) place }
     {
-        self.stack.get(usize::from(place)).copied()
+        token_at(self.stack, usize::from(place))
     }
 
     /// Whether the type of a node is a mutable reference.
@@ -153,6 +156,32 @@ impl<'d, 'm> Site<'d, 'm> {
         ensures { result ≡ no_mutable_from self.now node s.now }
     {
         !self.leads_to_mutable(node, s)
+    }
+
+    /// Whether an instruction here needs nothing and leaves no edges, where there are none.
+    #[tactic(auto, unfolding(mv_certificate_rules::specs::BorrowRules::edges_after))]
+    #[inline(always)]
+    pub fn leaves_none(&self, instruction: &Instruction) -> bool
+        ensures { IsTrue result → edges_after self.now instruction.now [] ≡ Some [] }
+    {
+        match instruction {
+            Instruction::WriteRef
+            | Instruction::Ret
+            | Instruction::ReadRef
+            | Instruction::Pop
+            | Instruction::FreezeRef
+            | Instruction::MoveFrom(_)
+            | Instruction::MoveTo(_) => true,
+            Instruction::CopyLoc(local) => self.copy_leaves_none(*local),
+            Instruction::MoveLoc(local) | Instruction::StLoc(local) => {
+                self.move_leaves_none(*local)
+            }
+            Instruction::MutBorrowField(field) | Instruction::ImmBorrowField(field) => {
+                self.field_leaves_none(*field)
+            }
+            Instruction::Call(callee) => self.call_leaves_none(*callee),
+            _ => false,
+        }
     }
 
     /// Changes the edges as an instruction here does.

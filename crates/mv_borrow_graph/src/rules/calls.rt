@@ -1,5 +1,5 @@
 // Calls and returns.
-ghost use Rattle.std.specs.Prelude.{◌≡◌, List, ◌+◌, ◌++◌, ◌∷◌, [], ◌≤◌, ◌^◌, ◌&&◌, ◌||◌, ◌-◌, length, slice_get, option_map, Err, IfOk, IfSome, OnOk, IsTrue};
+ghost use Rattle.std.specs.Prelude.{◌≡◌, List, ◌+◌, ◌++◌, ◌∷◌, [], ◌≤◌, ◌^◌, ◌&&◌, ◌||◌, ◌-◌, length, slice_get, option_map, Some, Err, IfOk, IfSome, OnOk, IsTrue};
 ghost use Rattle.std.specs.Bool.{then_some};
 ghost use Rattle.std.specs.List.{list_all, list_any};
 ghost use Rattle.mv_move_types.specs.Limits.{most_operands, most_types};
@@ -189,6 +189,19 @@ impl<'d, 'm> Site<'d, 'm> {
         let place = self.first_of(parameters.len());
         let holds = self.may_call(place, parameters, callee, s);
         tie_if(alloc, holds, place, parameters, results, s)
+    }
+
+    /// Whether a call needs nothing and leaves no edges where there are none: the function's handle and its signatures are there.
+    pub fn call_leaves_none(&self, callee: u16) -> bool
+        ensures { IsTrue result → call_edges self.now callee [] ≡ Some [] }
+    {
+        match self.function_handle(callee) {
+            Some(handle) => {
+                self.signature(handle.parameters).is_some()
+                    && self.signature(handle.results).is_some()
+            }
+            None => false,
+        }
     }
 
     /// Whether an edge keeps a result from being handed out: it leads to it from what the frame or the storage holds, or

@@ -1,5 +1,5 @@
 // Locals: copied, moved, stored and borrowed.
-ghost use Rattle.std.specs.Prelude.{◌≡◌, ◌++◌, Err, OnOk, IsTrue};
+ghost use Rattle.std.specs.Prelude.{◌≡◌, [], ◌++◌, Some, Err, OnOk, IsTrue};
 ghost use Rattle.mv_edges.specs.Edges.{inherited};
 ghost use Rattle.mv_edges.specs.Sorted.{sorted};
 ghost use Rattle.mv_edges.specs.Ascending.{are_ascending};
@@ -7,7 +7,7 @@ ghost use Rattle.mv_certificate_rules.specs.BorrowRules.{edges_after, next_temp}
 ghost use Rattle.mv_borrow_graph.specs.Domain.{Follows, ordered, places_reference};
 
 use crate::changes::{keep, lend};
-use crate::nodes::is_free;
+use crate::nodes::{is_free, is_mutable_reference};
 use crate::site::Site;
 use mv_lattice::StepError;
 use mv_move_types::{Instruction, Node, Token};
@@ -45,6 +45,26 @@ impl<'d, 'm> Site<'d, 'm> {
                 lend(true, slot, self.next(), s)
             }
         }
+    }
+
+    /// Whether the copy of a local leaves no edges where there are none: it is there, and isn't a mutable reference.
+    #[tactic(auto, unfolding(mv_certificate_rules::specs::BorrowRules::edges_after))]
+    pub fn copy_leaves_none(&self, local: u16) -> bool
+        ensures { IsTrue result → edges_after self.now (Instruction.CopyLoc local) [] ≡ Some [] }
+    {
+        match self.local(local) {
+            Some(token) => !is_mutable_reference(token),
+            None => false,
+        }
+    }
+
+    /// Whether a local's move and its store leave no edges where there are none: it is there.
+    #[tactic(auto, unfolding(mv_certificate_rules::specs::BorrowRules::edges_after))]
+    pub fn move_leaves_none(&self, local: u16) -> bool
+        ensures moved { IsTrue result → edges_after self.now (Instruction.MoveLoc local) [] ≡ Some [] }
+        ensures stored { IsTrue result → edges_after self.now (Instruction.StLoc local) [] ≡ Some [] }
+    {
+        self.local(local).is_some()
     }
 
     /// Moves a local: a reference takes its edges along, and a value, which takes no memory, may have none.

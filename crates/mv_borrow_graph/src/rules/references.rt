@@ -1,5 +1,5 @@
 // References: to fields, read, written and frozen.
-ghost use Rattle.std.specs.Prelude.{◌≡◌, ◌&&◌, not, slice_get, Some, Err};
+ghost use Rattle.std.specs.Prelude.{◌≡◌, [], ◌&&◌, not, slice_get, Some, Err, IsTrue};
 ghost use Rattle.std.specs.List.{list_any};
 ghost use Rattle.mv_edges.specs.Edges.{agrees, out_of, but_out_of};
 ghost use Rattle.std.specs.Bool.{then_some};
@@ -19,6 +19,15 @@ impl<'d, 'm> Site<'d, 'm> {
     {
         let module = self.module.module();
         module.field_handles().get(usize::from(field)).copied()
+    }
+
+    /// Whether the borrow of a field leaves no edges where there are none: the field's handle is there.
+    #[tactic(auto, unfolding(mv_certificate_rules::specs::BorrowRules::edges_after))]
+    pub fn field_leaves_none(&self, field: u16) -> bool
+        ensures mutable { IsTrue result → edges_after self.now (Instruction.MutBorrowField field) [] ≡ Some [] }
+        ensures immutable { IsTrue result → edges_after self.now (Instruction.ImmBorrowField field) [] ≡ Some [] }
+    {
+        self.field_handle(field).is_some()
     }
 
     /// The position that a field handle names.
