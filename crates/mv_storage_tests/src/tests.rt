@@ -1,6 +1,7 @@
 // Functions of mv_storage with ample memory, and values from outside.
 
+mod acts;
 mod blocks;
 mod filling;
-mod overlays;
+mod steps;
 mod storage;

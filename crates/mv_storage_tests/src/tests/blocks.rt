@@ -1,55 +1,78 @@
 // Blocks of storage that are taken back or kept.
-use super::overlays::{put_claimed, write};
+
+use super::acts::{Act, perform};
+use super::steps::{Step, done_anew, has_count, set, stored};
 use mv_move_types::Key;
-use mv_storage::{Changes, Storage, Value};
+use mv_storage::Storage;
 use std::alloc::{AllocError, Global};
 use std::test::Fail;
 
-// The key of an address.
-fn key(address: u128) -> Key {
-    Key {
-        address,
-        place: 0,
-        index: 0,
-    }
+const SIXTH: Key = Key {
+    address: 6,
+    place: 0,
+    index: 0,
+};
+
+const SEVENTH: Key = Key {
+    address: 7,
+    place: 0,
+    index: 0,
+};
+
+const EIGHTH: Key = Key {
+    address: 8,
+    place: 0,
+    index: 0,
+};
+
+const NINTH: Key = Key {
+    address: 9,
+    place: 0,
+    index: 0,
+};
+
+// What a run does that is given up.
+static GIVEN_UP: [Act; 4] = [
+    Act::Clears(SEVENTH),
+    Act::PutsClaimed(SEVENTH, &[99], true),
+    Act::Clears(SEVENTH),
+    Act::PutsClaimed(EIGHTH, &[98], true),
+];
+
+// A block is begun in which a key is set, and a run is given up.
+fn nest(alloc: Global, storage: &mut Storage, leaf: Option<u128>) -> Result<bool, AllocError> {
+    storage.begin()?;
+    set(storage, SEVENTH, leaf)?;
+    perform(alloc, &mut storage.overlay(), &GIVEN_UP)
 }
 
-// The first leaf that is committed under an address.
-fn stored(storage: &Storage, address: u128) -> Option<u128> {
-    let words = storage.get(&key(address))?;
-    words.first().copied()
+// A key is set in a storage, and then in three blocks, one in the other. Whether it has what the third put.
+fn are_nested(
+    alloc: Global,
+    storage: &mut Storage,
+    leaves: &[Option<u128>; 4],
+) -> Result<bool, AllocError> {
+    let [before, first, second, third] = leaves;
+    set(storage, SEVENTH, *before)?;
+    Ok(
+        nest(alloc, storage, *first)?
+            && nest(alloc, storage, *second)?
+            && nest(alloc, storage, *third)?
+            && stored(storage, &SEVENTH) == *third,
+    )
 }
 
-// A run that puts a value of one leaf under an address in place of the one there, or takes that out, and is kept.
-fn set(storage: &mut Storage, address: u128, leaf: Option<u128>) -> Result<(), AllocError> {
-    let mut overlay = storage.overlay();
-    overlay.take(&key(address))?;
-    if let Some(leaf) = leaf {
-        put_claimed(&mut overlay, key(address), Value::leaf(leaf))?;
-    }
-    overlay.commit()
+// Closes the newest block. Whether one was open, and the key has this leaf then.
+fn is_closed(storage: &mut Storage, keeps: bool, wanted: Option<u128>) -> bool {
+    let was_open = if keeps {
+        storage.keep()
+    } else {
+        storage.rollback()
+    };
+    was_open && stored(storage, &SEVENTH) == wanted
 }
 
-// A run that puts a value and takes others out, and is given up.
-fn try_out(storage: &mut Storage, address: u128) -> Result<(), AllocError> {
-    let mut overlay = storage.overlay();
-    overlay.take(&key(7))?;
-    put_claimed(&mut overlay, key(7), Value::leaf(99))?;
-    overlay.take(&key(7))?;
-    put_claimed(&mut overlay, key(address), Value::leaf(98))?;
-    overlay.discard();
-    Ok(())
-}
-
-// Closes the newest block, and says whether one was open.
-fn close(storage: &mut Storage, keeps: bool) -> bool {
-    if keeps {
-        return storage.keep();
-    }
-    storage.rollback()
-}
-
-// What an address has once a block is closed, where it had something before it.
+// What the key has once a block is closed, where it had something before it.
 fn after(keeps: bool, before: Option<u128>, now: Option<u128>) -> Option<u128> {
     if keeps {
         return now;
@@ -57,211 +80,208 @@ fn after(keeps: bool, before: Option<u128>, now: Option<u128>) -> Option<u128> {
     before
 }
 
-// A key is set in three blocks, one in the other, and each is closed in its way: whether all is then as it should be.
-fn ends(alloc: Global, leaves: [Option<u128>; 4], keeps: [bool; 3]) -> Result<bool, AllocError> {
+// Whether three blocks are closed, each in its way, and no block is open then.
+fn are_closed(storage: &mut Storage, leaves: &[Option<u128>; 4], keeps: &[bool; 3]) -> bool {
     let [before, first, second, third] = leaves;
     let [outer, middle, inner] = keeps;
-    let mut storage = Storage::new(alloc);
-    set(&mut storage, 7, before)?;
-    for leaf in [first, second, third] {
-        storage.begin()?;
-        set(&mut storage, 7, leaf)?;
-        try_out(&mut storage, 8)?;
-    }
-    let mut now = third;
-    let mut is_right = stored(&storage, 7) == now;
-    for (kept, was) in [(inner, second), (middle, first), (outer, before)] {
-        now = after(kept, was, now);
-        is_right = is_right && close(&mut storage, kept) && stored(&storage, 7) == now;
-    }
-    is_right = is_right && stored(&storage, 8).is_none();
-    Ok(is_right && !storage.rollback() && !storage.keep())
+    let third = after(*inner, *second, *third);
+    let second = after(*middle, *first, third);
+    let first = after(*outer, *before, second);
+    is_closed(storage, *inner, third)
+        && is_closed(storage, *middle, second)
+        && is_closed(storage, *outer, first)
+        && stored(storage, &EIGHTH).is_none()
+        && !storage.rollback()
+        && !storage.keep()
 }
+
+// A key is set in three blocks, one in the other, and each is closed in its way: whether all is then as it should be.
+fn ends(alloc: Global, leaves: &[Option<u128>; 4], keeps: &[bool; 3]) -> Result<bool, AllocError> {
+    let mut storage = Storage::new(alloc);
+    Ok(are_nested(alloc, &mut storage, leaves)? && are_closed(&mut storage, leaves, keeps))
+}
+
+// What a key has before three blocks, and what each of them puts.
+static LEAVES: [[Option<u128>; 4]; 8] = [
+    [None, None, Some(2), None],
+    [None, Some(3), None, Some(4)],
+    [None, Some(5), Some(6), Some(6)],
+    [None, None, None, Some(7)],
+    [Some(1), None, Some(2), None],
+    [Some(1), Some(3), None, Some(4)],
+    [Some(1), Some(5), Some(6), Some(6)],
+    [Some(1), None, None, Some(7)],
+];
+
+// Whether each of three blocks is kept, the outer one first.
+static WAYS: [[bool; 3]; 8] = [
+    [false, false, false],
+    [false, false, true],
+    [false, true, false],
+    [false, true, true],
+    [true, false, false],
+    [true, false, true],
+    [true, true, false],
+    [true, true, true],
+];
 
 #[test]
 fn nested_blocks_end_in_each_way(rt: HostRuntime) -> Result<(), Fail> {
-    let alloc = rt.alloc();
-    for before in [None, Some(1)] {
-        for outer in [false, true] {
-            for middle in [false, true] {
-                for inner in [false, true] {
-                    let keeps = [outer, middle, inner];
-                    assert!(rt; ends(alloc, [before, None, Some(2), None], keeps)?);
-                    assert!(rt; ends(alloc, [before, Some(3), None, Some(4)], keeps)?);
-                    assert!(rt; ends(alloc, [before, Some(5), Some(6), Some(6)], keeps)?);
-                    assert!(rt; ends(alloc, [before, None, None, Some(7)], keeps)?);
-                }
-            }
+    for leaves in &LEAVES {
+        for keeps in &WAYS {
+            assert!(rt; ends(rt.alloc(), leaves, keeps)?, "{leaves:?} {keeps:?}");
         }
     }
     Ok(())
+}
+
+// Opens a thousand blocks, one in the other, each of which sets a key.
+fn open_thousand(storage: &mut Storage) -> Result<(), AllocError> {
+    for depth in 0..1000_usize {
+        storage.begin()?;
+        set(storage, SEVENTH, Some(depth as u128))?;
+    }
+    Ok(())
+}
+
+// Whether a thousand blocks are taken back, the newest first, and no more.
+fn are_taken_back(storage: &mut Storage) -> bool {
+    for depth in 0..1000_usize {
+        let newest = 999 - depth;
+        if stored(storage, &SEVENTH) != Some(newest as u128) || !storage.rollback() {
+            return false;
+        }
+    }
+    stored(storage, &SEVENTH).is_none() && !storage.rollback()
 }
 
 #[test]
 fn blocks_stand_a_thousand_deep(rt: HostRuntime) -> Result<(), Fail> {
     let mut storage = Storage::new(rt.alloc());
-    for depth in 0..1000_usize {
-        storage.begin()?;
-        set(&mut storage, 7, Some(depth as u128))?;
-    }
-    let mut newest = 1000_u128;
-    for _ in 0..1000_usize {
-        newest = newest.wrapping_sub(1);
-        assert_eq!(rt; stored(&storage, 7), Some(newest));
-        assert!(rt; storage.rollback());
-    }
-    assert!(rt; stored(&storage, 7).is_none());
-    assert!(rt; !storage.rollback());
+    open_thousand(&mut storage)?;
+    assert!(rt; are_taken_back(&mut storage));
     Ok(())
+}
+
+// The key of an address.
+fn key(address: usize) -> Key {
+    Key {
+        address: address as u128,
+        place: 0,
+        index: 0,
+    }
 }
 
 // Puts a leaf under each of many addresses, and takes out what one of them has.
 fn fill(storage: &mut Storage) -> Result<(), AllocError> {
     for address in 0..5000_usize {
-        set(storage, address as u128, Some(address as u128))?;
+        set(storage, key(address), Some(address as u128))?;
     }
-    set(storage, 600, None)
+    set(storage, key(600), None)
+}
+
+// Whether a block that fills the storage is taken back.
+fn is_emptied(storage: &mut Storage) -> Result<bool, AllocError> {
+    storage.begin()?;
+    fill(storage)?;
+    Ok(
+        stored(storage, &key(500)) == Some(500)
+            && storage.rollback()
+            && stored(storage, &key(500)) == Some(1)
+            && has_count(storage, 1),
+    )
 }
 
 #[test]
 fn blocks_of_many_keys_come_back(rt: HostRuntime) -> Result<(), Fail> {
     let mut storage = Storage::new(rt.alloc());
-    set(&mut storage, 500, Some(1))?;
+    set(&mut storage, key(500), Some(1))?;
     for _ in 0..3_usize {
-        storage.begin()?;
-        fill(&mut storage)?;
-        assert_eq!(rt; stored(&storage, 500), Some(500));
-        assert!(rt; storage.rollback());
-        assert_eq!(rt; stored(&storage, 500), Some(1));
-        assert!(rt; stored(&storage, 600).is_none() && stored(&storage, 4999).is_none());
+        assert!(rt; is_emptied(&mut storage)?);
     }
-    let mut entries = storage.iter();
-    assert!(rt; entries.next().is_some() && entries.next().is_none());
     Ok(())
 }
 
-// A run that puts a value of many leaves, and is kept.
-fn put(storage: &mut Storage, value: Value) -> Result<(), AllocError> {
-    let mut overlay = storage.overlay();
-    put_claimed(&mut overlay, key(7), value)?;
-    overlay.commit()
-}
-
-// A run that writes leaves into that value, and is kept. Whether the value is there.
-fn write_leaves(storage: &mut Storage, from: usize, leaves: &[u128]) -> Result<bool, AllocError> {
-    let mut overlay = storage.overlay();
-    let is_there = write(&mut overlay, &key(7), from, leaves)?;
-    overlay.commit()?;
-    Ok(is_there)
-}
-
-// A run that goes on after it was kept, and is given up.
-fn go_on(storage: &mut Storage) -> Result<bool, AllocError> {
-    let mut overlay = storage.overlay();
-    let was_there = write(&mut overlay, &key(7), 0, &[5])?;
-    overlay.commit()?;
-    let is_there = write(&mut overlay, &key(7), 0, &[4])?;
-    overlay.discard();
-    Ok(was_there && is_there)
-}
+// What is done to a new storage.
+static CASES: [(&str, &[Step]); 4] = [
+    // A run that goes on after it was kept is given up.
+    (
+        "values of many leaves come back",
+        &[
+            Step::Runs(&[Act::PutsClaimed(SEVENTH, &[1, 2, 3], true), Act::Commits]),
+            Step::Begins,
+            Step::Runs(&[Act::Writes(SEVENTH, 1, &[8, 9], true), Act::Commits]),
+            Step::Runs(&[
+                Act::Writes(SEVENTH, 0, &[5], true),
+                Act::Commits,
+                Act::Writes(SEVENTH, 0, &[4], true),
+            ]),
+            Step::Stores(SEVENTH, Some(&[5, 8, 9])),
+            Step::TakesBack(true),
+            Step::Stores(SEVENTH, Some(&[1, 2, 3])),
+        ],
+    ),
+    // One key has a value, one has none, and of one the block has taken the value.
+    (
+        "claims in a block are taken back",
+        &[
+            Step::Sets(SEVENTH, Some(1)),
+            Step::Begins,
+            Step::Runs(&[Act::Claims(SEVENTH, true), Act::Commits]),
+            Step::Runs(&[Act::Claims(EIGHTH, false), Act::Commits]),
+            Step::Sets(SEVENTH, None),
+            Step::Runs(&[Act::Claims(SEVENTH, false), Act::Commits]),
+            Step::Runs(&[Act::Claims(EIGHTH, false), Act::Commits]),
+            Step::Sets(SEVENTH, Some(2)),
+            Step::Sets(EIGHTH, Some(3)),
+            Step::Runs(&[Act::Claims(SEVENTH, true), Act::Commits]),
+            Step::Runs(&[Act::Claims(EIGHTH, true), Act::Commits]),
+            Step::TakesBack(true),
+            Step::Runs(&[Act::Claims(SEVENTH, true), Act::Commits]),
+            Step::Runs(&[Act::Claims(EIGHTH, false), Act::Commits]),
+            Step::Stores(SEVENTH, Some(&[1])),
+            Step::Counts(1),
+        ],
+    ),
+    (
+        "nothing has changed where no block is open",
+        &[Step::Tells(&[])],
+    ),
+    // Those of the newest block alone.
+    (
+        "changes are told by key",
+        &[
+            Step::Sets(SEVENTH, Some(1)),
+            Step::Sets(EIGHTH, Some(2)),
+            Step::Begins,
+            Step::Sets(NINTH, Some(3)),
+            Step::Sets(SEVENTH, None),
+            Step::Sets(EIGHTH, Some(4)),
+            Step::Sets(SIXTH, Some(5)),
+            Step::Sets(NINTH, None),
+            Step::Tells(&[
+                (SIXTH, None, Some(5)),
+                (SEVENTH, Some(1), None),
+                (EIGHTH, Some(2), Some(4)),
+            ]),
+            Step::Begins,
+            Step::Sets(EIGHTH, Some(6)),
+            Step::Tells(&[(EIGHTH, Some(4), Some(6))]),
+            Step::Keeps(true),
+            Step::Tells(&[
+                (SIXTH, None, Some(5)),
+                (SEVENTH, Some(1), None),
+                (EIGHTH, Some(2), Some(6)),
+            ]),
+        ],
+    ),
+];
 
 #[test]
-fn values_of_many_leaves_come_back(rt: HostRuntime) -> Result<(), Fail> {
-    let alloc = rt.alloc();
-    let mut storage = Storage::new(alloc);
-    put(&mut storage, Value::words([1, 2, 3].to_vec(alloc)?))?;
-    storage.begin()?;
-    assert!(rt; write_leaves(&mut storage, 1, &[8, 9])? && go_on(&mut storage)?);
-    assert_eq!(rt; storage.get(&key(7)), Some([5, 8, 9].as_slice()));
-    assert!(rt; storage.rollback());
-    assert_eq!(rt; storage.get(&key(7)), Some([1, 2, 3].as_slice()));
-    Ok(())
-}
-
-// A run that claims a key and puts nothing there, and is kept. Whether a value is there.
-fn claim(storage: &mut Storage, address: u128) -> Result<bool, AllocError> {
-    let mut overlay = storage.overlay();
-    let is_there = overlay.claim(&key(address))?;
-    overlay.commit()?;
-    Ok(is_there)
-}
-
-// Claims each of these keys in a run of its own. Whether each has a value where it is to have one.
-fn claims(storage: &mut Storage, wanted: &[(u128, bool)]) -> Result<bool, AllocError> {
-    for (address, is_there) in wanted {
-        if claim(storage, *address)? != *is_there {
-            return Ok(false);
-        }
+fn blocks_do_as_wanted(rt: HostRuntime) -> Result<(), Fail> {
+    for (case, steps) in &CASES {
+        let done = done_anew(rt.alloc(), steps)?;
+        assert!(rt; done == steps.len(), "{case}: step {done}");
     }
-    Ok(true)
-}
-
-// A key is claimed in a block that is taken back: one with a value, one without, and one of which the block has taken the value.
-#[test]
-fn claims_are_taken_back(rt: HostRuntime) -> Result<(), Fail> {
-    let mut storage = Storage::new(rt.alloc());
-    set(&mut storage, 7, Some(1))?;
-    storage.begin()?;
-    assert!(rt; claims(&mut storage, &[(7, true), (8, false)])?);
-    set(&mut storage, 7, None)?;
-    assert!(rt; claims(&mut storage, &[(7, false), (8, false)])?);
-    set(&mut storage, 7, Some(2))?;
-    set(&mut storage, 8, Some(3))?;
-    assert!(rt; claims(&mut storage, &[(7, true), (8, true)])?);
-    assert!(rt; storage.rollback());
-    assert!(rt; claims(&mut storage, &[(7, true), (8, false)])?);
-    assert_eq!(rt; stored(&storage, 7), Some(1));
-    let mut entries = storage.iter();
-    assert!(rt; entries.next().is_some() && entries.next().is_none());
-    Ok(())
-}
-
-// Whether the next change is of this address, and has these leaves before and after.
-fn is_next(
-    changes: &mut Changes<'_>,
-    address: u128,
-    before: Option<u128>,
-    now: Option<u128>,
-) -> bool {
-    match changes.next() {
-        Some((key, had, has)) => {
-            key.address == address && leaf(had) == before && leaf(has) == now
-        }
-        None => false,
-    }
-}
-
-// The first leaf of a value, if there is one.
-fn leaf(words: Option<&[u128]>) -> Option<u128> {
-    words?.first().copied()
-}
-
-#[test]
-fn changes_are_told_by_key(rt: HostRuntime) -> Result<(), Fail> {
-    let mut storage = Storage::new(rt.alloc());
-    assert!(rt; storage.changes()?.next().is_none());
-    set(&mut storage, 7, Some(1))?;
-    set(&mut storage, 8, Some(2))?;
-    storage.begin()?;
-    set(&mut storage, 9, Some(3))?;
-    set(&mut storage, 7, None)?;
-    set(&mut storage, 8, Some(4))?;
-    set(&mut storage, 6, Some(5))?;
-    set(&mut storage, 9, None)?;
-    let mut changes = storage.changes()?;
-    assert!(rt; is_next(&mut changes, 6, None, Some(5)));
-    assert!(rt; is_next(&mut changes, 7, Some(1), None));
-    assert!(rt; is_next(&mut changes, 8, Some(2), Some(4)));
-    assert!(rt; changes.next().is_none());
-    drop(changes);
-    // Of the newest block alone.
-    storage.begin()?;
-    set(&mut storage, 8, Some(6))?;
-    let mut changes = storage.changes()?;
-    assert!(rt; is_next(&mut changes, 8, Some(4), Some(6)) && changes.next().is_none());
-    drop(changes);
-    assert!(rt; storage.keep());
-    let mut changes = storage.changes()?;
-    assert!(rt; is_next(&mut changes, 6, None, Some(5)));
     Ok(())
 }

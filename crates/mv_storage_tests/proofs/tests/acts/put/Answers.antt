@@ -1,5 +1,5 @@
 use Rattle.std.proofs.Common.{◌≡◌, Option, Some, None, false, is_some, refl, sym, ◌∙◌}
-use Rattle.mv_storage_tests.proofs.tests.storage.put.Goals as goal
+use Rattle.mv_storage_tests.proofs.tests.acts.put.Goals as goal
 
 none-there : {A : Type 0} (o : Option A) → is_some o ≡ false → o ≡ None
 none-there None e = refl
