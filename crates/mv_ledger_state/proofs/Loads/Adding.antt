@@ -58,7 +58,6 @@ module _ (rows : List (List ℕ)) (d : Definition) (n : ℕ) where
 -- ---- what is added
 
 module _ (ms : List Module) (n : ℕ) where
-
   pub adds-as : (f g : StructName → ℕ) (old new : List (List ℕ)) → ((s : StructName) → f s ≡ g s) → Adds ms n f old new → Adds ms n g old new
   adds-as f g old new same h = record {
     rows = h.rows;
@@ -117,7 +116,6 @@ module _ (ms : List Module) (n : ℕ) where
 -- ---- a struct and its parts
 
 module _ (ms : List Module) (n : ℕ) where
-
   pub adds-struct : IsOfStore ms → (depth : ℕ) (d : Definition) (parts : List Part) (old mid new : List (List ℕ)) → (depth ≡ 0 → ⊥) → IsMadeOf ms d parts → mid ≡ with_count old d n
       → Adds ms n (λ s. structs_in_parts (depth - 1) ms s parts) mid new → Adds ms n (λ s. structs_under depth ms s d) old new
   adds-struct of depth d parts old mid new deep is added adds =

@@ -48,7 +48,6 @@ rows-past vs place row le = sym (set_past (rows_in vs) place row (omega (arith, 
 -- ---- nothing is counted
 
 module _ (ms : List Module) where
-
   -- ---- value by value
 
   -- what is counted, and what is left

@@ -120,7 +120,6 @@ module _ (modules : List Module) where
 
   pub keyed-same : (d : Definition) → keyed_in modules d ≡ is_keyed modules d
   keyed-same d = key-at d (slice_get modules d.place)
-
   -- ---- kinds that were put
 
 -- a struct that is there is one of its own, with those of its parts

@@ -15,7 +15,6 @@ pub record AreEmptyRows (modules : List Module) (n : ℕ) (rows : List (List Sec
   pub each : (k : ℕ) (row : List Section) → slice_get rows k ≡ Some row → (length row ≡ structs_in modules k) × All IsEmpty row
 
 module _ (modules : List Module) where
-
   pub empty-more : (n : ℕ) (rows : List (List Section)) (row : List Section) → AreEmptyRows modules n rows → length row ≡ structs_in modules n → All IsEmpty row → AreEmptyRows modules (n + 1)
       (rows ++ row ∷ [])
   empty-more n rows row h long empty = record {
