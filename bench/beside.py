@@ -52,9 +52,9 @@ def coin() -> Tuple[bytes, bytes]:
 # The functions of the module of random pairs: name, locals, what the code begins with, what is repeated, what that is, and the bound.
 USED = (
     ("turns", "", "", "".join(f"CopyLoc {n}; ImmBorrowGlobal Coin; ImmBorrowField Coin.v; ReadRef; Pop;" for n in (0, 1)),
-     "400 reads of two coins in turn", 0.9),
+     "400 reads of two coins in turn", 0.42),
     ("keeps", "&Coin", "MoveLoc 0; ImmBorrowGlobal Coin; StLoc 2;", "CopyLoc 2; ImmBorrowField Coin.v; ReadRef; Pop;",
-     "1,000 reads by a reference to a coin", 0.95),
+     "1,000 reads by a reference to a coin", 0.9),
 )
 # A coin's amount is lowered by one, and another one's is raised.
 PAYING = "".join(f"CopyLoc {n}; MutBorrowGlobal Coin; MutBorrowField Coin.v; StLoc 2; CopyLoc 2; ReadRef; LdU64 1; {does}; MoveLoc 2; WriteRef;"
@@ -65,7 +65,7 @@ WIDTHS = {1: ("f: u64", "LdU64 1;"), 8: EIGHT, 64: ("; ".join(f"g{n}: S8" for n 
 # What is done with such a value, and how many times the plain one's machine instructions that may take for each width. The plain one moves
 # a pointer, whatever the width, and copies leaf by leaf, each with its type.
 WIDE_USES = (
-    ("moves", "moves", "MoveLoc 1; StLoc 2; MoveLoc 2; StLoc 1;", {1: 0.6, 8: 1.7, 64: 3.6}),
+    ("moves", "moves", "MoveLoc 1; StLoc 2; MoveLoc 2; StLoc 1;", {1: 0.38, 8: 1.7, 64: 3.6}),
     ("copies", "copies and pops", "CopyLoc 1; Pop;", {1: 0.2, 8: 0.25, 64: 0.1}),
 )
 
@@ -122,11 +122,11 @@ def of_pairs() -> Iterator[Row]:
     def wides(name: str, n: int) -> List[bytes]:
         return [published, *[record(2, run(name, 10_000_000, u64(7)))] * (USES * n)]
 
-    yield Row(f"{MODULES * 2} modules of {module.instructions:,} instructions without a branch, each of which is reached", modules, 1.7)
+    yield Row(f"{MODULES * 2} modules of {module.instructions:,} instructions without a branch, each of which is reached", modules, 1.45)
     for name, _, _, _, what, bound in USED:
         yield Row(f"{USES * 2:,} runs of {what}, of {COINS:,}", partial(uses, name, USES), bound)
-    yield Row(f"{USES * 2:,} runs of 200 payments between two coins, of {COINS:,}", partial(uses, "pays", USES), 0.85)
-    yield Row(f"{USES * 40:,} payments between two coins, of {COINS:,}, a record each", partial(uses, "pay", USES * 20), 1.15)
+    yield Row(f"{USES * 2:,} runs of 200 payments between two coins, of {COINS:,}", partial(uses, "pays", USES), 0.52)
+    yield Row(f"{USES * 40:,} payments between two coins, of {COINS:,}, a record each", partial(uses, "pay", USES * 20), 0.97)
     for name, what, _, bounds in WIDE_USES:
         for leaves, bound in bounds.items():
             yield Row(f"{USES * 2:,} runs of 3,900 {what} of a value of {leaves} leaves", partial(wides, f"{name}{leaves}"), bound)
