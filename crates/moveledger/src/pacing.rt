@@ -1,12 +1,14 @@
 // What is done between two records.
 ghost use Rattle.std.specs.Prelude.{◌≡◌, ℕ, [], Result, Ok, IfErr, OnOk, ⊤};
-ghost use Rattle.std.specs.Io.Buffered.{writer_buffer, writer_contents};
+ghost use Rattle.std.specs.Io.Buffered.{reader_buffer, writer_buffer, writer_contents};
 ghost use Rattle.std.specs.Io.KnownBytes.{Keeps};
+ghost use Rattle.moveledger.specs.Records.{NoWhole};
 ghost use Rattle.moveledger.specs.declared.streaming.EngineError.{EngineError};
 
+use crate::records::first_record;
 use crate::streaming::EngineError;
 use std::alloc::AllocError;
-use std::io::{BufWriter, Write};
+use std::io::{BufReader, BufWriter, Read, Write};
 
 /// The most bytes of the line of a publish or a run record: its number, `aborted code`, the code, and the steps.
 pub const MOST_LINE_BYTES: usize = 64;
@@ -76,13 +78,14 @@ impl<R> AfterRecord<R, Vec<u8>> for Reserving {
     }
 }
 
-/// Each record's lines are written out, for whoever waits for them before the next record is sent.
+/// The lines are written out before the next record is waited for, by whoever sends it once it has them. While the next record stands
+/// whole in the reader's memory, nothing waits, and the lines of many records are gathered.
 #[derive(Clone, Copy, Debug)]
 pub struct Prompt;
 
-impl<R, W: Write + Drop> AfterRecord<R, BufWriter<W>> for Prompt {
-    // Nothing waits to be written then.
-    ghost does = { λ number reader old before end new after. OnOk end (writer_buffer after ≡ []) };
+impl<R: Read + Drop, W: Write + Drop> AfterRecord<BufReader<R>, BufWriter<W>> for Prompt {
+    // Nothing waits to be written then, unless the next record is at hand.
+    ghost does = { λ number reader old before end new after. OnOk end (NoWhole (reader_buffer reader) → writer_buffer after ≡ []) };
 
     fn make_room(&self, _writer: &mut BufWriter<W>) -> Result<(), AllocError> {
         Ok(())
@@ -91,13 +94,16 @@ impl<R, W: Write + Drop> AfterRecord<R, BufWriter<W>> for Prompt {
     fn answered(
         &mut self,
         _number: u64,
-        _reader: &R,
+        reader: &BufReader<R>,
         writer: &mut BufWriter<W>,
     ) -> Result<(), EngineError>
         ensures kept { Keeps (writer_contents W.contents writer.old) (writer_contents W.contents writer.new) }
         ensures err { IfErr result (λ e. e ≡ EngineError.Write) }
-        ensures done { OnOk result (writer_buffer writer.new ≡ []) }
+        ensures done { OnOk result (NoWhole (reader_buffer reader.now) → writer_buffer writer.new ≡ []) }
     {
+        if let Some(_next) = first_record(reader.buffer()) {
+            return Ok(());
+        }
         match writer.flush() {
             Ok(()) => Ok(()),
             Err(_) => Err(EngineError::Write),
