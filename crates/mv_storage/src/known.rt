@@ -1,5 +1,5 @@
 // The keys that were looked up last, each with its place, so that no search is needed as long as few keys take turns.
-ghost use Rattle.std.specs.Prelude.{◌≡◌, ◌<◌, Some, MatchOption, option_copied, slice_get};
+ghost use Rattle.std.specs.Prelude.{◌≡◌, ◌<◌, false, Some, MatchOption, option_copied, slice_get};
 ghost use Rattle.std.specs.BTreeMap.{get};
 ghost use Rattle.mv_storage.specs.Slots.{key_cmp, IsRemembered, IsForgotten, IsNotedDown};
 
@@ -10,6 +10,9 @@ use std::collections::BTreeMap;
 #[derive(Drop)]
 pub(crate) struct Known {
     pub(crate) lines: [Option<(Key, usize)>; 8],
+    // whether any was looked up since all were forgotten
+    is_used: bool,
+    ghost unused: { is_used ≡ false → IsForgotten lines },
 }
 
 // 2^64.
@@ -53,7 +56,10 @@ impl Known {
     pub(crate) fn new() -> Self
         ensures { IsForgotten result.lines }
     {
-        Known { lines: [None; 8] }
+        Known {
+            lines: [None; 8],
+            is_used: false,
+        }
     }
 
     // Forgets all keys.
@@ -61,7 +67,10 @@ impl Known {
     pub(crate) fn forget(&mut self)
         ensures { IsForgotten self.new.lines }
     {
-        self.lines = [None; 8];
+        if self.is_used {
+            self.lines = [None; 8];
+            self.is_used = false;
+        }
     }
 
     // The place that is remembered for a key.
@@ -83,5 +92,6 @@ impl Known {
     {
         let line = line_of(key.address);
         self.lines[line] = Some((key, place));
+        self.is_used = true;
     }
 }

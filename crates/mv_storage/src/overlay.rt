@@ -8,7 +8,7 @@ ghost use Rattle.std.specs.Prelude.{true, false, Some, Ok, Err};
 ghost use Rattle.std.specs.Borrow.{sem};
 ghost use Rattle.mv_storage.specs.Lending.{LendsLent, LendsWords, lent_words};
 
-use crate::{Storage, Value};
+use crate::{Room, Storage, Value};
 use mv_move_types::Key;
 use std::alloc::{AllocError, Global};
 
@@ -54,15 +54,15 @@ impl Overlay<'_> {
         self.storage.allocator()
     }
 
-    /// Takes out the memory that is kept for the words of a run: a list, of which the contents mean nothing. Nothing else changes.
-    pub fn take_room(&mut self) -> Vec<u128>
+    /// Takes out the memory that is kept for the words of a run. Nothing else changes.
+    pub fn take_room(&mut self) -> Room
         ensures same { self.new ≡ self.old }
     {
         self.storage.take_room()
     }
 
-    /// Keeps memory for the words of the next run, if it is at most 64 MiB. Nothing else changes.
-    pub fn keep_room(&mut self, room: Vec<u128>)
+    /// Keeps memory for the words of the next run: 64 MiB for locals and 1 MiB for operands at most. Nothing else changes.
+    pub fn keep_room(&mut self, room: Room)
         ensures same { self.new ≡ self.old }
     {
         self.storage.keep_room(room)

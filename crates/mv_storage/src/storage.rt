@@ -16,6 +16,7 @@ use crate::blocks::{Undone, close, note_all, take_back};
 use crate::changes::{Changes, firsts, newest};
 use crate::known::Known;
 use crate::places::Places;
+use crate::room::Room;
 use crate::slot::Layer;
 use crate::slots::{own_in, place_for, put_into, ready_in, settle, take_from};
 use crate::{Entries, Overlay, Value};
@@ -26,9 +27,6 @@ use std::marker::Model;
 use std::mem::replace;
 use std::ops::RangeBounds;
 
-// So many words are kept for the next run at most (64 MiB), which is what a run's locals take at most.
-const MOST_KEPT: usize = 0x40_0000;
-
 /// Values, each under its key. A contract sees those that are committed, what the run at work has made of them by now, and those
 /// that were committed when each open block was begun, the oldest first: each is the list of entries by ascending key, every value
 /// as its words.
@@ -38,8 +36,8 @@ pub struct Storage {
     touched: Vec<(Key, usize)>,
     // the keys that were looked up last, and their places
     known: Known,
-    // memory for the words of the next run; what it holds means nothing
-    room: Vec<u128>,
+    // memory for the words of the next run
+    room: Room,
     // what was committed since the oldest open block was begun, and how much of it when each open block was
     undo: Vec<Undone>,
     marks: Marks,
@@ -129,7 +127,7 @@ impl Storage {
             places: Places::new(alloc),
             touched: Vec::new(alloc),
             known: Known::new(),
-            room: Vec::new(alloc),
+            room: Room::new(alloc),
             undo: Vec::new(alloc),
             marks: Marks::new(alloc),
             alloc,
@@ -148,7 +146,7 @@ impl Storage {
             places,
             touched: Vec::new(alloc),
             known: Known::new(),
-            room: Vec::new(alloc),
+            room: Room::new(alloc),
             undo: Vec::new(alloc),
             marks: Marks::new(alloc),
             alloc,
@@ -161,19 +159,17 @@ impl Storage {
     }
 
     // Takes out the memory that is kept for the words of a run.
-    pub(crate) fn take_room(&mut self) -> Vec<u128>
+    pub(crate) fn take_room(&mut self) -> Room
         ensures { self.new ≡ self.old }
     {
-        replace(&mut self.room, Vec::new(self.alloc))
+        replace(&mut self.room, Room::new(self.alloc))
     }
 
-    // Keeps memory for the words of the next run, unless it is more than any run needs.
-    pub(crate) fn keep_room(&mut self, room: Vec<u128>)
+    // Keeps memory for the words of the next run.
+    pub(crate) fn keep_room(&mut self, room: Room)
         ensures { self.new ≡ self.old }
     {
-        if room.len() <= MOST_KEPT {
-            self.room = room;
-        }
+        self.room = room.kept(self.alloc);
     }
 
     /// The committed words under a key.
