@@ -28,7 +28,7 @@ ASKED: List[Row] = [
     Row("mv_move_types", "Refusal", "enum { Phase(u8), Memory }"),
     Row("mv_move_types", "Address", "type = u128"),
     Row("mv_uleb", "read", "fn(&[u8], u64) -> Result<(u64, usize), UlebError>", "mv_module_text"),
-    Row("mv_uleb", "write", "fn(u64, &mut Vec<u8>) -> Result<(), AllocError>", "mv_module_text mv_binary_format mv_certificate mv_ledger_state"),
+    Row("mv_uleb", "write", "fn(u64, &mut Vec<u8>) -> Result<(), AllocError>", "mv_module_text mv_binary_format mv_certificate mv_saved_text"),
     Row("mv_uleb", "UlebError", "enum { Ends, Long, Range }"),
     Row("mv_binary_format", "Module", "struct<'a>"),
     Row("mv_binary_format", "decode", "fn(&'a [u8]) -> Result<Module<'a>, Refusal>", "mv_ledger_state moveledger"),

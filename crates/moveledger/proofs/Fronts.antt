@@ -1,7 +1,7 @@
 -- What is read of known bytes, part by part: all of them, or enough of them to tell why they are not loaded.
 use Rattle.std.proofs.Common.{◌≡◌, ℕ, ◌-◌, ◌<◌, List, [], ◌∷◌, ◌++◌, length, take, arith, refl, sym, ap, ◌∙◌, subst, append-nil, append_assoc, Option, Some, None, IfSome}
 use Rattle.std.specs.Io.KnownBytes.{Consumes, IsAtEnd}
-use Rattle.mv_ledger_state.specs.Loading.{FailsLoad, LongerFail}
+use Rattle.mv_saved_text.specs.Loading.{FailsLoad, LongerFail}
 
 -- all of them
 pub whole-read : (given left : Option (List ℕ)) (bytes : List ℕ) → Consumes given left bytes → IsAtEnd left → IfSome given (λ xs. bytes ≡ xs)

@@ -3,9 +3,9 @@ use Rattle.std.proofs.Common.{◌≡◌, ℕ, ◌≤◌, ◌<◌, ◌⊎◌, Lis
 use Rattle.std.proofs.Math.Nat.{eq-or-lt_of_le}
 use Rattle.std.proofs.Math.Seq.{take-append_seam, take-length}
 use Rattle.std.specs.Io.KnownBytes.{Consumes, IsAtEnd}
-use Rattle.mv_ledger_state.specs.Loading.{FailsLoad}
-use Rattle.mv_ledger_state.specs.Loading.FailsLoad.{no_head}
-use Rattle.mv_ledger_state.specs.SavedText.{Form, First, Second, form_byte}
+use Rattle.mv_saved_text.specs.Loading.{FailsLoad}
+use Rattle.mv_saved_text.specs.Loading.FailsLoad.{no_head}
+use Rattle.mv_saved_text.specs.SavedText.{Form, First, Second, form_byte}
 use Rattle.mv_commands.specs.Marks.{IsMark, mark}
 
 is_marked : (form : Form) (bytes : List ℕ) → bytes ≡ mark (form_byte form) → IsMark bytes

@@ -2,7 +2,7 @@
 use Rattle.std.proofs.Common.{◌≡◌, ℕ, List, [], ◌∷◌, ◌++◌, length, refl, sym, ap, ap₂, ◌∙◌, subst, append_assoc}
 use Rattle.std.proofs.lemmas.List.{append_cancel_left}
 use Rattle.mv_uleb.proofs.Spelled.{one_form}
-use Rattle.mv_ledger_state.proofs.SavedOnce.{bytes-one}
+use Rattle.mv_saved_text.proofs.SavedOnce.{bytes-one}
 use Rattle.moveledger.specs.Records.{Record, Whole, Cut, IsText, Begins, AreRecords}
 
 text_one : (f g x y : List ℕ) (k l : ℕ) (p q : List ℕ) → IsText f k p → IsText g l q → f ++ x ≡ g ++ y → (k ≡ l) × (p ≡ q) × (x ≡ y)

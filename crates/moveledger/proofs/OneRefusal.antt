@@ -6,7 +6,7 @@ use Rattle.mv_certificate_rules.specs.Certificate.{Certificate}
 use Rattle.mv_machine.specs.Ledger.{Offer, LedgerState}
 use Rattle.mv_ledger_state.specs.Publishing.{Passes, FailsAt, phases, AllPass, IsLinked, HasRoom, IsPublished, IsRefusedAt, in_offer, in_linking, in_room}
 use Rattle.mv_ledger_state.proofs.Phases.{never-fails, one-first}
-use Rattle.mv_ledger_state.proofs.SavedFails.{none_fails, passed-one}
+use Rattle.mv_saved_text.proofs.SavedFails.{none_fails, passed-one}
 use Rattle.mv_ledger_state.proofs.Spelling.{OffersAreBytes}
 
 -- an offer fails one phase first

@@ -15,7 +15,7 @@ use Rattle.moveledger.specs.OneReport.{OneReport}
 use Rattle.moveledger.proofs.One.{begins_one, nothing_begins}
 use Rattle.moveledger.proofs.OneRequest.{offers_fit, publish-one, asks-one}
 use Rattle.mv_ledger_state.proofs.Spelling.{OffersAreBytes, offers_bytes}
-use Rattle.mv_ledger_state.proofs.SavedFails.{passed-one}
+use Rattle.mv_saved_text.proofs.SavedFails.{passed-one}
 use Rattle.moveledger.proofs.OneRefusal.{published_or_refused, refused-one}
 
 -- two replies are one, and so are the states after them

@@ -15,7 +15,7 @@ use Rattle.mv_machine.specs.Arguments.{arg_value}
 use Rattle.mv_ledger_state.specs.RecordText.{offer_text, offer_fits, publish_text, publish_fits, run_text, run_fits, argument_text, argument_fits, format_text, IsShaped, Asks}
 use Rattle.mv_ledger_state.specs.Payloads.{argument_from}
 use Rattle.mv_ledger_state.proofs.ShapesOfArguments.{arg_text, arg_fits, argument-whole}
-use Rattle.mv_ledger_state.proofs.SavedOnce.{IsOneOn, whole-one, uleb-one, counted-one, offers-one}
+use Rattle.mv_saved_text.proofs.SavedOnce.{IsOneOn, whole-one, uleb-one, counted-one, offers-one}
 
 -- ---- parts
 

@@ -2,9 +2,9 @@
 use Rattle.std.proofs.Common.{◌≡◌, ℕ, List, Option, Some, None, Result, Ok, Err, IfOk, IfSome, inl, inr, subst, sym}
 use Rattle.std.proofs.lemmas.Option.{same_Some}
 use Rattle.std.specs.Io.KnownBytes.{Appends}
-use Rattle.mv_ledger_state.specs.Loading.{FailsLoad, IsLoadRefusal, load_number}
-use Rattle.mv_ledger_state.specs.declared.saved.loading.LoadError.{LoadError}
-use Rattle.mv_ledger_state.specs.declared.saved.loading.LoadError.TheVariants.{Head, Module, Link, Body, Tally, Memory}
+use Rattle.mv_saved_text.specs.Loading.{FailsLoad, IsLoadRefusal, load_number}
+use Rattle.mv_saved_text.specs.declared.loading.LoadError.{LoadError}
+use Rattle.mv_saved_text.specs.declared.loading.LoadError.TheVariants.{Head, Module, Link, Body, Tally, Memory}
 use Rattle.moveledger.specs.Authoring.{Prints}
 use Rattle.moveledger.specs.Printing.{line, load_refused_text}
 use Rattle.moveledger.specs.Saved.{IsNotLoaded}

@@ -2,8 +2,8 @@
 use Rattle.std.specs.Prelude.{◌≡◌, ℕ, IfSome, List, Option}
 use Rattle.std.specs.Io.KnownBytes.{Appends}
 use Rattle.mv_machine.specs.Ledger.{LedgerState}
-use Rattle.mv_ledger_state.specs.SavedText.{Second, IsSavedText}
-use Rattle.mv_ledger_state.specs.Loading.{FailsLoad, IsLoaded}
+use Rattle.mv_saved_text.specs.SavedText.{Second, IsSavedText}
+use Rattle.mv_saved_text.specs.Loading.{FailsLoad, IsLoaded}
 use Rattle.moveledger.specs.Printing.{line, load_refused_text}
 use Rattle.moveledger.specs.Writing.{BreaksOff}
 use Rattle.moveledger.specs.declared.inputs.Bytes.{Bytes}

@@ -2,7 +2,7 @@
 ghost use Rattle.std.specs.Prelude.{◌≡◌, ◌⊎◌, ◌++◌, ◌<◌, ◌≤◌, ℕ, List, Option, IfErr, IfOk, IfSome, length, take};
 ghost use Rattle.std.specs.Io.KnownBytes.{Consumes, IsAtEnd};
 ghost use Rattle.std.specs.IoError.{error_kind};
-ghost use Rattle.mv_ledger_state.specs.Loading.{FailsLoad};
+ghost use Rattle.mv_saved_text.specs.Loading.{FailsLoad};
 ghost use Rattle.moveledger.specs.Saved.{IsRead};
 
 use crate::ending::End;
@@ -120,7 +120,7 @@ fn refusal_of(alloc: Global, bytes: &[u8]) -> Result<Option<u8>, End>
         return Ok(None);
     }
     // The last byte is the one more that each longer text has.
-    match mv_ledger_state::refusal_of_longer(alloc, &bytes[..bytes.len() - 1]) {
+    match mv_saved_text::refusal_of_longer(alloc, &bytes[..bytes.len() - 1]) {
         Ok(found) => Ok(found),
         Err(_) => Err(End::Memory),
     }

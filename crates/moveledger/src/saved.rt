@@ -1,8 +1,8 @@
 // The commands over saved ledgers, over what their files give and what they print.
 ghost use Rattle.std.specs.Prelude.{◌≡◌, ◌≢◌, ◌⊎◌, List, ℕ, Result, IfErr, IfOk, IfSome, OnOk};
 ghost use Rattle.std.specs.Fn.{FnOnceReturnsAt};
-ghost use Rattle.mv_ledger_state.specs.Loading.{FailsLoad, IsLoadRefusal, IsLoaded};
-ghost use Rattle.mv_ledger_state.specs.SavedText.{IsSavedText, Second};
+ghost use Rattle.mv_saved_text.specs.Loading.{FailsLoad, IsLoadRefusal, IsLoaded};
+ghost use Rattle.mv_saved_text.specs.SavedText.{IsSavedText, Second};
 ghost use Rattle.mv_ledger_state.specs.View.{state_of};
 ghost use Rattle.moveledger.specs.Saved.{IsMigrated, IsNotLoaded};
 ghost use Rattle.moveledger.specs.Status.{end_after_keeping};

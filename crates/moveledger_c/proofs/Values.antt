@@ -38,7 +38,7 @@ use Rattle.std.specs.contracts.alloc.Global as heap
 use Rattle.std.specs.contracts.impls.GlobalAllocator.TheImpl.{ghosts}
 use Rattle.std.specs.Global.{Global, Vec}
 use Rattle.mv_ledger_state.specs.View.{LedgerView}
-use Rattle.mv_ledger_state.specs.Flowing.{SavingView}
+use Rattle.mv_saved_text.specs.Flowing.{SavingView}
 use Rattle.moveledger_c.specs.contracts.parts.Parts as parts
 use Rattle.moveledger_c.specs.contracts.holder.Holder as holder
 use Rattle.moveledger_c.specs.contracts.saving_holder.SavingHolder as saving_holder

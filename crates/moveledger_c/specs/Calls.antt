@@ -14,7 +14,7 @@ use Rattle.mv_move_types.specs.declared.refusal.Refusal.TheVariants.{Phase}
 use Rattle.mv_machine.specs.Lines.{Told}
 use Rattle.mv_ledger.specs.Answering.{Replies}
 use Rattle.mv_lines.specs.LinesView.{ended}
-use Rattle.mv_ledger_state.specs.Loading.{FailsLoad, IsLoaded}
+use Rattle.mv_saved_text.specs.Loading.{FailsLoad, IsLoaded}
 use Rattle.mv_ledger_state.specs.View.{LedgerView, empty_view, state_of}
 use Rattle.mv_analyser.specs.declared.ProveError.{ProveError}
 use Rattle.mv_analyser.specs.declared.ProveError.TheVariants.{Refused, TooComplex, Memory}

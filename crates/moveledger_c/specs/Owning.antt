@@ -3,7 +3,7 @@ use Rattle.std.specs.Prelude.{◌≡◌, ℕ, List, [], Option, Some, None}
 use Rattle.std.specs.Vec.{vec_ptr, vec_len}
 use Rattle.std.specs.Global.{Global, Vec}
 use Rattle.mv_ledger_state.specs.View.{LedgerView}
-use Rattle.mv_ledger_state.specs.Flowing.{SavingView}
+use Rattle.mv_saved_text.specs.Flowing.{SavingView}
 use Rattle.std.specs.contracts.vec.Vec as vec
 use Rattle.std.specs.contracts.alloc.Global as heap
 use Rattle.std.specs.contracts.impls.GlobalAllocator.TheImpl.{ghosts}
@@ -13,7 +13,7 @@ use Rattle.std.specs.Box.Ownership.{box_owns}
 use base.Fml.{Fml, ftrue, ffalse, fsep, fex}
 use denote.RawPtr.{Ptr, block_ptr, null_ptr}
 use Rattle.mv_ledger.specs.contracts.Ledger as ledger
-use Rattle.mv_ledger_state.specs.contracts.saved.flowing.Saving as saving
+use Rattle.mv_saved_text.specs.contracts.flowing.Saving as saving
 
 -- a value on the heap, or none at null
 abbrev pub holds_value : (R : RattleType) → Ptr → Option R.Denot → Fml

@@ -4,7 +4,7 @@
 use Rattle.std.specs.Prelude.{◌≡◌, ℕ, ℤ, ◌≤◌, List, [], ◌++◌, length, Option, Some, None, ◌⊎◌}
 use Rattle.mv_machine.specs.Ledger.{LedgerState}
 use Rattle.mv_ledger_state.specs.View.{LedgerView, state_of}
-use Rattle.mv_ledger_state.specs.Flowing.{SavingView, left_in, new_save}
+use Rattle.mv_saved_text.specs.Flowing.{SavingView, left_in, new_save}
 use Rattle.moveledger_c.specs.Statuses.{done, memory, arguments, absent}
 
 -- a save at its beginning is held, or memory ran out and none is

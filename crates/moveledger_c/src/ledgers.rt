@@ -1,7 +1,7 @@
 // The calls on a ledger.
 ghost use Rattle.std.specs.Prelude.{◌≡◌, ◌⊎◌, Some, None, Ok, MatchOption, IfOk, OnOk, OnErr, String, string_bytes};
 ghost use Rattle.std.specs.Global.{Global};
-ghost use Rattle.mv_ledger_state.specs.SavedText.{IsSavedText, Second};
+ghost use Rattle.mv_saved_text.specs.SavedText.{IsSavedText, Second};
 ghost use Rattle.mv_ledger_state.specs.View.{state_of};
 ghost use Rattle.moveledger.specs.Outcome.{Begun, GoesOn, StopsAfter, StopsAt};
 ghost use Rattle.moveledger_c.specs.Calls.{IsNew, IsLoadedAs, IsApplied, IsOfHeld, IsReported, payload_of};

@@ -1,6 +1,6 @@
 // What holds a save for C.
 ghost use Rattle.std.specs.Prelude.{◌≡◌, Option, Some, None, MatchOption};
-ghost use Rattle.mv_ledger_state.specs.Flowing.{SavingView};
+ghost use Rattle.mv_saved_text.specs.Flowing.{SavingView};
 
 use crate::parts::Parts;
 use mv_ledger::Saving;

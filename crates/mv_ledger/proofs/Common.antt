@@ -60,11 +60,11 @@ pub use Rattle.mv_lines.specs.Auditing.{audit_from, counts_json, stored_of}
 pub use Rattle.mv_ledger.specs.Changes.{Leaves, RunsTo}
 pub use Rattle.mv_ledger_state.specs.Exact.{IsAccepted, IsRefused, failing, no_bundle}
 pub use Rattle.mv_ledger_state.specs.Judging.{IsAcceptedBy, IsRefusedBy}
-pub use Rattle.mv_ledger_state.specs.Parts.Saving.{IsWritable}
+pub use Rattle.mv_saved_text.specs.Parts.Saving.{IsWritable}
 pub use Rattle.mv_ledger_state.specs.Publishing.{AllPass, Spells}
 pub use Rattle.mv_ledger_state.specs.RecordText.{Asks, IsShaped, IsShapeless, argument_fits, format_text, offer_fits, run_fits}
 pub use Rattle.mv_ledger.specs.Running.{IsAdmission, IsAdmitted, IsSettled, run_of}
-pub use Rattle.mv_ledger_state.specs.SavedLaws.{IsSavable}
+pub use Rattle.mv_saved_text.specs.SavedLaws.{IsSavable}
 pub use Rattle.mv_ledger_state.specs.Tallying.{AddsTallies, tally_after}
 pub use Rattle.mv_ledger_state.proofs.TallyWords.{IsNamed}
 pub use Rattle.mv_ledger_state.specs.View.{AreScarce, IsLedger, IsSmall, IsTalliedStore, LedgerView, PublishedView, none_published, scarce_indices, state_of, view_of}

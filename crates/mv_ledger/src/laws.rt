@@ -4,9 +4,9 @@ ghost use Rattle.mv_ledger_state.specs.Counting.Headline.{EveryCountIsTallied};
 ghost use Rattle.mv_ledger_state.specs.Counting.Conservation.{EveryRunIsOwnWork, EveryRunConserves};
 ghost use Rattle.mv_ledger_state.specs.Accepted.Records.{EachRecordIsWell};
 ghost use Rattle.mv_lines.specs.Plain.{NoTextIsEscaped};
-ghost use Rattle.mv_ledger_state.specs.Flowing.{EachSaveFlows};
+ghost use Rattle.mv_saved_text.specs.Flowing.{EachSaveFlows};
 ghost use Rattle.mv_ledger_state.specs.View.{EachTallyIsScarce, state_of};
-ghost use Rattle.mv_ledger_state.specs.SavedLaws.{EachLedgerHasOneText, EachTextHasOneLedger, EachSaveIsLoaded, EachLoadIsSound, EachLoadIsOne, EachLoadIsSaved, EachSecondFormComesBack, NoLoadFails, NoSaveIsRefused};
+ghost use Rattle.mv_saved_text.specs.SavedLaws.{EachLedgerHasOneText, EachTextHasOneLedger, EachSaveIsLoaded, EachLoadIsSound, EachLoadIsOne, EachLoadIsSaved, EachSecondFormComesBack, NoLoadFails, NoSaveIsRefused};
 
 use crate::Ledger;
 

@@ -30,8 +30,8 @@ ghost use Rattle.mv_ledger_state.specs.View.{empty_view, state_of};
 ghost use Rattle.mv_ledger.specs.Answering.{told, told_lines, Replies, RepliesText};
 ghost use Rattle.mv_ledger_state.specs.RecordText.{format_text};
 ghost use Rattle.mv_ledger_state.specs.Accepted.SoundLedger.{IsSoundLedger};
-ghost use Rattle.mv_ledger_state.specs.SavedLaws.{IsSavable};
-ghost use Rattle.mv_ledger_state.specs.SavedText.{IsSavedText, Second};
+ghost use Rattle.mv_saved_text.specs.SavedLaws.{IsSavable};
+ghost use Rattle.mv_saved_text.specs.SavedText.{IsSavedText, Second};
 
 pub use changed::ChangedModules;
 use executing::{Barred, admitted};
@@ -46,12 +46,13 @@ pub use laws::{
 pub use loading::migrate;
 pub use modules::Modules;
 pub use mv_interface::StructName;
-pub use mv_ledger_state::{LoadError, Saving};
-use mv_ledger_state::{Published, read_run, text_of};
+use mv_ledger_state::{Published, read_run};
 pub use mv_lines::{Lines, Piece, Side};
 use mv_machine::Outcome;
 pub use mv_machine::Tally;
 use mv_move_types::Refusal;
+use mv_saved_text::text_of;
+pub use mv_saved_text::{LoadError, Saving};
 use mv_storage::Storage;
 pub use mv_storage::{Changes, Entries, Page};
 use std::alloc::{AllocError, Global};

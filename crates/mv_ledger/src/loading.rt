@@ -1,12 +1,12 @@
 // Loading a saved ledger, and giving it the second form.
 ghost use Rattle.std.specs.Prelude.{◌≡◌, [], ℕ, List, IfOk, IfErr};
 ghost use Rattle.mv_machine.specs.Ledger.{LedgerState};
-ghost use Rattle.mv_ledger_state.specs.Loading.{IsLoaded, IsLoadRefusal};
-ghost use Rattle.mv_ledger_state.specs.SavedText.{IsSavedText, Second};
+ghost use Rattle.mv_saved_text.specs.Loading.{IsLoaded, IsLoadRefusal};
+ghost use Rattle.mv_saved_text.specs.SavedText.{IsSavedText, Second};
 ghost use Rattle.mv_ledger_state.specs.View.{state_of};
 
 use crate::Ledger;
-use mv_ledger_state::LoadError;
+use mv_saved_text::LoadError;
 use std::alloc::Global;
 
 impl Ledger {
@@ -20,7 +20,7 @@ impl Ledger {
         ensures closed { IfOk result (λ l. l.marks ≡ []) }
         ensures refused { IfErr result (IsLoadRefusal bytes.now) }
     {
-        let loaded = mv_ledger_state::load(alloc, bytes)?;
+        let loaded = mv_saved_text::load(alloc, bytes)?;
         Ok(Ledger {
             alloc,
             published: loaded.published,

@@ -1,10 +1,10 @@
 // A ledger's text piece by piece.
 ghost use Rattle.std.specs.Prelude.{◌≡◌, IfOk, OnErr};
-ghost use Rattle.mv_ledger_state.specs.Flowing.{left_in, GivesNext};
+ghost use Rattle.mv_saved_text.specs.Flowing.{left_in, GivesNext};
 ghost use Rattle.mv_ledger_state.specs.View.{state_of};
 
 use crate::Ledger;
-use mv_ledger_state::Saving;
+use mv_saved_text::Saving;
 use std::alloc::AllocError;
 
 impl Ledger {

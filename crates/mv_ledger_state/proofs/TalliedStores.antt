@@ -1,12 +1,10 @@
--- A store with its tallies: each tally has a name, and they are those of the scarce structs. A run adds to them, and a load reads their
--- counts: both keep that.
+-- A store with its tallies: each tally has a name, and they are those of the scarce structs. A run adds to them,
+-- which keeps that.
 use Rattle.mv_ledger_state.proofs.Common.{[], ◌++◌, ◌+◌, ◌∙◌, ◌∷◌, ◌≡◌, List, Some, ap, ap₂, arith, get_or, length, map, refl, subst, suc, sym, zero-add, ℕ, length-map, map-append}
 use Rattle.mv_ledger_state.proofs.Common.{All-append, All-nil, All, IsSome, filter_map, slice_get, unwrap_or, Module, name_at, StructName, PublishedModule, InBounds, StructTally, scarce_name, scarce_structs}
-use Rattle.mv_ledger_state.proofs.Common.{untouched_tally, Tallied, then_found, IsPublishable, IsStore, tables_in, All-at, nameless, fresh_tally, tally_after, struct_of, ArePlaced, AreScarce}
+use Rattle.mv_ledger_state.proofs.Common.{untouched_tally, Tallied, then_found, IsPublishable, IsStore, tables_in, All-at, nameless, fresh_tally, tally_after, ArePlaced, AreScarce}
 use Rattle.mv_ledger_state.proofs.Common.{IsNamed, IsTalliedStore, all_of, scarce_indices, mapped-at, tallied, Tally}
 use Rattle.mv_ledger_state.proofs.Bundles.TalliesFresh.{struct_there, fresh-tallied, fresh-named, AreThere}
-use Rattle.mv_ledger_state.proofs.Loads.BodyTallies.{placed-kept}
-use Rattle.mv_ledger_state.proofs.Loads.LoadedTallies.{still-scarce}
 use Rattle.mv_ledger_state.proofs.Runs.ScarceTallies.{All-back}
 use Rattle.mv_ledger_state.proofs.Runs.TalliesAfter.{map-where, map-then, scarce-after}
 use Rattle.mv_ledger_state.proofs.Runs.TalliesByModule.{placed-after}
@@ -120,7 +118,3 @@ module _ (modules : List PublishedModule) (tss : List (List Tally)) (held : IsTa
     placed = placed-after run 0 tss held.placed;
     scarce = scarce-after run (tables_in modules) tss held.scarce;
   })
-
-  -- their counts are read
-  pub read-held : (uss : List (List Tally)) → map (map struct_of) uss ≡ map (map struct_of) tss → IsTalliedStore modules uss
-  read-held uss kept = record { few = held.few; store = held.store; placed = placed-kept 0 uss tss kept held.placed; scarce = still-scarce (tables_in modules) tss uss kept held.scarce }

@@ -8,12 +8,6 @@ pub mod Payloads
 pub mod Judging
 pub mod Counting
 pub mod Accepted
-pub mod SavedText
-pub mod Loading
-pub mod SavedLaws
-pub mod Layouts
-pub mod Inside
-pub mod Flowing
-pub mod Parts
+pub mod Joining
 pub mod Unread
 pub mod Blocks

@@ -1,5 +1,5 @@
 //! What a ledger holds: its published modules, with the tallies of their structs, which bundles join, and blocks of both, which can be
-//! taken back; what a record's payload asks; and the text that a ledger is saved as.
+//! taken back; and what a record's payload asks.
 //!
 //! ```
 //! use mv_ledger_state::Published;
@@ -19,16 +19,12 @@ mod blocks;
 mod payload;
 mod published;
 mod publishing;
-mod saved;
 mod tallies;
 mod undoing;
-mod unread;
+pub mod unread;
 
 pub use mv_linker::Store;
-pub use payload::{Bundle, Offered, RunRecord, read_bundle, read_run};
+pub use payload::{Bundle, Offered, RunRecord, leaf, offers, read_bundle, read_run};
 pub use published::Published;
-pub use saved::flowing::Saving;
-pub use saved::loading::longer::refusal_of_longer;
-pub use saved::loading::{LoadError, Loaded, load};
-pub use saved::saving::text_of;
+pub use publishing::{all_verified, are_bytes, verified};
 pub use tallies::Tallies;

@@ -20,7 +20,7 @@ use mv_move_types::{LeafKind, Refusal, Version};
 use std::alloc::{AllocError, Global};
 
 // What the reader refuses malformed bytes with. So do the functions here.
-pub const MALFORMED: Refusal = Refusal::Phase(2);
+pub(crate) const MALFORMED: Refusal = Refusal::Phase(2);
 
 /// A module that is offered, with its certificate.
 #[derive(Clone, Copy)]

@@ -124,7 +124,7 @@ impl Published {
     ///
     /// `Phase(13)`, where all of them together may not join those that are there; `Phase(14)`, where there would be too many;
     /// `Memory`, where a growth was refused. Nothing changes then.
-    pub(crate) fn join(
+    pub fn join(
         &mut self,
         alloc: Global,
         sender: Option<u128>,

@@ -1,29 +1,22 @@
 // Tallies of the structs with neither copy nor drop.
-ghost use Rattle.std.specs.Prelude.{◌≡◌, ℕ, ◌+◌, ◌-◌, ◌^◌, ◌<◌, ◌≤◌, List, [], ◌∷◌, ◌++◌, All, true, length, map, drop, slice_get, slice_set, unwrap_or, Some, IfNone, IfOk, IfErr, IfSome, OnOk};
+ghost use Rattle.std.specs.Prelude.{◌≡◌, ℕ, ◌+◌, ◌-◌, ◌^◌, ◌<◌, ◌≤◌, List, [], ◌∷◌, ◌++◌, All, true, length, map, drop, slice_get, slice_set, unwrap_or, Some, IfNone, IfOk, IfSome};
 ghost use Rattle.std.specs.Vec.{vec_len, vec_capacity};
 ghost use Rattle.mv_move_types.specs.Published.{PublishedModule};
 ghost use Rattle.mv_undo.specs.Undo.{undone};
 ghost use Rattle.mv_linker.specs.Stored.{with_at};
 ghost use Rattle.mv_frames.specs.Counters.{AtMost, is_tally_at};
-ghost use Rattle.mv_module_text.specs.Parsing.{entries_from};
 ghost use Rattle.mv_ledger_state.specs.Blocks.{held_in, tally_back, Ascend, CanNote};
-ghost use Rattle.mv_ledger_state.specs.Parts.BodyParts.{form_of, counts_of, struct_of, tally_from};
-ghost use Rattle.mv_ledger_state.specs.Parts.Joining.{with_placed, AreWithin};
+ghost use Rattle.mv_ledger_state.specs.Joining.{with_placed, AreWithin};
 ghost use Rattle.mv_ledger_state.specs.Tallying.{fresh_tally, tally_after, AreInOrder, HasRoomFor, HasRoomLeft, IsRoomFor};
-ghost use Rattle.mv_ledger_state.specs.Unread.{IsUnread};
 ghost use Rattle.mv_ledger_state.specs.View.{ArePlaced, scarce_indices};
 ghost use Rattle.mv_machine.specs.Tallies.{all_of, lists_of};
 ghost use Rattle.mv_machine.specs.declared.Tally.{Tally as Counts};
 
 use crate::blocks::{Blocks, TallyBefore};
-use crate::saved::loading::head::SavedForm;
-use crate::saved::loading::tallies::read_tallies;
-use crate::unread::Unread;
 use mv_binary_format::Module;
 use mv_frames::StructTally;
 use mv_linker::is_scarce;
 use mv_machine::Tally;
-use mv_module_text::Reader;
 use std::alloc::{AllocError, Global};
 use std::marker::Model;
 use std::mem::replace;
@@ -220,7 +213,7 @@ impl Tallies {
     }
 
     /// How many modules there are.
-    pub(crate) fn len(&self) -> usize
+    pub fn len(&self) -> usize
         ensures count { result ≡ length self.now }
         ensures placed { ArePlaced 0 self.now }
     {
@@ -235,7 +228,7 @@ impl Tallies {
     }
 
     /// The tallies of the module at a place; none, if no module is there.
-    pub(crate) fn at(&self, place: usize) -> &[Tally]
+    pub fn at(&self, place: usize) -> &[Tally]
         ensures { result.now ≡ unwrap_or (slice_get self.now place) [] }
     {
         match self.modules.get(place) {
@@ -261,18 +254,6 @@ impl Tallies {
             tallies.push(untouched(place as u16, *index))?;
         }
         Ok(tallies)
-    }
-
-    /// Reads the counts of all tallies, module by module, in place of those that they have.
-    pub(crate) fn read(&mut self, reader: &mut Reader<'_>, form: SavedForm) -> Result<(), Unread>
-        ensures ok { OnOk result (entries_from (tally_from (form_of form)) (length (all_of self.old)) reader.old ≡ Some (map counts_of (all_of self.new), reader.new)) }
-        ensures refused { IfErr result (IsUnread (entries_from (tally_from (form_of form)) (length (all_of self.old))) reader.old) }
-        ensures kept { map (map struct_of) self.new ≡ map (map struct_of) self.old }
-    {
-        'each: for tallies in self.modules.iter_mut() {
-            read_tallies(reader, form, tallies)?;
-        }
-        Ok(())
     }
 
     /// Adds what a run did to each tally, and notes what those were that changed.

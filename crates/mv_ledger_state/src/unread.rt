@@ -1,4 +1,4 @@
-// Why bytes are not read, told apart by whether more bytes may help; and numbers that are read so.
+//! Why bytes are not read, told apart by whether more bytes may help; and numbers that are read so.
 ghost use Rattle.std.specs.Prelude.{◌≡◌, ◌≤◌, Some, IfErr, IfOk, OnOk};
 ghost use Rattle.mv_uleb.specs.Parsing.{number_from};
 ghost use Rattle.mv_module_text.specs.Parsing.{mark_from};
@@ -46,7 +46,7 @@ impl From<Refusal> for Unread {
 }
 
 /// The refusal of bytes of which a part was not read.
-pub fn refusal(unread: Unread) -> Refusal
+pub(crate) fn refusal(unread: Unread) -> Refusal
     ensures { result ≡ refusal_by unread }
 {
     match unread {

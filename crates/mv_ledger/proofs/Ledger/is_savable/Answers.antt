@@ -1,5 +1,5 @@
 use Rattle.mv_ledger.proofs.Common.{subst, IsSavable, LedgerView, all_of, state_of}
-use Rattle.mv_ledger_state.proofs.Saves.SavedLoads.{ledger-savable}
+use Rattle.mv_saved_text.proofs.Saves.SavedLoads.{ledger-savable}
 use Rattle.mv_ledger.proofs.Ledger.is_savable.Goals as goal
 
 pub returns : goal.returns

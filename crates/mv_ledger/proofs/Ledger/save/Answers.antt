@@ -1,5 +1,5 @@
 use Rattle.mv_ledger.proofs.Common.{[], LedgerView, ◌∙◌, ap, arith, subst, sym, All, IsFineWords, IsWritable, PublishedView, tables_in, all_of, view_of}
-use Rattle.mv_ledger_state.proofs.Saves.Written.{all-writable, saved-so}
+use Rattle.mv_saved_text.proofs.Saves.Written.{all-writable, saved-so}
 use Rattle.mv_ledger.specs.Marks.{marked}
 use Rattle.mv_ledger.proofs.Ledger.save.Goals as goal
 

@@ -1,4 +1,4 @@
-use Rattle.mv_ledger_state.proofs.SavedFails.{loads-one}
+use Rattle.mv_saved_text.proofs.SavedFails.{loads-one}
 use Rattle.mv_ledger.proofs.laws.each_load_is_one.Goals as goal
 
 pub returns : goal.returns

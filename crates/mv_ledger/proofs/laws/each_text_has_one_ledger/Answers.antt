@@ -1,4 +1,4 @@
-use Rattle.mv_ledger_state.proofs.Saves.Saved.{ledgers-one}
+use Rattle.mv_saved_text.proofs.Saves.Saved.{ledgers-one}
 use Rattle.mv_ledger.proofs.laws.each_text_has_one_ledger.Goals as goal
 
 pub returns : goal.returns

@@ -1,4 +1,4 @@
-use Rattle.mv_ledger_state.proofs.SavedFails.{loads-hold}
+use Rattle.mv_saved_text.proofs.SavedFails.{loads-hold}
 use Rattle.mv_ledger.proofs.laws.no_load_fails.Goals as goal
 
 pub returns : goal.returns

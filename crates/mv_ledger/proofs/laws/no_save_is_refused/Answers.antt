@@ -1,5 +1,5 @@
 use Rattle.mv_ledger_state.specs.View.{state_of}
-use Rattle.mv_ledger_state.proofs.NeverRefused.{saves-never-refused}
+use Rattle.mv_saved_text.proofs.NeverRefused.{saves-never-refused}
 use Rattle.mv_ledger.proofs.laws.no_save_is_refused.Goals as goal
 
 pub returns : goal.returns

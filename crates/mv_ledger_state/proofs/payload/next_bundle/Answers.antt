@@ -1,5 +1,5 @@
 use Rattle.mv_ledger_state.proofs.Common.{◌≡◌, ◌∙◌, sym, Phase, counted_from, offer_from}
-use Rattle.mv_ledger_state.proofs.Loads.UnreadHead.{bundle-none, unread-none}
+use Rattle.mv_ledger_state.proofs.Unreading.{bundle-none, unread-none}
 use Rattle.mv_ledger_state.proofs.payload.next_bundle.Goals as goal
 
 pub returns-in-Err-clause-refused : goal.returns-in-Err-clause-refused

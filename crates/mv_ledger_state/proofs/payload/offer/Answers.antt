@@ -1,5 +1,5 @@
 use Rattle.mv_ledger_state.proofs.Common.{err_from_is_err_and}
-use Rattle.mv_ledger_state.proofs.Loads.UnreadHead.{certificate-unread}
+use Rattle.mv_ledger_state.proofs.Unreading.{certificate-unread}
 use Rattle.mv_ledger_state.proofs.payload.offer.Goals as goal
 
 pub returns-in_err-certificate-clause-refused : goal.returns-in_err-certificate-clause-refused

@@ -1,6 +1,6 @@
 use Rattle.mv_ledger_state.proofs.Common.{[], ◌++◌, ◌+◌, ◌-◌, ◌∙◌, ◌∷◌, ◌≡◌, ap, arith, subst, sym, common_steps, err_from_is_err_and, map-append, ReadsOn, ReadsOn-next, entries_from, offer_of, offers_of, offer_from}
-use Rattle.mv_ledger_state.proofs.Loads.UnreadHead.{counted-unread, offer-extends}
-use Rattle.mv_ledger_state.proofs.Loads.Unreading.{onward-unread, entries-onward, entries-unread}
+use Rattle.mv_ledger_state.proofs.Unreading.{counted-unread, offer-extends}
+use Rattle.mv_ledger_state.proofs.Unreading.{onward-unread, entries-onward, entries-unread}
 use Rattle.mv_ledger_state.proofs.payload.offers.Goals as goal
 
 pub returns-in_err-next-clause-refused : goal.returns-in_err-next-clause-refused

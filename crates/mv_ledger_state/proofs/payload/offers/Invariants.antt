@@ -1,5 +1,5 @@
 use Rattle.mv_ledger_state.proofs.Common.{◌-◌, ReadsOn, entries_from, offers_of, offer_from}
-use Rattle.mv_ledger_state.proofs.Loads.Unreading.{Onward}
+use Rattle.mv_ledger_state.proofs.Unreading.{Onward}
 use Rattle.mv_ledger_state.proofs.payload.offers.Given as goal
 
 abbrev pub invariant-each : goal.invariant-each

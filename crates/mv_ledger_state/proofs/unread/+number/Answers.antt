@@ -1,5 +1,5 @@
 use Rattle.mv_ledger_state.proofs.Common.{arith}
-use Rattle.mv_ledger_state.proofs.Loads.Unreading.{zero-stays, above-stays}
+use Rattle.mv_ledger_state.proofs.Unreading.{zero-stays, above-stays}
 use Rattle.mv_ledger_state.proofs.unread.+number.Goals as goal
 
 pub returns-then-high-eq0-clause-refused : goal.returns-then-high-eq0-clause-refused

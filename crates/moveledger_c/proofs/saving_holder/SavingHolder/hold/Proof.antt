@@ -23,7 +23,7 @@ use Rattle.std.specs.Box.Ownership.{box_owns}
 use Rattle.std.specs.contracts.alloc.Global as heap
 use Rattle.std.proofs.alloc.Global.TheLaws as heap_laws
 use Rattle.std.specs.contracts.impls.GlobalAllocator.TheImpl.{ghosts}
-use Rattle.mv_ledger_state.specs.contracts.saved.flowing.Saving as saving
+use Rattle.mv_saved_text.specs.contracts.flowing.Saving as saving
 use Rattle.moveledger_c.proofs.Values.{both, Parts, parts_good, parts_out, SavingHolder, word, saving_in}
 use Rattle.moveledger_c.specs.contracts.saving_holder.SavingHolder.hold.{ended, clauses}
 use Rattle.moveledger_c.specs.contracts.saving_holder.SavingHolder.hold.Key.{name as #self}

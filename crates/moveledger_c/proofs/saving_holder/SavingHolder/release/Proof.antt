@@ -26,7 +26,7 @@ use Rattle.std.proofs.raw_atomic.Walks.{proved_at, leaves}
 use Rattle.std.specs.contracts.alloc.Global as heap
 use Rattle.std.proofs.alloc.Global.TheLaws as heap_laws
 use Rattle.std.specs.contracts.impls.GlobalAllocator.TheImpl.{ghosts}
-use Rattle.mv_ledger_state.specs.contracts.saved.flowing.Saving as saving
+use Rattle.mv_saved_text.specs.contracts.flowing.Saving as saving
 use Rattle.moveledger_c.proofs.Values.{both, Parts, parts_good, parts_in, SavingHolder, word, saving_out, either_holds}
 use Rattle.moveledger_c.specs.contracts.saving_holder.SavingHolder.release.{ended, clauses}
 use Rattle.moveledger_c.specs.contracts.saving_holder.SavingHolder.release.Key.{name as #self}

@@ -1,7 +1,0 @@
-use Rattle.mv_ledger_state.proofs.Common.{subst, sym, offers_of, AreNotJoined}
-use Rattle.mv_ledger_state.proofs.Loads.LoadedModules.{not-passed}
-use Rattle.mv_ledger_state.proofs.published.Published.of_offers_singly.Goals as goal
-
-pub returns-in-Err-clause-refused : goal.returns-in-Err-clause-refused
-returns-in-Err-clause-refused c =
-    subst (AreNotJoined (offers_of c.args.offers.now)) (sym c.because.ensures) (not-passed (offers_of c.args.offers.now) c.in-Err.refusal c.in-Err.ensures.refused)

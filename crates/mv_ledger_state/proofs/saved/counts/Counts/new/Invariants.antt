@@ -1,5 +1,0 @@
-use Rattle.mv_ledger_state.proofs.Common.{◌≡◌, map, take, no_counts}
-use Rattle.mv_ledger_state.proofs.saved.counts.Counts.new.Given as goal
-
-abbrev pub invariant-each : goal.invariant-each
-invariant-each l = map (λ r. r.items) l.rows.items ≡ take l.place (no_counts l.layouts)

@@ -1,9 +1,0 @@
-use Rattle.mv_ledger_state.proofs.Common.{length}
-use Rattle.mv_ledger_state.proofs.Loads.CountedStructs.{IsCounting}
-use Rattle.mv_ledger_state.proofs.saved.counts.stored_counts.Given as goal
-
-abbrev pub invariant-each : goal.invariant-each
-invariant-each l = IsCounting l.layouts l.fn.storage.committed l.entries l.counts
-
-abbrev pub decreases-each : goal.decreases-each
-decreases-each l = length l.entries

@@ -1,6 +1,0 @@
-use Rattle.mv_ledger_state.proofs.Common.{take}
-use Rattle.mv_ledger_state.proofs.Loads.CountedStructs.{IsAdding}
-use Rattle.mv_ledger_state.proofs.saved.loading.balance.all_counts.Given as goal
-
-abbrev pub invariant-each : goal.invariant-each
-invariant-each l = IsAdding l.layouts l.storage.committed (take l.d-index l.d-items) l.counts

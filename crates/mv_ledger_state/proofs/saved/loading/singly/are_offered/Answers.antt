@@ -1,6 +1,0 @@
-use Rattle.mv_ledger_state.proofs.Common.{arith}
-use Rattle.mv_ledger_state.proofs.Loads.Offering.{offered-more}
-use Rattle.mv_ledger_state.proofs.saved.loading.singly.are_offered.Goals as goal
-
-pub each-preserved : goal.each-preserved
-each-preserved c = offered-more c.args.offers.now c.args.store.now c.each.place _ c.each.invariant c.each-test.true (omega arith) (c.is_offered.ensures c.if-not-is_offered.false)

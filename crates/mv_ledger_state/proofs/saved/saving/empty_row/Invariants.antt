@@ -1,5 +1,0 @@
-use Rattle.mv_ledger_state.proofs.Common.{◌≡◌, length, All, IsEmpty}
-use Rattle.mv_ledger_state.proofs.saved.saving.empty_row.Given as goal
-
-abbrev pub invariant-each : goal.invariant-each
-invariant-each l = (length l.row.items ≡ l.index) × All IsEmpty l.row.items

@@ -1,5 +1,0 @@
-use Rattle.mv_ledger_state.proofs.Common.{◌++◌, ◌≡◌, take, counts_text}
-use Rattle.mv_ledger_state.proofs.saved.saving.put_tallies_of.Given as goal
-
-abbrev pub invariant-each : goal.invariant-each
-invariant-each l = l.text.items ≡ l.fn.text.items ++ counts_text (take l.tally-index l.tallies)

@@ -1,6 +1,0 @@
-use Rattle.mv_ledger_state.proofs.Common.{all_of}
-use Rattle.mv_ledger_state.proofs.Saves.Steps.{counts-come}
-use Rattle.mv_ledger_state.proofs.saved.steps.tallies_of.Goals as goal
-
-pub returns : goal.returns
-returns c = λ s same. counts-come s (all_of c.args.tallies.now) c.new-text.result.items c.put_tallies.new.text.items same c.new-text.ensures.items c.in_ok-put_tallies.ensures

@@ -1,5 +1,0 @@
-use Rattle.mv_ledger_state.proofs.Common.{List, subst, sym, All, Module, IsFineWords}
-use Rattle.mv_ledger_state.proofs.saved.steps.values_of.Goals as goal
-
-pub values-requires : goal.values-requires
-values-requires c = subst (λ (ms : List Module). All (IsFineWords ms) c.args.storage.now.committed) (sym c.in_ok-layouts.ensures) c.requires.fine
