@@ -14,7 +14,7 @@ ghost use Rattle.moveledger.specs.Pacing.{IsDoneForAll, IsDoneUntil, IsFailed};
 use crate::answering::{answer, write_reply};
 use crate::pacing::{AfterRecord, Gathering, MOST_LINE_BYTES};
 use crate::reading::{Next, read_byte, rest_of_record};
-use mv_ledger::{Ledger, Reply};
+use mv_ledger::{Ledger, Reply, Scratch};
 use std::alloc::{AllocError, Global};
 use std::io::{Read, Write};
 use thiserror::Error;
@@ -164,11 +164,16 @@ pub fn answer_from<R: Read, W: Write, A: AfterRecord<R, W>>(
 {
     let alloc = ledger.allocator();
     // Each payload is read into the memory of the one before it, and the line of each reply is made in that of the one before it.
-    let mut payload = Vec::new(alloc);
-    let mut line = Vec::new(alloc);
+    let Scratch {
+        mut payload,
+        mut line,
+    } = ledger.take_scratch();
     for n in *answered..u64::MAX {
         match next_with_room(alloc, reader, writer, &mut payload, &mut line, after)? {
-            Next::End => return Ok(()),
+            Next::End => {
+                ledger.keep_scratch(Scratch { payload, line });
+                return Ok(());
+            }
             Next::Cut => {
                 write_reply(writer, n + 1, Reply::Refused(1), &mut line)?;
                 *answered = n + 1;

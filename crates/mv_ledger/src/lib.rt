@@ -24,6 +24,7 @@ mod loading;
 mod modules;
 mod questions;
 mod saving;
+mod scratch;
 
 ghost use Rattle.std.specs.Prelude.{◌≡◌, is_some, IfOk};
 ghost use Rattle.mv_ledger_state.specs.View.{empty_view, state_of};
@@ -55,6 +56,7 @@ use mv_saved_text::text_of;
 pub use mv_saved_text::{LoadError, Saving};
 use mv_storage::Storage;
 pub use mv_storage::{Changes, Entries, Page};
+pub use scratch::Scratch;
 use std::alloc::{AllocError, Global};
 use std::marker::Model;
 
@@ -93,6 +95,7 @@ pub struct Ledger {
     runs: u64,
     // How many runs there were where each open block was begun, the oldest first.
     run_marks: Vec<u64>,
+    scratch: Scratch,
 }
 
 impl Model for Ledger {
@@ -120,6 +123,7 @@ impl Ledger {
             storage: Storage::new(alloc),
             runs: 0,
             run_marks: Vec::new(alloc),
+            scratch: Scratch::new(alloc),
         }
     }
 

@@ -5,7 +5,7 @@ ghost use Rattle.mv_saved_text.specs.Loading.{IsLoaded, IsLoadRefusal};
 ghost use Rattle.mv_saved_text.specs.SavedText.{IsSavedText, Second};
 ghost use Rattle.mv_ledger_state.specs.View.{state_of};
 
-use crate::Ledger;
+use crate::{Ledger, Scratch};
 use mv_saved_text::LoadError;
 use std::alloc::Global;
 
@@ -27,6 +27,7 @@ impl Ledger {
             storage: loaded.storage,
             runs: loaded.runs,
             run_marks: Vec::new(alloc),
+            scratch: Scratch::new(alloc),
         })
     }
 }

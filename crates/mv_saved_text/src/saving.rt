@@ -23,7 +23,6 @@ use byteorder::{ByteOrder, LittleEndian};
 use mv_ledger_state::Tallies;
 use mv_linker::Store;
 use mv_machine::Tally;
-use mv_module_text::write_address;
 use mv_move_types::{Definition, Key, LeafKind, Width};
 use mv_storage::Storage;
 use std::alloc::{AllocError, Global};
@@ -80,6 +79,21 @@ fn put_number(text: &mut Vec<u8>, width: Width, n: u128) -> Result<(), AllocErro
     }
 }
 
+/// Appends bytes. It isn't inlined: where it is, the bytes of an address are moved one by one.
+#[inline(never)]
+fn put_bytes(text: &mut Vec<u8>, bytes: &[u8]) -> Result<(), AllocError>
+    ensures { OnOk result (text.new.items ≡ text.old.items ++ bytes.now) }
+{
+    text.extend_from_slice(bytes)
+}
+
+/// Appends an address.
+pub fn put_address(text: &mut Vec<u8>, address: u128) -> Result<(), AllocError>
+    ensures { OnOk result (text.new.items ≡ text.old.items ++ address_text address) }
+{
+    put_bytes(text, &address.to_be_bytes())
+}
+
 /// Appends a leaf of a kind.
 fn put_leaf(text: &mut Vec<u8>, kind: LeafKind, n: u128) -> Result<(), AllocError>
     requires { IsTrue (leaf_fits kind n) }
@@ -91,7 +105,7 @@ fn put_leaf(text: &mut Vec<u8>, kind: LeafKind, n: u128) -> Result<(), AllocErro
             Ok(())
         }
         LeafKind::Number(width) => put_number(text, width, n),
-        LeafKind::Address => write_address(n, text),
+        LeafKind::Address => put_address(text, n),
         LeafKind::Signer => Ok(()),
     }
 }
@@ -180,7 +194,7 @@ fn add(section: &mut Section, address: u128, words: &[u128]) -> Result<(), Alloc
     ensures text { OnOk result (section.new.text.items ≡ section.old.text.items ++ (address_text address ++ coded section.old.kinds.items words.now)) }
 {
     section.count += 1;
-    write_address(address, &mut section.text)?;
+    put_address(&mut section.text, address)?;
     put_leaves(&mut section.text, &section.kinds, words)
 }
 

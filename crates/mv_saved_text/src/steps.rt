@@ -19,11 +19,10 @@ use crate::counts::{Counts as StoredCounts, stored_counts};
 use crate::layouts::Layouts;
 use crate::position::Position;
 use crate::saving::{
-    COUNT_BYTES, MARK, put_leaves, put_sized, put_tallies, structs_text, value_size,
+    COUNT_BYTES, MARK, put_address, put_leaves, put_sized, put_tallies, structs_text, value_size,
 };
 use mv_ledger_state::Tallies;
 use mv_linker::Store;
-use mv_module_text::write_address;
 use mv_move_types::{Address, Definition, LeafKind};
 use mv_storage::{Page, Storage};
 use std::alloc::{AllocError, Global};
@@ -227,7 +226,7 @@ fn page_text(alloc: Global, kinds: &[LeafKind], mut page: Page<'_>) -> Result<Ve
 {
     let mut text = Vec::new(alloc);
     'each: while let Some((key, words)) = page.next() {
-        write_address(key.address, &mut text)?;
+        put_address(&mut text, key.address)?;
         put_leaves(&mut text, kinds, words)?;
     }
     Ok(text)

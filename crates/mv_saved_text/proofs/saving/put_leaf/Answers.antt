@@ -1,11 +1,5 @@
-use Rattle.mv_saved_text.proofs.Common.{◌++◌, ◌^◌, ◌≡◌, Err, List, Ok, Result, arith, ℕ, ltb-true, OnOk, width_bits, address_text}
-use Rattle.mv_module_text.specs.Writes.{Writes}
+use Rattle.mv_saved_text.proofs.Common.{◌^◌, arith, ltb-true, width_bits}
 use Rattle.mv_saved_text.proofs.saving.put_leaf.Goals as goal
-
--- what was written stands behind what was there
-wrote : {T E : Type 0} (r : Result T E) (text old new : List ℕ) → Writes text old r new → OnOk r (new ≡ old ++ text)
-wrote (Ok v) text old new is = is
-wrote (Err e) text old new is = tt
 
 pub overflow_cast-n : goal.overflow_cast-n
 overflow_cast-n c = omega (arith, ltb-true c.args.n 2 (rw c.in-Boolean.is at c.requires))
@@ -20,4 +14,4 @@ pub returns-in-Number : goal.returns-in-Number
 returns-in-Number c = rw c.in-Number.is c.put_number.ensures
 
 pub returns-in-Address : goal.returns-in-Address
-returns-in-Address c = rw c.in-Address.is (wrote c.write_address.result (address_text c.args.n) c.args.text.now.items c.write_address.new.out.items c.write_address.ensures)
+returns-in-Address c = rw c.in-Address.is c.put_address.ensures

@@ -13,6 +13,6 @@ each-preserved c =
     let P : FlatEntry → Type 0 = λ e. AreLeaves c.args.kinds.now e.words in
     let e : FlatEntry = record { key = c.in-Some.key; words = c.in-Some.words.now } in (
       All-tail P e c.next.new.self.values (subst (All P) c.in-Some.ensures.values c.each.invariant.0),
-      page-more c.args.kinds.now e c.each.page.values c.next.new.self.values c.each.text.items c.write_address.new.out.items c.put_leaves.new.text.items _ c.in-Some.ensures.values
-          c.in_ok-write_address.ensures c.in_ok-put_leaves.ensures c.each.invariant.1,
+      page-more c.args.kinds.now e c.each.page.values c.next.new.self.values c.each.text.items c.put_address.new.text.items c.put_leaves.new.text.items _ c.in-Some.ensures.values
+          c.in_ok-put_address.ensures c.in_ok-put_leaves.ensures c.each.invariant.1,
     )
