@@ -6,10 +6,12 @@ ghost use Rattle.mv_edges.specs.Ascending.{are_ascending};
 ghost use Rattle.mv_edges.specs.Edges.{edges_leq};
 ghost use Rattle.mv_edges.specs.Joins.{IsJoin};
 ghost use Rattle.mv_edges.specs.Sorted.{sorted};
+ghost use Rattle.mv_ways.specs.Between.{any_between};
 ghost use Rattle.mv_ways.specs.Borrows.{are_related, has_related, is_related};
 ghost use Rattle.mv_ways.specs.Counting.{is_short};
 
 use super::graph::Graph;
+use super::nodes::NodeSet;
 use super::ways::every::EdgeTest;
 use super::ways::told::Told;
 use mv_edges::{Edge, Edges};
@@ -80,6 +82,18 @@ fn are_within(edges: &[Edge], relation: Relation, other: &Borrows<'_>) -> bool
     ensures { result ≡ are_related relation edges.now other.now }
 {
     edges.iter().all(|e| other.has(relation, &Told::of(e)))
+}
+
+/// Whether an edge of a list leads from some nodes to others, and agrees with a position, if one is asked for.
+fn any_listed<P: NodeSet, Q: NodeSet>(
+    edges: &[Edge],
+    from: &P,
+    position: Option<u8>,
+    to: &Q,
+) -> bool
+    ensures { result ≡ any_between (P.test from.now) position (Q.test to.now) edges.now }
+{
+    edges.iter().any(|e| from.has(e.from()) && e.label().agrees_if(position) && to.has(e.to()))
 }
 
 /// Whether a label has at most `MOST_POSITIONS` positions.
@@ -335,6 +349,23 @@ impl<'s> Borrows<'s> {
             Form::Stated(edges) => are_within(edges.as_slice(), relation, other),
             Form::Listed(edges) => are_within(edges.as_slice(), relation, other),
             Form::Grown(graph) => graph.all_pass(&Among { other, relation }),
+        }
+    }
+
+    /// Whether an edge leads from some nodes to others, and agrees with a position, if one is asked for.
+    pub fn any_between<P: NodeSet, Q: NodeSet>(
+        &self,
+        from: &P,
+        position: Option<u8>,
+        to: &Q,
+    ) -> bool
+        ensures { result ≡ any_between (P.test from.now) position (Q.test to.now) self.now }
+    {
+        match &self.form {
+            Form::Nothing => false,
+            Form::Stated(edges) => any_listed(edges.as_slice(), from, position, to),
+            Form::Listed(edges) => any_listed(edges.as_slice(), from, position, to),
+            Form::Grown(graph) => graph.any_between(from, position, to),
         }
     }
 
