@@ -12,6 +12,7 @@ ghost use Rattle.mv_ways.specs.Counting.{is_short};
 
 use super::graph::Graph;
 use super::nodes::NodeSet;
+use super::ways::along::are_below;
 use super::ways::every::EdgeTest;
 use super::ways::told::Told;
 use mv_edges::{Edge, Edges};
@@ -378,8 +379,8 @@ impl<'s> Borrows<'s> {
         }
         match (&self.form, other.list()) {
             (Form::Nothing, _) => true,
-            (Form::Stated(edges), Some(others)) => edges.leq(others),
-            (Form::Listed(edges), Some(others)) => edges.leq(others),
+            (Form::Stated(edges), Some(others)) => are_below(edges, others),
+            (Form::Listed(edges), Some(others)) => are_below(edges, others),
             (Form::Grown(graph), Some(others)) => graph.is_under(others),
             (_, None) => self.is_within(Relation::Below, other),
         }
