@@ -4,7 +4,7 @@
 --   edges_with sources node leads tails      the edges of some leads, with these labels behind them
 --   begun_edges sources node way tails       the edges that begin at a way
 -- The others are parts of these.
-use Rattle.std.specs.Prelude.{ℕ, List, [], ◌∷◌, flat_map, Option}
+use Rattle.std.specs.Prelude.{List, [], ◌∷◌, flat_map, Option}
 use Rattle.mv_move_types.specs.declared.borrow.Node.{Node}
 use Rattle.mv_move_types.specs.declared.borrow.Node.TheVariants.{Slot}
 use Rattle.mv_edges.specs.Edges.{Label, Edge, an_edge, here}

@@ -3,15 +3,17 @@
 --   IsDrawn, IsGiven                    a way is a copy or a field of another one, or was returned by a function that had it
 --   LeadsTo ways last place             a way leads to the last one
 --   IsReturned ways last from place     so does something that a function returned that had the way
---   AreLeading ways last marks          both are marked of each way
+--   does_lead, was_given, says_passed   what a mark says of a way
+--   AreLeading ways last marks          the first two are marked of each way
 -- goes_over is a word of single contracts.
-use Rattle.std.specs.Prelude.{◌≡◌, ℕ, ◌<◌, ◌≤◌, ◌==◌, ◌↔◌, Bool, false, ◌||◌, List, []}
+use Rattle.std.specs.Prelude.{◌≡◌, ℕ, ◌<◌, ◌≤◌, ◌==◌, ◌↔◌, Bool, true, false, ◌||◌, List, []}
 use Rattle.std.specs.Prelude.{length, slice_get, slice_index_or, Option, Some, None, Contains, IsTrue}
 use Rattle.std.specs.List.{list_any}
 use Rattle.std.specs.Option.{option_map_or}
 use Rattle.mv_ways.specs.declared.ways.Way.{Way}
 use Rattle.mv_ways.specs.declared.ways.Way.TheVariants.{Stated, Lent, Field, Returned}
 use Rattle.mv_ways.specs.declared.ways.under.leading.Mark.{Mark}
+use Rattle.mv_ways.specs.declared.ways.under.leading.Mark.TheVariants.{Nothing, Leads, Given, Passed}
 
 -- the way that a copy or a field goes over
 abbrev pub original : Way → Option ℕ
@@ -55,7 +57,26 @@ pub record IsReturned (ways : List Way) (last from place : ℕ) : Type 0 where
   pub giving : IsGiven ways place child way
   pub leading : LeadsTo ways last child
 
+-- what a mark says of a way: it leads to the last one; something that a function returned which had it does; and it is passed
+abbrev pub does_lead : Mark → Bool
+does_lead Nothing = false
+does_lead Leads = true
+does_lead Given = true
+does_lead Passed = false
+
+abbrev pub was_given : Mark → Bool
+was_given Nothing = false
+was_given Leads = false
+was_given Given = true
+was_given Passed = false
+
+abbrev pub says_passed : Mark → Bool
+says_passed Nothing = false
+says_passed Leads = false
+says_passed Given = false
+says_passed Passed = true
+
 -- of each way it is marked whether it leads to the last one, and whether a function that had it returned something that does
 pub record AreLeading (ways : List Way) (last : ℕ) (marks : List Mark) : Type 0 where
-  pub leads : (k : ℕ) (d : Mark) → k < length ways → IsTrue (slice_index_or marks k d).leads ↔ LeadsTo ways last k
-  pub returned : (k : ℕ) (d : Mark) → k < length ways → IsTrue (slice_index_or marks k d).is_returned ↔ IsReturned ways last 0 k
+  pub leads : (k : ℕ) (d : Mark) → k < length ways → IsTrue (does_lead (slice_index_or marks k d)) ↔ LeadsTo ways last k
+  pub returned : (k : ℕ) (d : Mark) → k < length ways → IsTrue (was_given (slice_index_or marks k d)) ↔ IsReturned ways last 0 k

@@ -2,21 +2,23 @@
 --   marked_edges edges mark place        those of a way, if it is marked as given to a function
 --   given_edges edges marks count        those of each of the first ways that is
 --   edges_at test g r, edges_into test g the edges of a reference, if it is of some nodes; and of each reference that is
-use Rattle.std.specs.Prelude.{ℕ, zero, suc, Bool, List, [], ◌++◌, flat_map, if◌then◌else◌, slice_index_or, false}
+use Rattle.std.specs.Prelude.{ℕ, zero, suc, Bool, List, [], ◌++◌, flat_map, if◌then◌else◌, slice_index_or}
 use Rattle.mv_move_types.specs.declared.borrow.Node.{Node}
 use Rattle.mv_edges.specs.Edges.{Edge}
+use Rattle.mv_ways.specs.Going.{was_given}
 use Rattle.mv_ways.specs.Ways.{WayGraph, all_leads, reference_edges}
 use Rattle.mv_ways.specs.declared.ways.Reference.{Reference}
 use Rattle.mv_ways.specs.declared.ways.under.leading.Mark.{Mark}
+use Rattle.mv_ways.specs.declared.ways.under.leading.Mark.TheVariants.{Nothing}
 
 -- the edges of a way, if it is marked as given to a function
 abbrev pub marked_edges : (ℕ → List Edge) → Mark → ℕ → List Edge
-marked_edges edges mark place = if mark.is_returned then edges place else []
+marked_edges edges mark place = if was_given mark then edges place else []
 
 -- those of each of the first ways that is
 abbrev pub given_edges : (ℕ → List Edge) → List Mark → ℕ → List Edge
 given_edges edges marks zero = []
-given_edges edges marks (suc count) = given_edges edges marks count ++ marked_edges edges (slice_index_or marks count (record { leads = false; is_returned = false })) count
+given_edges edges marks (suc count) = given_edges edges marks count ++ marked_edges edges (slice_index_or marks count Nothing) count
 
 -- the edges of a reference, if it is of some nodes
 abbrev pub edges_at : (Node → Bool) → WayGraph → Reference → List Edge

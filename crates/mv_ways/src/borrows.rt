@@ -6,10 +6,13 @@ ghost use Rattle.mv_edges.specs.Ascending.{are_ascending};
 ghost use Rattle.mv_edges.specs.Edges.{edges_leq};
 ghost use Rattle.mv_edges.specs.Joins.{IsJoin};
 ghost use Rattle.mv_edges.specs.Sorted.{sorted};
+ghost use Rattle.mv_ways.specs.Between.{any_between};
 ghost use Rattle.mv_ways.specs.Borrows.{are_related, has_related, is_related};
 ghost use Rattle.mv_ways.specs.Counting.{is_short};
 
 use super::graph::Graph;
+use super::nodes::NodeSet;
+use super::ways::along::are_below;
 use super::ways::every::EdgeTest;
 use super::ways::told::Told;
 use mv_edges::{Edge, Edges};
@@ -80,6 +83,18 @@ fn are_within(edges: &[Edge], relation: Relation, other: &Borrows<'_>) -> bool
     ensures { result ≡ are_related relation edges.now other.now }
 {
     edges.iter().all(|e| other.has(relation, &Told::of(e)))
+}
+
+/// Whether an edge of a list leads from some nodes to others, and agrees with a position, if one is asked for.
+fn any_listed<P: NodeSet, Q: NodeSet>(
+    edges: &[Edge],
+    from: &P,
+    position: Option<u8>,
+    to: &Q,
+) -> bool
+    ensures { result ≡ any_between (P.test from.now) position (Q.test to.now) edges.now }
+{
+    edges.iter().any(|e| from.has(e.from()) && e.label().agrees_if(position) && to.has(e.to()))
 }
 
 /// Whether a label has at most `MOST_POSITIONS` positions.
@@ -338,6 +353,23 @@ impl<'s> Borrows<'s> {
         }
     }
 
+    /// Whether an edge leads from some nodes to others, and agrees with a position, if one is asked for.
+    pub fn any_between<P: NodeSet, Q: NodeSet>(
+        &self,
+        from: &P,
+        position: Option<u8>,
+        to: &Q,
+    ) -> bool
+        ensures { result ≡ any_between (P.test from.now) position (Q.test to.now) self.now }
+    {
+        match &self.form {
+            Form::Nothing => false,
+            Form::Stated(edges) => any_listed(edges.as_slice(), from, position, to),
+            Form::Listed(edges) => any_listed(edges.as_slice(), from, position, to),
+            Form::Grown(graph) => graph.any_between(from, position, to),
+        }
+    }
+
     /// Whether each edge is below one of the other's.
     pub fn leq(&self, other: &Borrows<'_>) -> bool
         ensures { result ≡ edges_leq self.now other.now }
@@ -347,8 +379,8 @@ impl<'s> Borrows<'s> {
         }
         match (&self.form, other.list()) {
             (Form::Nothing, _) => true,
-            (Form::Stated(edges), Some(others)) => edges.leq(others),
-            (Form::Listed(edges), Some(others)) => edges.leq(others),
+            (Form::Stated(edges), Some(others)) => are_below(edges, others),
+            (Form::Listed(edges), Some(others)) => are_below(edges, others),
             (Form::Grown(graph), Some(others)) => graph.is_under(others),
             (_, None) => self.is_within(Relation::Below, other),
         }

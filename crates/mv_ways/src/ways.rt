@@ -3,6 +3,7 @@ ghost use Rattle.std.specs.Prelude.{◌≡◌, ◌≤◌, length, IsTrue};
 ghost use Rattle.std.specs.List.{list_all};
 ghost use Rattle.mv_ways.specs.Ways.{are_below, are_earlier, is_known, most_ways};
 
+pub(crate) mod along;
 mod counting;
 mod drawing;
 pub(crate) mod every;

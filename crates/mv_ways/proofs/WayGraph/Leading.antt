@@ -7,7 +7,7 @@ use Rattle.mv_ways.specs.declared.ways.Way.{Way}
 use Rattle.mv_ways.specs.declared.ways.Way.TheVariants.{Stated, Lent, Field, Returned}
 use Rattle.mv_ways.specs.declared.ways.under.leading.Mark.{Mark}
 use Rattle.mv_ways.specs.Ways.{are_earlier, goes_below}
-use Rattle.mv_ways.specs.Going.{AreLeading, IsDrawn, IsGiven, IsReturned, LeadsTo, given, goes_over, original}
+use Rattle.mv_ways.specs.Going.{AreLeading, IsDrawn, IsGiven, IsReturned, LeadsTo, does_lead, given, goes_over, original, was_given}
 use Rattle.mv_ways.proofs.WayGraph.Terms.{AreMarked, LeadsBy}
 use Rattle.mv_ways.proofs.WayGraph.Terms.LeadsBy.{at_end, by_copy, by_return}
 use Rattle.mv_ways.specs.Going.LeadsTo.{itself, by_drawn, by_given}
@@ -84,8 +84,8 @@ module _ (ways : List Way) (last : ℕ) (earlier : are_earlier 0 ways ≡ true) 
       by_return (record { child = child; way = way; behind = omega (arith, less, h); giving = d; leading = l })
 
   -- at first the last one alone is marked
-  pub marked_first : (marks : List Mark) → length marks ≡ length ways → ((k : ℕ) (d : Mark) → k < length marks → (get_or marks k d).leads ≡ (k == last))
-      → ((k : ℕ) (d : Mark) → k < length marks → (get_or marks k d).is_returned ≡ false) → AreMarked ways last (last + 1) marks
+  pub marked_first : (marks : List Mark) → length marks ≡ length ways → ((k : ℕ) (d : Mark) → k < length marks → does_lead (get_or marks k d) ≡ (k == last))
+      → ((k : ℕ) (d : Mark) → k < length marks → was_given (get_or marks k d) ≡ false) → AreMarked ways last (last + 1) marks
   marked_first marks room leads returned = record {
     leads = λ k d inside. (λ h. at_end (eqb-true k last (sym (leads k d (omega (arith, inside, room))) ∙ h)), λ by. leads k d (omega (arith, inside, room)) ∙ alone k by);
     returned = λ k d inside. (λ h. absurd (true≢false (sym h ∙ returned k d (omega (arith, inside, room)))), λ r. none_behind k r);
@@ -132,7 +132,7 @@ module _ (ways : List Way) (last : ℕ) (earlier : are_earlier 0 ways ≡ true) 
     leads_cases k (by_return r) = elim (returned_cases k r) [ inl later ↦ inl (by_return later) | inr here ↦ inr (inr here.0, here.1) ]
 
     -- a way that doesn't lead there says nothing of those it goes over
-    pub marked_kept : (marks : List Mark) (d : Mark) → place < length ways → (get_or marks place d).leads ≡ false → AreMarked ways last (place + 1) marks → AreMarked ways last place marks
+    pub marked_kept : (marks : List Mark) (d : Mark) → place < length ways → does_lead (get_or marks place d) ≡ false → AreMarked ways last (place + 1) marks → AreMarked ways last place marks
     marked_kept marks d within unled marked = record {
       leads = λ k e inside. (λ h. leads_later k ((marked.leads k e inside).0 h), λ by. elim (leads_cases k by) [ inl later ↦ (marked.leads k e inside).1 later | inr here ↦ absurd (not_here here.1) ]);
       returned = λ k e inside. (λ h. returned_later k ((marked.returned k e inside).0 h), λ r. elim (returned_cases k r) [ inl later ↦ (marked.returned k e inside).1 later | inr here ↦ absurd (not_here here.1) ]);
@@ -142,9 +142,9 @@ module _ (ways : List Way) (last : ℕ) (earlier : are_earlier 0 ways ≡ true) 
         not_here l = true≢false (sym ((marked.leads place d within).1 (leads_by (place + 1) (omega arith) l)) ∙ unled)
 
     -- one that does passes it on
-    pub marked_over : (old new : List Mark) (d : Mark) → place < length ways → length old ≡ length ways → (get_or old place d).leads ≡ true
-        → ((k : ℕ) (e : Mark) → k < length old → (get_or new k e).leads ≡ ((get_or old k e).leads || goes_over way k))
-        → ((k : ℕ) (e : Mark) → k < length old → (get_or new k e).is_returned ≡ ((get_or old k e).is_returned || list_any (λ over. over == k) (given way)))
+    pub marked_over : (old new : List Mark) (d : Mark) → place < length ways → length old ≡ length ways → does_lead (get_or old place d) ≡ true
+        → ((k : ℕ) (e : Mark) → k < length old → does_lead (get_or new k e) ≡ (does_lead (get_or old k e) || goes_over way k))
+        → ((k : ℕ) (e : Mark) → k < length old → was_given (get_or new k e) ≡ (was_given (get_or old k e) || list_any (λ over. over == k) (given way)))
         → AreMarked ways last (place + 1) old → AreMarked ways last place new
     marked_over old new d within room led leads returned marked = record {
       leads = λ k e inside. (λ h. to_leads k e inside (sym (leads k e (omega (arith, inside, room))) ∙ h), λ by. leads k e (omega (arith, inside, room)) ∙ from_leads k e inside (leads_cases k by));
@@ -157,8 +157,8 @@ module _ (ways : List Way) (last : ℕ) (earlier : are_earlier 0 ways ≡ true) 
         here_returned : (k : ℕ) → Contains (given way) k → IsReturned ways last place k
         here_returned k c = record { child = place; way = way; behind = omega arith; giving = record { at = at; has = c }; leading = here_leads }
 
-        to_leads : (k : ℕ) (e : Mark) → k < length ways → ((get_or old k e).leads || goes_over way k) ≡ true → LeadsBy ways last place k
-        to_leads k e inside h = elim (or_cases (get_or old k e).leads (goes_over way k) h) [
+        to_leads : (k : ℕ) (e : Mark) → k < length ways → (does_lead (get_or old k e) || goes_over way k) ≡ true → LeadsBy ways last place k
+        to_leads k e inside h = elim (or_cases (does_lead (get_or old k e)) (goes_over way k) h) [
           | inl g ↦ leads_later k ((marked.leads k e inside).0 g)
           | inr g ↦ elim (or_cases (option_map_or (λ over. over == k) (original way) false) (list_any (λ over. over == k) (given way)) g) [
             | inl o ↦ by_copy place way (omega arith) (record { at = at; over = copy_over (original way) k o }) here_leads
@@ -167,24 +167,24 @@ module _ (ways : List Way) (last : ℕ) (earlier : are_earlier 0 ways ≡ true) 
         ]
 
         from_leads : (k : ℕ) (e : Mark) → k < length ways → LeadsBy ways last (place + 1) k ⊎ (((original way ≡ Some k) ⊎ Contains (given way) k) × LeadsTo ways last place)
-            → ((get_or old k e).leads || goes_over way k) ≡ true
-        from_leads k e inside (inl later) = or_left (get_or old k e).leads (goes_over way k) ((marked.leads k e inside).1 later)
-        from_leads k e inside (inr here) = or_right (get_or old k e).leads (goes_over way k) (over here.0)
+            → (does_lead (get_or old k e) || goes_over way k) ≡ true
+        from_leads k e inside (inl later) = or_left (does_lead (get_or old k e)) (goes_over way k) ((marked.leads k e inside).1 later)
+        from_leads k e inside (inr here) = or_right (does_lead (get_or old k e)) (goes_over way k) (over here.0)
           where
             over : (original way ≡ Some k) ⊎ Contains (given way) k → goes_over way k ≡ true
             over (inl o) = or_left (option_map_or (λ j. j == k) (original way) false) (list_any (λ j. j == k) (given way)) (over_copy (original way) k o)
             over (inr c) = or_right (option_map_or (λ j. j == k) (original way) false) (list_any (λ j. j == k) (given way)) (number_among (given way) k c)
 
-        to_returned : (k : ℕ) (e : Mark) → k < length ways → ((get_or old k e).is_returned || list_any (λ over. over == k) (given way)) ≡ true → IsReturned ways last place k
-        to_returned k e inside h = elim (or_cases (get_or old k e).is_returned (list_any (λ over. over == k) (given way)) h) [
+        to_returned : (k : ℕ) (e : Mark) → k < length ways → (was_given (get_or old k e) || list_any (λ over. over == k) (given way)) ≡ true → IsReturned ways last place k
+        to_returned k e inside h = elim (or_cases (was_given (get_or old k e)) (list_any (λ over. over == k) (given way)) h) [
           | inl g ↦ returned_later k ((marked.returned k e inside).0 g)
           | inr g ↦ here_returned k (contains_number (given way) k g)
         ]
 
         from_returned : (k : ℕ) (e : Mark) → k < length ways → IsReturned ways last (place + 1) k ⊎ (Contains (given way) k × LeadsTo ways last place)
-            → ((get_or old k e).is_returned || list_any (λ over. over == k) (given way)) ≡ true
-        from_returned k e inside (inl later) = or_left (get_or old k e).is_returned (list_any (λ over. over == k) (given way)) ((marked.returned k e inside).1 later)
-        from_returned k e inside (inr here) = or_right (get_or old k e).is_returned (list_any (λ over. over == k) (given way)) (number_among (given way) k here.0)
+            → (was_given (get_or old k e) || list_any (λ over. over == k) (given way)) ≡ true
+        from_returned k e inside (inl later) = or_left (was_given (get_or old k e)) (list_any (λ over. over == k) (given way)) ((marked.returned k e inside).1 later)
+        from_returned k e inside (inr here) = or_right (was_given (get_or old k e)) (list_any (λ over. over == k) (given way)) (number_among (given way) k here.0)
 
   -- at last all that lead there are marked
   pub marked_all : (marks : List Mark) → AreMarked ways last 0 marks → AreLeading ways last marks
@@ -192,3 +192,47 @@ module _ (ways : List Way) (last : ℕ) (earlier : are_earlier 0 ways ≡ true) 
     leads = λ k d inside. (λ h. leads_from_by 0 k ((marked.leads k d inside).0 h), λ l. (marked.leads k d inside).1 (leads_by 0 (omega arith) l));
     returned = marked.returned;
   }
+
+-- ---- what leads to a way leads to the one that it is drawn from
+
+abbrev pub LeadsBehind : List Way → Option ℕ → ℕ → Type 0
+LeadsBehind ways None k = ⊥
+LeadsBehind ways (Some over) k = LeadsTo ways over k
+
+abbrev pub ReturnedBehind : List Way → Option ℕ → ℕ → Type 0
+ReturnedBehind ways None k = ⊥
+ReturnedBehind ways (Some over) k = IsReturned ways over 0 k
+
+-- or is the way itself, if a function was given nothing that it returned there
+module _ (ways : List Way) (place : ℕ) (way : Way) (at : slice_get ways place ≡ Some way) (none : given way ≡ []) where
+  none_given : {P : Type 0} (child k : ℕ) (w : Way) → child ≡ place → IsGiven ways k child w → P
+  none_given child k w same d =
+      let here : w ≡ way = same_Some w way (sym d.at ∙ ap (slice_get ways) same ∙ at) in
+      absurd (contains_none k (subst (λ ns. Contains ns k) (ap given here ∙ none) d.has))
+
+  behind_more : (o : Option ℕ) (j k : ℕ) → ((over : ℕ) → LeadsTo ways over j → LeadsTo ways over k) → LeadsBehind ways o j → LeadsBehind ways o k
+  behind_more None j k more l = l
+  behind_more (Some over) j k more l = more over l
+
+  leads_behind : {k : ℕ} → LeadsTo ways place k → (k ≡ place) ⊎ LeadsBehind ways (original way) k
+  leads_behind itself = inl refl
+  leads_behind (by_drawn {place = k} {child = child} {way = w} d l) = elim (leads_behind l) [
+    | inl same ↦
+        let here : w ≡ way = same_Some w way (sym d.at ∙ ap (slice_get ways) same ∙ at) in
+        inr (subst (λ o. LeadsBehind ways o k) (sym (sym (ap original here) ∙ d.over)) itself)
+    | inr behind ↦ inr (behind_more (original way) child k (λ over more. by_drawn d more) behind)
+  ]
+  leads_behind (by_given {place = k} {child = child} {way = w} d l) = elim (leads_behind l) [
+    | inl same ↦ none_given child k w same d
+    | inr behind ↦ inr (behind_more (original way) child k (λ over more. by_given d more) behind)
+  ]
+
+  pub returned_behind : (k : ℕ) → IsReturned ways place 0 k → ReturnedBehind ways (original way) k
+  returned_behind k r = elim (leads_behind r.leading) [
+    | inl same ↦ none_given r.child k r.way same r.giving
+    | inr behind ↦ by_case (original way) behind
+  ]
+    where
+      by_case : (o : Option ℕ) → LeadsBehind ways o r.child → ReturnedBehind ways o k
+      by_case None l = l
+      by_case (Some over) l = record { child = r.child; way = r.way; behind = r.behind; giving = r.giving; leading = l }

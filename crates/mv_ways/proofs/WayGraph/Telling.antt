@@ -6,15 +6,15 @@ use Rattle.mv_edges.proofs.Settled.{any-sorted, sorted-append, sorted_behind_ali
 use Rattle.mv_edges.proofs.Sorting.{sorted-append_swap, sorted_alike}
 use Rattle.mv_ways.specs.Behind.{a_tail, edges_with}
 use Rattle.mv_ways.specs.Drawn.{drawn_edges}
-use Rattle.mv_ways.specs.Going.{AreLeading, IsReturned, LeadsTo}
+use Rattle.mv_ways.specs.Going.{AreLeading, IsReturned, LeadsTo, was_given}
 use Rattle.mv_ways.specs.Going.LeadsTo.{itself, by_drawn, by_given}
 use Rattle.mv_ways.specs.Telling.{given_edges, marked_edges}
 use Rattle.mv_ways.specs.Told.{IsTold}
 use Rattle.mv_ways.specs.Ways.{WayGraph, all_leads, are_earlier, leads_at, reference_edges}
 use Rattle.mv_ways.specs.declared.ways.Reference.{Reference}
 use Rattle.mv_ways.specs.declared.ways.under.leading.Mark.{Mark}
+use Rattle.mv_ways.specs.declared.ways.under.leading.Mark.TheVariants.{Nothing}
 use Rattle.mv_ways.proofs.WayGraph.Behind.{by_here}
-use Rattle.mv_ways.proofs.WayGraph.Leading.{returned_within}
 use Rattle.mv_ways.proofs.WayGraph.Normal.{chain_ends, given_hold, normal}
 use Rattle.mv_ways.proofs.WayGraph.Terms.{all_given}
 
@@ -63,11 +63,8 @@ module _ (e : Edge) where
 
 -- ---- the edges of given ways
 
-abbrev pub nothing : Mark
-nothing = record { leads = false; is_returned = false }
-
 module _ (f : ℕ → List Edge) (marks : List Mark) where
-  pub given_more : (n : ℕ) → given_edges f marks (n + 1) ≡ given_edges f marks n ++ marked_edges f (get_or marks n nothing) n
+  pub given_more : (n : ℕ) → given_edges f marks (n + 1) ≡ given_edges f marks n ++ marked_edges f (get_or marks n Nothing) n
   given_more n = let more : n + 1 ≡ suc n = omega arith in ap (given_edges f marks) more
 
   -- the others come behind those of the first ways
@@ -79,30 +76,30 @@ module _ (f : ℕ → List Edge) (marks : List Mark) where
             let same : k ≡ suc n = omega (arith, less, h) in
             ([], ap (given_edges f marks) (sym same) ∙ sym (append-nil (given_edges f marks k)))
         | inr low ↦
-            let one = marked_edges f (get_or marks n nothing) n in
+            let one = marked_edges f (get_or marks n Nothing) n in
             let before = given_rest k n (omega (arith, low)) in
             (before.0 ++ one, ap (λ es. es ++ one) before.1 ∙ append_assoc (given_edges f marks k) before.0 one)
       ]
 
   -- each of them lacks an edge that all lack, and the other way round
   module _ (e : Edge) where
-    one_lacks : (n k : ℕ) → has e (given_edges f marks n) ≡ false → k < n → (get_or marks k nothing).is_returned ≡ true → has e (f k) ≡ false
+    one_lacks : (n k : ℕ) → has e (given_edges f marks n) ≡ false → k < n → was_given (get_or marks k Nothing) ≡ true → has e (f k) ≡ false
     one_lacks zero k p h is = absurd (omega (arith, h))
     one_lacks (suc n) k p h is =
-        let parts = split e (given_edges f marks n) (marked_edges f (get_or marks n nothing) n) p in
+        let parts = split e (given_edges f marks n) (marked_edges f (get_or marks n Nothing) n) p in
         elim (cases_lt k n) [
           | inl less ↦ one_lacks n k parts.0 less is
           | inr last ↦
               let same : n ≡ k = omega (arith, last, h) in
-              let given : (get_or marks n nothing).is_returned ≡ true = subst (λ j. (get_or marks j nothing).is_returned ≡ true) (sym same) is in
+              let given : was_given (get_or marks n Nothing) ≡ true = subst (λ j. was_given (get_or marks j Nothing) ≡ true) (sym same) is in
               subst (λ j. has e (f j) ≡ false) same (ap (λ b. has e (cond b (f n) [])) (sym given) ∙ parts.1)
         ]
 
-    all_lack : (n : ℕ) → ((k : ℕ) → k < n → (get_or marks k nothing).is_returned ≡ true → has e (f k) ≡ false) → has e (given_edges f marks n) ≡ false
+    all_lack : (n : ℕ) → ((k : ℕ) → k < n → was_given (get_or marks k Nothing) ≡ true → has e (f k) ≡ false) → has e (given_edges f marks n) ≡ false
     all_lack zero each = refl
     all_lack (suc n) each =
-        both e (given_edges f marks n) (marked_edges f (get_or marks n nothing) n) (all_lack n (λ k h is. each k (omega (arith, h)) is))
-        (last (get_or marks n nothing).is_returned (each n (omega arith)))
+        both e (given_edges f marks n) (marked_edges f (get_or marks n Nothing) n) (all_lack n (λ k h is. each k (omega (arith, h)) is))
+        (last (was_given (get_or marks n Nothing)) (each n (omega arith)))
       where
         last : (b : Bool) → (b ≡ true → has e (f n) ≡ false) → has e (cond b (f n) []) ≡ false
         last true h = h refl
@@ -110,29 +107,30 @@ module _ (f : ℕ → List Edge) (marks : List Mark) where
 
 -- ---- a reference's edges
 
-module _ (g : WayGraph) (r : Reference) (marks : List Mark) (earlier : are_earlier 0 g.ways ≡ true) (within : r.way < length g.ways) (leading : AreLeading g.ways r.way marks) where
+module _ (g : WayGraph) (r : Reference) (marks : List Mark) (end : ℕ) (earlier : are_earlier 0 g.ways ≡ true) (within : r.way < length g.ways)
+    (inside : end ≤ length g.ways) (before : (k : ℕ) → IsReturned g.ways r.way 0 k → k < end) (leading : 0 < end → AreLeading g.ways r.way marks) where
   abbrev Drawn : ℕ → List Edge
   Drawn = drawn_edges g r.node true
 
   abbrev given_told : List Edge
-  given_told = given_edges Drawn marks (length g.ways)
+  given_told = given_edges Drawn marks end
 
   -- what leads to each way that its chain ends with, opened
   abbrev given_here : List Edge
   given_here = flat_map (λ k. edges_with g.sources r.node (leads_at (all_leads g.ways) k) (a_tail (opened here) ∷ [])) (get_or (all_given g.ways) r.way [])
 
-  is_marked : (k : ℕ) → IsReturned g.ways r.way 0 k → (get_or marks k nothing).is_returned ≡ true
-  is_marked k is = (leading.returned k nothing (returned_within g.ways r.way earlier k is)).1 is
+  is_marked : (k : ℕ) → IsReturned g.ways r.way 0 k → was_given (get_or marks k Nothing) ≡ true
+  is_marked k is = let low = before k is in ((leading (omega (arith, low))).returned k Nothing (omega (arith, low, inside))).1 is
 
   same_given : (e : Edge) → has e given_here ≡ has e given_told
   same_given e =
       same_untruth (has e given_here) (has e given_told)
-      (λ lacks. all_lack Drawn marks e (length g.ways) (λ k inside is.
-      given_hold g.sources r.node g.ways earlier (Lacks e) (split e) (alike e) r.way lacks k ((leading.returned k nothing inside).0 is)))
+      (λ lacks. all_lack Drawn marks e end (λ k low is.
+      given_hold g.sources r.node g.ways earlier (Lacks e) (split e) (alike e) r.way lacks k (((leading (omega (arith, low))).returned k Nothing (omega (arith, low, inside))).0 is)))
       (λ lacks. chain_ends g.sources r.node g.ways earlier (Lacks e) refl (both e) (alike e) (LeadsTo g.ways r.way) (IsReturned g.ways r.way 0)
       (λ k over way at leads o. by_drawn (record { at = at; over = o }) leads)
       (λ k j way at leads has. (by_given (record { at = at; has = has }) leads, record { child = k; way = way; behind = omega arith; giving = record { at = at; has = has }; leading = leads }))
-      (λ k is. one_lacks Drawn marks e (length g.ways) k lacks (returned_within g.ways r.way earlier k is) (is_marked k is)) (suc r.way) r.way (omega arith) within itself)
+      (λ k is. one_lacks Drawn marks e end k lacks (before k is) (is_marked k is)) (suc r.way) r.way (omega arith) within itself)
 
   -- what is told of it is all of it
   told_whole : sorted (given_told ++ drawn_edges g r.node false r.way) ≡ sorted (reference_edges g.sources (all_leads g.ways) r)
@@ -144,9 +142,9 @@ module _ (g : WayGraph) (r : Reference) (marks : List Mark) (earlier : are_earli
       ∙ sym (normal g.sources r.node g.ways earlier (suc r.way) r.way (a_tail here) (omega arith) within)
       ∙ ap sorted (by_here g.sources r.node leads)
 
-  pub told_all : (node its : Node) (way count : ℕ) → node ≡ r.node → its ≡ r.node → way ≡ r.way → count ≡ length g.ways
-      → sorted (given_edges (drawn_edges g node true) marks count ++ drawn_edges g its false way) ≡ sorted (reference_edges g.sources (all_leads g.ways) r)
-  told_all node its way count n m w c = (λ i. sorted (given_edges (drawn_edges g (n i) true) marks (c i) ++ drawn_edges g (m i) false (w i))) ∙ told_whole
+  pub told_all : (node its : Node) (way : ℕ) → node ≡ r.node → its ≡ r.node → way ≡ r.way
+      → sorted (given_edges (drawn_edges g node true) marks end ++ drawn_edges g its false way) ≡ sorted (reference_edges g.sources (all_leads g.ways) r)
+  told_all node its way n m w = (λ i. sorted (given_edges (drawn_edges g (n i) true) marks end ++ drawn_edges g (m i) false (w i))) ∙ told_whole
 
 -- ---- what a sink was told in parts
 

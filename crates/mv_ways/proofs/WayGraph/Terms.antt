@@ -4,7 +4,7 @@ use Rattle.std.specs.Option.{option_map_or}
 use Rattle.mv_ways.specs.declared.ways.Way.{Way}
 use Rattle.mv_ways.specs.declared.ways.Way.TheVariants.{Stated, Lent, Field, Returned}
 use Rattle.mv_ways.specs.declared.ways.under.leading.Mark.{Mark}
-use Rattle.mv_ways.specs.Going.{IsDrawn, IsReturned, LeadsTo}
+use Rattle.mv_ways.specs.Going.{IsDrawn, IsReturned, LeadsTo, does_lead, was_given}
 
 -- a way leads to the last one as far as can be told from the ways from a place on
 pub data LeadsBy (ways : List Way) (last from place : ℕ) : Type 0 where
@@ -14,8 +14,8 @@ pub data LeadsBy (ways : List Way) (last from place : ℕ) : Type 0 where
 
 -- of each way it is marked whether it leads to the last one, as far as can be told from the ways from a place on
 pub record AreMarked (ways : List Way) (last from : ℕ) (marks : List Mark) : Type 0 where
-  pub leads : (k : ℕ) (d : Mark) → k < length ways → IsTrue (slice_index_or marks k d).leads ↔ LeadsBy ways last from k
-  pub returned : (k : ℕ) (d : Mark) → k < length ways → IsTrue (slice_index_or marks k d).is_returned ↔ IsReturned ways last from k
+  pub leads : (k : ℕ) (d : Mark) → k < length ways → IsTrue (does_lead (slice_index_or marks k d)) ↔ LeadsBy ways last from k
+  pub returned : (k : ℕ) (d : Mark) → k < length ways → IsTrue (was_given (slice_index_or marks k d)) ↔ IsReturned ways last from k
 
 -- what the chain under a way ends with: the ways that a function was given, of which it returned the last one of the chain
 abbrev pub given_of : List (List ℕ) → Way → List ℕ

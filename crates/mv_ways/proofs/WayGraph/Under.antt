@@ -13,7 +13,8 @@ use Rattle.std.proofs.lemmas.List.Elements.{Contains-append_left, Contains-appen
 use Rattle.mv_ways.specs.Behind.{a_tail, edges_with, led_edges}
 use Rattle.mv_ways.specs.Covered.{open_tail}
 use Rattle.mv_ways.specs.Drawn.{all_drawn, begun_open, drawn_edges, drawn_of, is_field, is_passed}
-use Rattle.mv_ways.specs.Going.{IsReturned, LeadsTo, original}
+use Rattle.mv_ways.specs.Going.{IsReturned, LeadsTo, original, says_passed}
+use Rattle.mv_ways.specs.declared.ways.under.leading.Mark.{Mark}
 use Rattle.mv_ways.specs.Going.LeadsTo.{itself, by_drawn, by_given}
 use Rattle.mv_ways.specs.Leads.{Lead}
 use Rattle.mv_ways.specs.Sinks.{leq_append}
@@ -141,17 +142,17 @@ told_under old new es false h t =
     all.1 ∙ ap (λ b. b && edges_leq (es ++ []) old.others.now) t ∙ ap (λ xs. edges_leq xs old.others.now) (append-nil es)
 
 -- one way more is noted, or nothing of one that doesn't lead on
-module _ (P : ℕ → Bool) (Leads : ℕ → Type 0) (passed : List Bool) (place : ℕ) (noted : (k : ℕ) (d : Bool) → k < place → Leads k → get_or passed k d ≡ P k) where
-  pub noted_set : (it : Bool) → place < length passed → it ≡ P place → (k : ℕ) (d : Bool) → k < place + 1 → Leads k → get_or (set passed place it) k d ≡ P k
-  noted_set it room is k d below leads =
+module _ (P : ℕ → Bool) (Leads : ℕ → Type 0) (marks : List Mark) (place : ℕ) (noted : (k : ℕ) (d : Mark) → k < place → Leads k → says_passed (get_or marks k d) ≡ P k) where
+  pub noted_set : (mark : Mark) → place < length marks → says_passed mark ≡ P place → (k : ℕ) (d : Mark) → k < place + 1 → Leads k → says_passed (get_or (set marks place mark) k d) ≡ P k
+  noted_set mark room is k d below leads =
       elim (cases_lt k place) [
-        | inl less ↦ let ne : k ≢ place = omega (arith, less) in get_or-set_other passed place k it d ne ∙ noted k d less leads
+        | inl less ↦ let ne : k ≢ place = omega (arith, less) in ap says_passed (get_or-set_other marks place k mark d ne) ∙ noted k d less leads
         | inr last ↦
             let same : place ≡ k = omega (arith, last, below) in
-            subst (λ j. get_or (set passed place it) j d ≡ P j) same (get_or-set_same passed place it d room ∙ is)
+            subst (λ j. says_passed (get_or (set marks place mark) j d) ≡ P j) same (ap says_passed (get_or-set_same marks place mark d room) ∙ is)
       ]
 
-  pub noted_same : (Leads place → ⊥) → (k : ℕ) (d : Bool) → k < place + 1 → Leads k → get_or passed k d ≡ P k
+  pub noted_same : (Leads place → ⊥) → (k : ℕ) (d : Mark) → k < place + 1 → Leads k → says_passed (get_or marks k d) ≡ P k
   noted_same never k d below leads =
       elim (cases_lt k place) [
         | inl less ↦ noted k d less leads

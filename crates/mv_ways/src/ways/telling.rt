@@ -26,20 +26,28 @@ impl WayGraph {
         requires room { place < length room.old }
         ensures { IsTold S.after sink.old (marked_edges (drawn_edges self.now to true) mark place) result sink.new }
     {
-        if mark.is_returned() {
+        if mark.was_given() {
             self.tell_drawn(room, place, true, to, sink)
         } else {
             true
         }
     }
 
-    /// Tells what is drawn to each way that is marked as given to a function, opened.
-    fn tell_given<S: Sink>(&self, marks: &[Mark], room: &mut [u8], to: Node, sink: &mut S) -> bool
+    /// Tells what is drawn to each of the first ways that is marked as given to a function, opened.
+    fn tell_given<S: Sink>(
+        &self,
+        marks: &[Mark],
+        end: usize,
+        room: &mut [u8],
+        to: Node,
+        sink: &mut S,
+    ) -> bool
         requires marks { length marks.now ≡ length self.now.ways }
+        requires within { end ≤ length self.now.ways }
         requires room { length room.old ≡ length self.now.ways }
-        ensures { IsTold S.after sink.old (given_edges (drawn_edges self.now to true) marks.now (length marks.now)) result sink.new }
+        ensures { IsTold S.after sink.old (given_edges (drawn_edges self.now to true) marks.now end) result sink.new }
     {
-        for place in 0..marks.len() {
+        for place in 0..end {
             if !self.tell_marked(marks[place], room, place, to, sink) {
                 return false;
             }
@@ -61,8 +69,8 @@ impl WayGraph {
         requires earlier { IsTrue (are_earlier 0 self.now.ways) }
         ensures { IsTold S.after sink.old (reference_edges self.now.sources (all_leads self.now.ways) reference) result sink.new }
     {
-        self.mark(marks, reference.way());
-        self.tell_given(marks, room, reference.node(), sink)
+        let end = self.mark_given_to(marks, reference.way());
+        self.tell_given(marks, end, room, reference.node(), sink)
             && self.tell_drawn(room, reference.way(), false, reference.node(), sink)
     }
 
@@ -128,7 +136,7 @@ impl WayGraph {
         requires { length self.now.ways ≤ FEW_WAYS }
         ensures { S.after sink.old (edges_into (N.test nodes.now) self.now) sink.new }
     {
-        let marks = &mut [Mark::NOTHING; FEW_WAYS];
+        let marks = &mut [Mark::Nothing; FEW_WAYS];
         self.tell_within(marks, &mut [0; FEW_WAYS], nodes, sink);
     }
 
@@ -138,7 +146,7 @@ impl WayGraph {
         requires { length self.now.ways ≤ MOST_WAYS }
         ensures { S.after sink.old (edges_into (N.test nodes.now) self.now) sink.new }
     {
-        let marks = &mut [Mark::NOTHING; MOST_WAYS];
+        let marks = &mut [Mark::Nothing; MOST_WAYS];
         self.tell_within(marks, &mut [0; MOST_WAYS], nodes, sink);
     }
 

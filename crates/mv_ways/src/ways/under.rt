@@ -1,9 +1,9 @@
 // Whether the edges lie below those of a list: one pass over the ways for each reference. It takes no memory but tables on the stack.
-ghost use Rattle.std.specs.Prelude.{◌≡◌, ℕ, Bool, ◌<◌, ◌≤◌, ◌↔◌, Some, false, length, slice_get, slice_index_or, IsTrue};
+ghost use Rattle.std.specs.Prelude.{◌≡◌, ℕ, ◌<◌, ◌≤◌, ◌↔◌, Some, length, slice_get, slice_index_or, IsTrue};
 ghost use Rattle.mv_edges.specs.Edges.{edges_leq};
 ghost use Rattle.mv_ways.specs.Covered.{AreCovered};
 ghost use Rattle.mv_ways.specs.Drawn.{begun_open, drawn_edges, is_field, is_passed};
-ghost use Rattle.mv_ways.specs.Going.{AreLeading, IsReturned, original};
+ghost use Rattle.mv_ways.specs.Going.{AreLeading, IsReturned, original, says_passed};
 ghost use Rattle.mv_ways.specs.Ways.{all_leads, are_earlier, edges_of, reference_edges};
 ghost use Rattle.mv_ways.specs.declared.ways.Way.{Way as WayRecord};
 ghost use Rattle.mv_ways.specs.declared.ways.under.leading.Mark.{Mark as MarkRecord};
@@ -27,18 +27,6 @@ fn is_field(way: &Way) -> bool
         Way::Field { .. } => true,
         Way::Stated(_) | Way::Lent { .. } | Way::Returned(_) => false,
     }
-}
-
-/// The place behind the last way that is marked as given to a function.
-fn end_of_given(marks: &[Mark]) -> usize
-    ensures within { result ≤ length marks.now }
-    ensures none { (k : ℕ) (d : MarkRecord) → result ≤ k → k < length marks.now → (slice_index_or marks.now k d).is_returned ≡ false }
-{
-    let mut end = marks.len();
-    while end > 0 && !marks[end - 1].is_returned() {
-        end -= 1;
-    }
-    end
 }
 
 impl WayGraph {
@@ -74,17 +62,17 @@ impl WayGraph {
     fn is_way_passed(
         &self,
         covered: &mut [Covered],
-        passed: &[bool],
+        marks: &[Mark],
         room: &mut [u8],
         place: usize,
         to: Node,
         others: &Edges,
     ) -> bool
         requires inside { place < length self.now.ways }
-        requires passed { length passed.now ≡ length self.now.ways }
+        requires marks { length marks.now ≡ length self.now.ways }
         requires room { length room.old ≡ length self.now.ways }
-        requires before { (k : ℕ) (d : Bool) (way : WayRecord) → slice_get self.now.ways place ≡ Some way → original way ≡ Some k
-            → slice_index_or passed.now k d ≡ is_passed self.now to others.now k }
+        requires before { (k : ℕ) (d : MarkRecord) (way : WayRecord) → slice_get self.now.ways place ≡ Some way → original way ≡ Some k
+            → says_passed (slice_index_or marks.now k d) ≡ is_passed self.now to others.now k }
         requires covered { AreCovered self.now to others.now covered.old }
         ensures value { result ≡ is_passed self.now to others.now place }
         ensures covered { AreCovered self.now to others.now covered.new }
@@ -96,89 +84,98 @@ impl WayGraph {
         let Some(over) = drawn_from(way) else {
             return self.is_begun_under(way, to, others);
         };
-        if passed[over] {
+        if marks[over].is_passed() {
             return self.is_begun_under(way, to, others);
         }
         is_field(way) && self.is_chain_passed(covered, room, place, to, others)
     }
 
-    /// Whether of each way that was given to a function, and leads to the reference's, what is drawn to it, opened, is below the others.
-    fn are_given_passed(
+    /// Whether what is drawn to each of the first ways that was given to a function, opened, is below the others.
+    #[inline(never)]
+    fn are_first_passed(
         &self,
-        marks: &[Mark],
-        passed: &mut [bool],
+        marks: &mut [Mark],
+        end: usize,
         room: &mut [u8],
         reference: Reference,
         others: &Edges,
     ) -> bool
-        requires marks { length marks.now ≡ length self.now.ways }
-        requires passed { length passed.old ≡ length self.now.ways }
+        requires marks { length marks.old ≡ length self.now.ways }
         requires room { length room.old ≡ length self.now.ways }
         requires earlier { IsTrue (are_earlier 0 self.now.ways) }
-        requires leading { AreLeading self.now.ways reference.way marks.now }
+        requires leading { AreLeading self.now.ways reference.way marks.old }
+        requires within { end ≤ length self.now.ways }
+        requires before { (k : ℕ) → IsReturned self.now.ways reference.way 0 k → k < end }
         ensures { IsTrue result ↔ ((k : ℕ) → IsReturned self.now.ways reference.way 0 k → IsTrue (is_passed self.now reference.node others.now k)) }
     {
-        let end = end_of_given(marks);
-        if end == 0 {
-            return true;
-        }
         let _ways = self.ways();
         let mut covered = [Covered::NOTHING; MOST_COVERED];
         for place in 0..end {
             if marks[place].leads() {
                 let it = self.is_way_passed(
                     &mut covered,
-                    passed,
+                    marks,
                     room,
                     place,
                     reference.node(),
                     others,
                 );
-                if marks[place].is_returned() && !it {
+                if marks[place].was_given() && !it {
                     return false;
                 }
-                passed[place] = it;
+                marks[place] = Mark::asked(it);
             }
         }
         true
     }
 
-    /// Whether each edge of a reference is below one of the others, with room for what is noted of each way.
-    fn is_reference_under(
+    /// Whether of each way that was given to a function, and leads to the reference's, what is drawn to it, opened, is below the others.
+    fn are_given_passed(
         &self,
         marks: &mut [Mark],
-        passed: &mut [bool],
         room: &mut [u8],
         reference: Reference,
         others: &Edges,
     ) -> bool
         requires inside { reference.way < length self.now.ways }
         requires marks { length marks.old ≡ length self.now.ways }
-        requires passed { length passed.old ≡ length self.now.ways }
+        requires room { length room.old ≡ length self.now.ways }
+        requires earlier { IsTrue (are_earlier 0 self.now.ways) }
+        ensures { IsTrue result ↔ ((k : ℕ) → IsReturned self.now.ways reference.way 0 k → IsTrue (is_passed self.now reference.node others.now k)) }
+    {
+        let end = self.mark_given_to(marks, reference.way());
+        if end == 0 {
+            return true;
+        }
+        self.are_first_passed(marks, end, room, reference, others)
+    }
+
+    /// Whether each edge of a reference is below one of the others, with room for what is noted of each way.
+    fn is_reference_under(
+        &self,
+        marks: &mut [Mark],
+        room: &mut [u8],
+        reference: Reference,
+        others: &Edges,
+    ) -> bool
+        requires inside { reference.way < length self.now.ways }
+        requires marks { length marks.old ≡ length self.now.ways }
         requires room { length room.old ≡ length self.now.ways }
         requires earlier { IsTrue (are_earlier 0 self.now.ways) }
         ensures { result ≡ edges_leq (reference_edges self.now.sources (all_leads self.now.ways) reference) others.now }
     {
-        self.mark(marks, reference.way());
-        self.are_given_passed(marks, passed, room, reference, others)
+        self.are_given_passed(marks, room, reference, others)
             && self.is_drawn_under(room, reference.way(), false, reference.node(), others)
     }
 
     /// Whether each edge is below one of the others, with room for what is noted of each way.
-    fn are_under(
-        &self,
-        marks: &mut [Mark],
-        passed: &mut [bool],
-        room: &mut [u8],
-        others: &Edges,
-    ) -> bool
+    fn are_under(&self, marks: &mut [Mark], room: &mut [u8], others: &Edges) -> bool
         requires marks { length marks.old ≡ length self.now.ways }
-        requires passed { length passed.old ≡ length self.now.ways }
         requires room { length room.old ≡ length self.now.ways }
         ensures { result ≡ edges_leq (edges_of self.now) others.now }
     {
         for reference in self.references() {
-            if !self.is_reference_under(marks, passed, room, *reference, others) {
+            if !self.is_reference_under(marks, room, *reference, others) {
                 return false;
             }
         }
@@ -191,15 +188,9 @@ impl WayGraph {
         ensures { result ≡ edges_leq (edges_of self.now) others.now }
     {
         let count = self.ways().len();
-        let mut marks = [Mark::NOTHING; MOST_WAYS];
-        let mut passed = [false; MOST_WAYS];
+        let mut marks = [Mark::Nothing; MOST_WAYS];
         let mut room = [0; MOST_WAYS];
-        self.are_under(
-            &mut marks[..count],
-            &mut passed[..count],
-            &mut room[..count],
-            others,
-        )
+        self.are_under(&mut marks[..count], &mut room[..count], others)
     }
 
     /// Whether each edge is below one of the others. It takes no memory of its own but tables on the stack.
@@ -210,14 +201,8 @@ impl WayGraph {
         if count > FEW_WAYS {
             return self.are_many_under(others);
         }
-        let mut marks = [Mark::NOTHING; FEW_WAYS];
-        let mut passed = [false; FEW_WAYS];
+        let mut marks = [Mark::Nothing; FEW_WAYS];
         let mut room = [0; FEW_WAYS];
-        self.are_under(
-            &mut marks[..count],
-            &mut passed[..count],
-            &mut room[..count],
-            others,
-        )
+        self.are_under(&mut marks[..count], &mut room[..count], others)
     }
 }

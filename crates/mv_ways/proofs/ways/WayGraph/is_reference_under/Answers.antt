@@ -6,7 +6,7 @@ use Rattle.mv_ways.proofs.ways.WayGraph.is_reference_under.Goals as goal
 pub returns-then-are_given_passed : goal.returns-then-are_given_passed
 returns-then-are_given_passed c =
     let g = c.args.self.now in
-    rw (c.node.ensures, c.way-then-are_given_passed.ensures) at c.is_drawn_under.ensures
+    rw (c.node.ensures, c.way.ensures) at c.is_drawn_under.ensures
     ∙ sym (under_by_end g c.args.reference c.args.others.now c.requires.earlier c.requires.inside (c.are_given_passed.ensures.0 c.if-are_given_passed.true))
 
 pub returns-else-are_given_passed : goal.returns-else-are_given_passed

@@ -4,6 +4,7 @@ use Rattle.mv_ways.specs.Behind.{edges_with}
 use Rattle.mv_ways.specs.Covered.{open_tail}
 use Rattle.mv_ways.specs.Drawn.{begun_open, is_field, is_passed}
 use Rattle.mv_ways.specs.Going.{original}
+use Rattle.mv_ways.specs.declared.ways.under.leading.Mark.TheVariants.{Nothing}
 use Rattle.mv_ways.proofs.WayGraph.Drawn.{original_below}
 use Rattle.mv_ways.proofs.WayGraph.Noted.{goes_below_at, way_at}
 use Rattle.mv_ways.proofs.WayGraph.Under.{copy_not_passed, over_passed, own_passed}
@@ -30,25 +31,25 @@ returns-in_default-drawn_from-clause-value c =
     let none : original way ≡ None = sym c.drawn_from.ensures ∙ c.in_default-drawn_from.is in
     c.is_begun_under.ensures ∙ sym (own_passed g c.args.to c.args.others.now c.ways.ensures.earlier place way there none)
 
-pub bounds-passed-over : goal.bounds-passed-over
-bounds-passed-over c =
+pub bounds-marks-over : goal.bounds-marks-over
+bounds-marks-over c =
     let g = c.args.self.now in
     let place = c.args.place in
     let way = c.index-ways-place.result in
     let at = c.index-ways-place.is ∙ ap (λ ws. get_or ws place way) c.ways.ensures.value in
     let over : original way ≡ Some c.in-Some.over = sym c.drawn_from.ensures ∙ c.in-Some.is in
     let low : c.in-Some.over < place = subst (λ o. IfSome o (λ k. k < place)) over (original_below place way (goes_below_at g.ways place way c.ways.ensures.earlier c.requires.inside at)) in
-    omega (arith, low, c.requires.inside, c.requires.passed)
+    omega (arith, low, c.requires.inside, c.requires.marks)
 
-pub returns-then-passed-over-clause-value : goal.returns-then-passed-over-clause-value
-returns-then-passed-over-clause-value c =
+pub returns-then-is_passed-clause-value : goal.returns-then-is_passed-clause-value
+returns-then-is_passed-clause-value c =
     let g = c.args.self.now in
     let place = c.args.place in
     let way = c.index-ways-place.result in
     let there : slice_get g.ways place ≡ Some way = way_at g.ways place way c.requires.inside (c.index-ways-place.is ∙ ap (λ ws. get_or ws place way) c.ways.ensures.value) in
     let over : original way ≡ Some c.in-Some.over = sym c.drawn_from.ensures ∙ c.in-Some.is in
-    let passed : is_passed g c.args.to c.args.others.now c.in-Some.over ≡ true = sym (c.requires.before c.in-Some.over _ way there over) ∙ c.if-passed-over.true in
-    c.is_begun_under-then-passed-over.ensures ∙ sym (over_passed g c.args.to c.args.others.now c.ways.ensures.earlier place way c.in-Some.over there over passed)
+    let passed : is_passed g c.args.to c.args.others.now c.in-Some.over ≡ true = sym (c.requires.before c.in-Some.over Nothing way there over) ∙ (sym c.is_passed.ensures ∙ c.if-is_passed.true) in
+    c.is_begun_under-then-is_passed.ensures ∙ sym (over_passed g c.args.to c.args.others.now c.ways.ensures.earlier place way c.in-Some.over there over passed)
 
 pub returns-else-is_field-clause-value : goal.returns-else-is_field-clause-value
 returns-else-is_field-clause-value c =
@@ -57,6 +58,6 @@ returns-else-is_field-clause-value c =
     let way = c.index-ways-place.result in
     let there : slice_get g.ways place ≡ Some way = way_at g.ways place way c.requires.inside (c.index-ways-place.is ∙ ap (λ ws. get_or ws place way) c.ways.ensures.value) in
     let over : original way ≡ Some c.in-Some.over = sym c.drawn_from.ensures ∙ c.in-Some.is in
-    let passed : is_passed g c.args.to c.args.others.now c.in-Some.over ≡ false = sym (c.requires.before c.in-Some.over _ way there over) ∙ c.if-passed-over.false in
+    let passed : is_passed g c.args.to c.args.others.now c.in-Some.over ≡ false = sym (c.requires.before c.in-Some.over Nothing way there over) ∙ (sym c.is_passed.ensures ∙ c.if-is_passed.false) in
     let field : is_field way ≡ false = sym c.is_field.ensures ∙ c.if-is_field.false in
     c.if-is_field.false ∙ sym (copy_not_passed g c.args.to c.args.others.now c.ways.ensures.earlier place way c.in-Some.over there over field passed)

@@ -1,6 +1,7 @@
-use Rattle.mv_edges.proofs.Common.{◌<◌, ◌+◌, ◌-◌, ◌==◌, ◌||◌, ◌∙◌, ◌≡◌, ap, arith, false, get_or, get_or_default, length, refl, set, slice_get-get_or, subst, true}
+use Rattle.mv_edges.proofs.Common.{◌<◌, ◌+◌, ◌-◌, ◌==◌, ◌||◌, ◌∙◌, ◌≡◌, ap, arith, get_or, length, refl, set, slice_get-get_or, subst, sym}
 use Rattle.std.proofs.Math.ListN.{length-set}
-use Rattle.mv_ways.specs.declared.ways.under.leading.Mark.{Mark}
+use Rattle.mv_ways.specs.declared.ways.under.leading.Mark.TheVariants.{Nothing, Leads}
+use Rattle.mv_ways.specs.Going.{does_lead, was_given}
 use Rattle.mv_ways.proofs.WayGraph.Terms.{AreMarked}
 use Rattle.mv_ways.proofs.WayGraph.Leading.{marked_all, marked_first, marked_kept, marked_over}
 use Rattle.mv_ways.proofs.WayGraph.Noted.{goes_below_at, way_at}
@@ -13,17 +14,15 @@ loop-place-init c =
     let ways = c.args.self.now.ways in
     let last = c.args.last in
     let marks = c.unmark.new.marks in
-    let none : Mark = record { leads = false; is_returned = false } in
-    let yes : Mark = record { leads = true; is_returned = (get_or marks last none).is_returned } in
     let long : length marks ≡ length ways = omega arith in
     let room : last < length marks = omega (arith, long) in
-    let kept : length (set marks last yes) ≡ length ways = length-set marks last yes ∙ long in
+    let kept : length (set marks last Leads) ≡ length ways = length-set marks last Leads ∙ long in
     record {
       room = kept;
       within = omega arith;
-      marked = marked_first ways last c.requires.earlier (set marks last yes) kept
-          (λ k d inside. read_mark (λ (m : Mark). m.leads) yes refl marks last k d room ∙ ap (λ b. b || (last == k)) (c.unmark.ensures.leads k d (omega (arith, inside, kept))) ∙ eqb_swap last k)
-          (λ k d inside. kept_mark (λ (m : Mark). m.is_returned) marks last k yes d room (ap (λ (m : Mark). m.is_returned) (get_or_default marks last none d room)) ∙ c.unmark.ensures.returned k d (omega (arith, inside, kept)));
+      marked = marked_first ways last c.requires.earlier (set marks last Leads) kept
+          (λ k d inside. read_mark does_lead Leads refl marks last k d room ∙ ap (λ b. b || (last == k)) (c.unmark.ensures.leads k d (omega (arith, inside, kept))) ∙ eqb_swap last k)
+          (λ k d inside. kept_mark was_given marks last k Leads d room (sym (c.unmark.ensures.given last d (omega (arith, room)))) ∙ c.unmark.ensures.given k d (omega (arith, inside, kept)));
     }
 
 pub mark_over-requires : goal.mark_over-requires
@@ -39,8 +38,8 @@ mark_over-requires c =
     let room = c.loop-place.invariant.room in
     goes_below_more k (length c.loop-place.marks) way (omega (arith, inside, room)) (goes_below_at ways k way c.requires.earlier inside read)
 
-pub loop-place-preserved-then-marks-place : goal.loop-place-preserved-then-marks-place
-loop-place-preserved-then-marks-place c =
+pub loop-place-preserved-then-leads : goal.loop-place-preserved-then-leads
+loop-place-preserved-then-leads c =
     let ways = c.args.self.now.ways in
     let way = c.index-ways-place.result in
     let k = c.loop-place.place - 1 in
@@ -54,8 +53,8 @@ loop-place-preserved-then-marks-place c =
     record {
       room = omega arith;
       within = omega (arith, within);
-      marked = marked_over ways c.args.last c.requires.earlier k way (way_at ways k way inside read) c.loop-place.marks c.mark_over.new.marks (record { leads = false; is_returned = false }) inside
-          c.loop-place.invariant.room c.if-marks-place.true c.mark_over.ensures.leads c.mark_over.ensures.returned marked;
+      marked = marked_over ways c.args.last c.requires.earlier k way (way_at ways k way inside read) c.loop-place.marks c.mark_over.new.marks Nothing inside
+          c.loop-place.invariant.room (sym c.leads.ensures ∙ c.if-leads.true) c.mark_over.ensures.leads c.mark_over.ensures.given marked;
     }
 
 pub loop-place-preserved : goal.loop-place-preserved
@@ -71,8 +70,8 @@ loop-place-preserved c =
     record {
       room = c.loop-place.invariant.room;
       within = omega (arith, within);
-      marked = marked_kept ways c.args.last c.requires.earlier k (get_or ways k some_way) (slice_get-get_or ways k some_way inside) c.loop-place.marks (record { leads = false; is_returned = false }) inside
-          c.if-marks-place.false marked;
+      marked = marked_kept ways c.args.last c.requires.earlier k (get_or ways k some_way) (slice_get-get_or ways k some_way inside) c.loop-place.marks Nothing inside
+          (sym c.leads.ensures ∙ c.if-leads.false) marked;
     }
 
 pub returns : goal.returns

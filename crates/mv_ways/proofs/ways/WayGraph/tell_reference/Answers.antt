@@ -1,6 +1,6 @@
-use Rattle.mv_edges.proofs.Common.{◌≡◌, arith, length, false, refl, subst, sym, true}
+use Rattle.mv_edges.proofs.Common.{◌<◌, ℕ, false, refl, subst, sym, true}
 use Rattle.mv_ways.specs.Drawn.{drawn_edges}
-use Rattle.mv_ways.specs.Going.{AreLeading}
+use Rattle.mv_ways.specs.Going.{AreLeading, IsReturned}
 use Rattle.mv_ways.specs.Telling.{given_edges}
 use Rattle.mv_ways.specs.Told.{IsTold}
 use Rattle.mv_ways.specs.Ways.{all_leads, reference_edges}
@@ -11,25 +11,29 @@ pub returns-then-tell_given : goal.returns-then-tell_given
 returns-then-tell_given g c =
     let it = c.args.self.now in
     let r = c.args.reference in
-    let marks = c.mark.new.marks in
-    let long : length marks ≡ length it.ways = omega arith in
-    let leading : AreLeading it.ways r.way marks = subst (λ w. AreLeading it.ways w marks) c.way.ensures c.mark.ensures in
+    let marks = c.mark_given_to-end.new.marks in
+    let end = c.mark_given_to-end.result in
+    let within = c.mark_given_to-end.ensures.within in
+    let before : (k : ℕ) → IsReturned it.ways r.way 0 k → k < end = λ k given. c.mark_given_to-end.ensures.before k (rw c.way.ensures given) in
+    let leading : 0 < end → AreLeading it.ways r.way marks = λ some. subst (λ w. AreLeading it.ways w marks) c.way.ensures (c.mark_given_to-end.ensures.leading some) in
     let node = c.node-then-tell_given.result in
     let way = c.way-then-tell_given.result in
     told_rest g.S.Sink.after g.met.S.Sink.joined g.met.S.Sink.alike c.args.sink.now c.tell_given.new.sink c.tell_drawn.new.sink
-    (given_edges (drawn_edges it c.node.result true) marks (length marks)) (drawn_edges it node false way) (reference_edges it.sources (all_leads it.ways) r) c.tell_drawn.result
-    (told_all it r marks c.requires.earlier c.requires.inside leading c.node.result node way (length marks) c.node.ensures c.node-then-tell_given.ensures c.way-then-tell_given.ensures long)
+    (given_edges (drawn_edges it c.node.result true) marks end) (drawn_edges it node false way) (reference_edges it.sources (all_leads it.ways) r) c.tell_drawn.result
+    (told_all it r marks end c.requires.earlier c.requires.inside within before leading c.node.result node way c.node.ensures c.node-then-tell_given.ensures c.way-then-tell_given.ensures)
     (rw c.if-tell_given.true at c.tell_given.ensures) c.tell_drawn.ensures
 
 pub returns-else-tell_given : goal.returns-else-tell_given
 returns-else-tell_given g c =
     let it = c.args.self.now in
     let r = c.args.reference in
-    let marks = c.mark.new.marks in
-    let long : length marks ≡ length it.ways = omega arith in
-    let leading : AreLeading it.ways r.way marks = subst (λ w. AreLeading it.ways w marks) c.way.ensures c.mark.ensures in
+    let marks = c.mark_given_to-end.new.marks in
+    let end = c.mark_given_to-end.result in
+    let within = c.mark_given_to-end.ensures.within in
+    let before : (k : ℕ) → IsReturned it.ways r.way 0 k → k < end = λ k given. c.mark_given_to-end.ensures.before k (rw c.way.ensures given) in
+    let leading : 0 < end → AreLeading it.ways r.way marks = λ some. subst (λ w. AreLeading it.ways w marks) c.way.ensures (c.mark_given_to-end.ensures.leading some) in
     subst (λ more. IsTold g.S.Sink.after c.args.sink.now (reference_edges it.sources (all_leads it.ways) r) more c.tell_given.new.sink) (sym c.if-tell_given.false)
     (told_no_more g.S.Sink.after g.met.S.Sink.joined g.met.S.Sink.alike c.args.sink.now c.tell_given.new.sink
-    (given_edges (drawn_edges it c.node.result true) marks (length marks)) (drawn_edges it r.node false r.way) (reference_edges it.sources (all_leads it.ways) r)
-    (told_all it r marks c.requires.earlier c.requires.inside leading c.node.result r.node r.way (length marks) c.node.ensures refl refl long)
+    (given_edges (drawn_edges it c.node.result true) marks end) (drawn_edges it r.node false r.way) (reference_edges it.sources (all_leads it.ways) r)
+    (told_all it r marks end c.requires.earlier c.requires.inside within before leading c.node.result r.node r.way c.node.ensures refl refl)
     (rw c.if-tell_given.false at c.tell_given.ensures))
