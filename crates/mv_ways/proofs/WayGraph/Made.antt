@@ -5,7 +5,7 @@ use Rattle.mv_edges.proofs.Insertion.{all_weaker}
 use Rattle.mv_edges.proofs.Settled.{sorted-append, sorted_behind_alike}
 use Rattle.mv_edges.proofs.Sorting.{sorted-append_swap}
 use Rattle.mv_ways.specs.Made.{IsPlaced, are_inside, group_edges, grouped, is_inside}
-use Rattle.mv_ways.specs.Ways.{HasMoreSources, WayGraph, a_lead, edges_of, lead_edges, source_at}
+use Rattle.mv_ways.specs.Ways.{HasMoreSources, a_lead, lead_edges, source_at}
 use Rattle.mv_ways.specs.declared.ways.made.Group.{Group}
 use Rattle.mv_ways.proofs.Piecewise.{flat_map_passing}
 use Rattle.mv_ways.proofs.WayGraph.Kept.{all_at, all_set, lead_edges-more, leads_more}
@@ -60,8 +60,3 @@ module _ (before after : List (Option Node)) (groups made : List Group) (more : 
             all_set (is_inside (length after)) made k y all
             (leads_known_more (length after) (length after) z.leads.items y.leads.items (a_lead source e.label) (omega arith) its (lt-ltb source (length after) known) leads);
       }
-
--- references for the first groups, and the groups that are left
-pub record IsReferred (g after : WayGraph) (left groups : List Group) : Type 0 where
-  pub edges : edges_of after ++ grouped after.sources left ≡ edges_of g ++ grouped g.sources groups
-  pub inside : are_inside (length after.sources) left ≡ true
