@@ -84,7 +84,7 @@ impl WayGraph {
         ensures inside { IfOk result (λ groups. IsTrue (are_inside (length self.new.sources) groups.items)) }
         ensures same { OnOk result (edges_of self.new ≡ edges_of self.old) }
     {
-        let mut groups = Vec::new(alloc);
+        let mut groups = Vec::with_capacity(alloc, SLOTS)?;
         let mut places = [usize::MAX; SLOTS];
         for number in 0..edges.len() {
             let e = &edges[number];
@@ -107,6 +107,8 @@ impl WayGraph {
         requires { IsTrue (are_inside (length self.old.sources) groups.items) }
         ensures { OnOk result (edges_of self.new ≡ edges_of self.old ++ grouped self.old.sources groups.items) }
     {
+        self.ways.reserve(groups.len())?;
+        self.references.reserve(groups.len())?;
         for group in groups {
             self.refer(group.to, Way::Stated(group.leads))?;
         }
