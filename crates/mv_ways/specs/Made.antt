@@ -1,40 +1,39 @@
--- Where edges come from among sources, and which nodes are referred to.
---   is_at, has_source         a source is at a node, and one of some is
---   come_from sources edges   each edge comes from one of the sources
---   are_inside count leads    leads come from the first sources alone
---   is_led_to g node          a reference is of the node
---   IsMade edges g            a graph has the edges to the nodes that are referred to, and a source for each
-use Rattle.std.specs.Prelude.{◌≡◌, ℕ, nat_lt, Bool, true, false, List, Option, filter}
-use Rattle.std.specs.List.{list_all, list_any}
-use Rattle.std.specs.Option.{option_map_or}
+-- What leads to nodes, each by itself.
+--   grouped sources groups     the edges of all groups
+--   are_inside count groups    all leads come from the first sources alone
+--   IsGroupOf to groups k   the group at a place is of a node
+--   IsPlaced to before after k there may be one group more, with no edges, and the group at a place is of a node
+use Rattle.std.specs.Prelude.{◌≡◌, ℕ, ◌<◌, nat_lt, Bool, true, List, Option, length, flat_map, slice_index_or}
+use Rattle.std.specs.List.{list_all}
 use Rattle.mv_move_types.specs.declared.borrow.Node.{Node}
-use Rattle.mv_edges.specs.Edges.{Edge, same_node}
+use Rattle.mv_edges.specs.Edges.{Edge}
 use Rattle.mv_ways.specs.Leads.{Lead}
-use Rattle.mv_edges.specs.Sorted.{sorted}
-use Rattle.mv_ways.specs.Ways.{WayGraph, edges_of}
-use Rattle.mv_ways.specs.declared.ways.Reference.{Reference}
+use Rattle.mv_ways.specs.Ways.{lead_edges}
+use Rattle.mv_ways.specs.declared.ways.made.Group.{Group}
 
--- whether a source is at a node
-abbrev pub is_at : Node → Option Node → Bool
-is_at node source = option_map_or (λ at. same_node at node) source false
+-- the edges of a group
+abbrev pub group_edges : List (Option Node) → Group → List Edge
+group_edges sources group = flat_map (lead_edges sources group.to) group.leads.items
 
--- whether one of them is
-abbrev pub has_source : List (Option Node) → Node → Bool
-has_source sources node = list_any (is_at node) sources
+-- the edges of all groups
+abbrev pub grouped : List (Option Node) → List Group → List Edge
+grouped sources groups = flat_map (group_edges sources) groups
 
--- whether each edge comes from one of the sources
-abbrev pub come_from : List (Option Node) → List Edge → Bool
-come_from sources edges = list_all (λ (e : Edge). has_source sources e.from) edges
+-- whether the leads of a group come from some of the first sources alone
+abbrev pub is_inside : ℕ → Group → Bool
+is_inside count group = list_all (λ (l : Lead). nat_lt l.source count) group.leads.items
 
--- whether leads come from some of the first sources alone
-abbrev pub are_inside : ℕ → List Lead → Bool
-are_inside count leads = list_all (λ (l : Lead). nat_lt l.source count) leads
+-- whether those of all groups do
+abbrev pub are_inside : ℕ → List Group → Bool
+are_inside count groups = list_all (is_inside count) groups
 
--- whether a reference is of a node
-abbrev pub is_led_to : WayGraph → Node → Bool
-is_led_to g node = list_any (λ (r : Reference). same_node r.node node) g.references
+-- the group at a place is of a node
+pub record IsGroupOf (to : Node) (groups : List Group) (place : ℕ) : Type 0 where
+  pub inside : place < length groups
+  pub there : (d : Group) → (slice_index_or groups place d).to ≡ to
 
--- a graph has those of some edges that lead to the nodes that are referred to, and a source for each of them
-pub record IsMade (edges : List Edge) (g : WayGraph) : Type 0 where
-  pub come : come_from g.sources edges ≡ true
-  pub same : sorted (edges_of g) ≡ sorted (filter (λ (e : Edge). is_led_to g e.to) edges)
+-- the same, where there may be one group more, with no edges
+pub record IsPlaced (to : Node) (before after : List Group) (place : ℕ) : Type 0 where
+  pub at : IsGroupOf to after place
+  pub edges : (sources : List (Option Node)) → grouped sources after ≡ grouped sources before
+  pub known : (count : ℕ) → are_inside count before ≡ true → are_inside count after ≡ true

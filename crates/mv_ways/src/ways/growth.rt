@@ -52,6 +52,19 @@ impl WayGraph {
         Ok(())
     }
 
+    /// The number of a new source at a node.
+    fn new_source(&mut self, node: Node) -> Result<usize, AllocError>
+        ensures there { IfOk result (λ number. source_at self.new.sources number ≡ Some node) }
+        ensures known { IfOk result (λ number. number < length self.new.sources) }
+        ensures more { OnOk result (HasMoreSources self.old.sources self.new.sources) }
+        ensures kept { OnOk result ((self.new.ways ≡ self.old.ways) × (self.new.references ≡ self.old.references)) }
+        ensures edges { OnOk result (edges_of self.new ≡ edges_of self.old) }
+    {
+        let number = self.sources().len();
+        self.push_source(node)?;
+        Ok(number)
+    }
+
     /// The number of a source at a node: of the last one there, or of a new one.
     pub(super) fn source(&mut self, node: Node) -> Result<usize, AllocError>
         ensures there { IfOk result (λ number. source_at self.new.sources number ≡ Some node) }
@@ -62,12 +75,22 @@ impl WayGraph {
     {
         match self.last_source_at(node) {
             Some(number) => Ok(number),
-            None => {
-                let number = self.sources().len();
-                self.push_source(node)?;
-                Ok(number)
-            }
+            None => self.new_source(node),
         }
+    }
+
+    /// The number of the last source, if it is at the node, or of a new one.
+    pub(super) fn source_behind(&mut self, node: Node) -> Result<usize, AllocError>
+        ensures there { IfOk result (λ number. source_at self.new.sources number ≡ Some node) }
+        ensures known { IfOk result (λ number. number < length self.new.sources) }
+        ensures more { OnOk result (HasMoreSources self.old.sources self.new.sources) }
+        ensures edges { OnOk result (edges_of self.new ≡ edges_of self.old) }
+    {
+        let count = self.sources().len();
+        if count > 0 && self.is_source_at(count - 1, node) {
+            return Ok(count - 1);
+        }
+        self.new_source(node)
     }
 
     /// Adds a way, and returns its place. Beyond `MOST_WAYS` it fails as if an allocation had failed.

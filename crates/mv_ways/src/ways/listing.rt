@@ -16,7 +16,7 @@ impl WayGraph {
     pub(crate) fn settled(&self, alloc: Global) -> Result<Edges, AllocError>
         ensures { IfOk result (λ s. s ≡ sorted (edges_of self.now)) }
     {
-        let mut listing = Listing::new(alloc);
+        let mut listing = Listing::new(alloc, self.references().len().saturating_mul(2))?;
         self.tell_each(&All, &mut listing);
         listing.edges()
     }
@@ -25,7 +25,7 @@ impl WayGraph {
     pub(super) fn led_into(&self, alloc: Global, nodes: &[Node]) -> Result<Edges, AllocError>
         ensures { IfOk result (λ es. es ≡ sorted (flat_map (λ n. into n (edges_of self.now)) nodes.now)) }
     {
-        let mut listing = Listing::new(alloc);
+        let mut listing = Listing::new(alloc, nodes.len())?;
         for n in nodes {
             self.tell_each(&One(*n), &mut listing);
         }

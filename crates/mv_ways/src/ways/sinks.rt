@@ -1,5 +1,5 @@
 // What is made of edges, and what is asked of them, while they are told.
-ghost use Rattle.std.specs.Prelude.{◌≡◌, ◌++◌, ◌∷◌, [], false, true, IfOk, OnOk};
+ghost use Rattle.std.specs.Prelude.{◌≡◌, ◌<◌, ◌++◌, ◌∷◌, [], false, true, IfOk, OnOk};
 ghost use Rattle.std.specs.List.{list_any};
 ghost use Rattle.mv_edges.specs.Edges.{edge_leq};
 ghost use Rattle.mv_edges.specs.Sorted.{sorted};
@@ -8,6 +8,7 @@ ghost use Rattle.mv_ways.specs.Listing.{listed};
 use super::sink::Sink;
 use super::told::Told;
 use mv_edges::{Edge, Edges};
+use mv_move_types::Node;
 use std::alloc::{AllocError, Global};
 use std::mem::replace;
 
@@ -70,6 +71,32 @@ impl<'a> Sink for Under<'a> {
     }
 }
 
+/// A node as a number, by which nodes are ordered.
+fn node_number(node: Node) -> u64
+    ensures { result < 262144 }
+{
+    match node {
+        Node::Slot(local) => u64::from(local),
+        Node::Own(local) => 65_536 + u64::from(local),
+        Node::Glob(definition) => 131_072 + u64::from(definition),
+        Node::Temp(place) => 196_608 + u64::from(place),
+    }
+}
+
+/// The nodes of an edge as a number, by which edges are ordered.
+fn nodes_number(e: &Edge) -> u64 {
+    node_number(e.from()) * 262_144 + node_number(e.to())
+}
+
+/// The edges in order, each once. They are sorted by their nodes first, since most of them are in order then.
+#[tactic(auto, using(crate::proofs::Listed::sorted_permuted))]
+fn in_order(mut items: Vec<Edge>) -> Result<Edges, AllocError>
+    ensures { IfOk result (λ es. es ≡ sorted items.items) }
+{
+    items.sort_by_cached_key(|e| nodes_number(e))?;
+    Edges::of_unordered(items)
+}
+
 /// How many edges are told before they are put in order.
 const MANY_EDGES: usize = 1_024;
 
@@ -84,16 +111,16 @@ pub(super) struct Listing {
 }
 
 impl Listing {
-    /// Nothing has been told.
-    pub(super) fn new(alloc: Global) -> Self
-        ensures edges { listed result ≡ [] }
-        ensures failed { result.has_failed ≡ false }
+    /// Nothing has been told. There is room for so many edges.
+    pub(super) fn new(alloc: Global, room: usize) -> Result<Self, AllocError>
+        ensures edges { IfOk result (λ l. listed l ≡ []) }
+        ensures failed { IfOk result (λ l. l.has_failed ≡ false) }
     {
-        Listing {
+        Ok(Listing {
             ordered: Edges::new(alloc),
-            items: Vec::new(alloc),
+            items: Vec::with_capacity(alloc, room)?,
             has_failed: false,
-        }
+        })
     }
 
     /// Puts all edges in order.
@@ -104,7 +131,7 @@ impl Listing {
     {
         let alloc = *self.items.allocator();
         let items = replace(&mut self.items, Vec::new(alloc));
-        self.ordered.add_all(Edges::of_unordered(items)?)?;
+        self.ordered.add_all(in_order(items)?)?;
         Ok(())
     }
 
@@ -125,7 +152,7 @@ impl Listing {
     ///
     /// # Errors
     /// If an allocation failed, now or while edges were told.
-    #[tactic(auto, using(crate::proofs::Listed::all_in_order))]
+    #[tactic(auto, using(crate::proofs::Listed::all_in_order, crate::proofs::Listed::none_in_order))]
     pub(super) fn edges(self) -> Result<Edges, AllocError>
         ensures edges { IfOk result (λ es. es ≡ sorted (listed self)) }
         ensures failed { OnOk result (self.has_failed ≡ false) }
@@ -133,7 +160,10 @@ impl Listing {
         if self.has_failed {
             return Err(AllocError);
         }
-        let mut edges = Edges::of_unordered(self.items)?;
+        let mut edges = in_order(self.items)?;
+        if self.ordered.is_empty() {
+            return Ok(edges);
+        }
         edges.add_all(self.ordered)?;
         Ok(edges)
     }
