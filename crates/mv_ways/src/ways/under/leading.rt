@@ -153,7 +153,7 @@ impl WayGraph {
         }
     }
 
-    /// Whether a function returned what a way is drawn from.
+    /// Whether a function that had any way returned what this one is drawn from.
     fn is_drawn_from_result(&self, last: usize) -> bool
         requires { last < length self.now.ways }
         ensures { (k : ℕ) → IsReturned self.now.ways last 0 k → IsTrue result }
