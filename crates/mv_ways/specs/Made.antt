@@ -1,8 +1,8 @@
 -- What leads to nodes, each by itself.
---   grouped sources groups     the edges of all groups
---   are_inside count groups    all leads come from the first sources alone
---   IsGroupOf to groups k   the group at a place is of a node
---   IsPlaced to before after k there may be one group more, with no edges, and the group at a place is of a node
+--   grouped sources groups       the edges of all groups
+--   are_inside count groups      all leads come from the first sources alone
+--   IsGroupOf to groups k        the group at a place is of a node
+--   IsPlaced to before after k   the same, where there may be one group more, with no edges
 use Rattle.std.specs.Prelude.{◌≡◌, ℕ, ◌<◌, nat_lt, Bool, true, List, Option, length, flat_map, slice_index_or}
 use Rattle.std.specs.List.{list_all}
 use Rattle.mv_move_types.specs.declared.borrow.Node.{Node}

@@ -1,7 +1,7 @@
 // A graph of ways made of a list of edges.
 ghost use Rattle.std.specs.Prelude.{◌≡◌, ◌<◌, ◌++◌, IfOk, IfSome, OnOk, IsTrue, length};
 ghost use Rattle.mv_edges.specs.Sorted.{sorted};
-ghost use Rattle.mv_ways.specs.Made.{IsPlaced, are_inside, grouped, IsGroupOf};
+ghost use Rattle.mv_ways.specs.Made.{IsGroupOf, IsPlaced, are_inside, grouped};
 ghost use Rattle.mv_ways.specs.Ways.{edges_of};
 
 use super::{Lead, Way, WayGraph};
@@ -16,17 +16,15 @@ struct Group {
     leads: Vec<Lead>,
 }
 
-/// How many nodes are found at once.
+/// How many slots there are. Nodes that share none are found with one look.
 const SLOTS: usize = 64;
 
-/// The slot of a node. Locals and what is on the stack seldom have the same.
+/// The slot of a node. A local and a place on the stack share one only where there are many of them.
 fn slot_of(node: Node) -> usize
     ensures { result < 64 }
 {
     match node {
-        Node::Slot(local) => usize::from(local) % SLOTS,
-        Node::Own(local) => usize::from(local) % SLOTS,
-        Node::Glob(definition) => usize::from(definition) % SLOTS,
+        Node::Slot(index) | Node::Own(index) | Node::Glob(index) => usize::from(index) % SLOTS,
         Node::Temp(place) => SLOTS - 1 - usize::from(place) % SLOTS,
     }
 }
@@ -39,7 +37,7 @@ fn is_group_of(groups: &[Group], place: usize, to: Node) -> bool
     is_same(groups[place].to, to)
 }
 
-/// The place of a node's group, which is looked for where it was last. There is none if no group was where that is.
+/// The place of a node's group. The last node of its slot had the last group; past the end, there was no such node.
 fn place_of(groups: &[Group], last: usize, to: Node) -> Option<usize>
     ensures { IfSome result (IsGroupOf to groups.now) }
 {
