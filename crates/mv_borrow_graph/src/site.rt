@@ -211,7 +211,7 @@ impl<'d, 'm> Site<'d, 'm> {
         match instruction {
             Instruction::Ret | Instruction::MoveFrom(_) => true,
             Instruction::CopyLoc(local) | Instruction::MoveLoc(local) | Instruction::StLoc(local) =>
-                { self.is_value(*local) }
+                self.is_value(*local),
             _ => false,
         }
     }
@@ -247,9 +247,9 @@ impl<'d, 'm> Site<'d, 'm> {
             }
             Instruction::MoveLoc(local) => self.move_local(local, s),
             Instruction::StLoc(local) => self.store_local(local, s),
-            Instruction::Pop | Instruction::ReadRef | Instruction::WriteRef => s.remove_at(
-                self.top(),
-            ),
+            Instruction::Pop | Instruction::ReadRef | Instruction::WriteRef => {
+                s.remove_at(self.top());
+            }
             Instruction::FreezeRef => s.remove_out_of(self.top()),
             Instruction::MoveTo(_) => s.remove_at(self.second()),
             _ => {}
