@@ -11,8 +11,7 @@ use mv_ways::{Borrows, Graph};
 use std::alloc::AllocError;
 
 impl<'d, 'm> Site<'d, 'm> {
-    /// Whether a local may be copied: a value, if no edge leads from it to a mutable reference, and a mutable reference, if none leads
-    /// out of it.
+    /// Whether a local may be copied: from a value no edge may lead to a mutable reference, and out of a mutable reference none.
     #[tactic(auto, using(crate::proofs::Rows::met_if), unfolding(mv_certificate_rules::specs::BorrowRules::edges_after))]
     pub fn may_copy(&self, local: u16, s: &Borrows<'_>) -> bool
         ensures { result ≡ is_some (edges_after self.now (Instruction.CopyLoc local) s.now) }
@@ -25,7 +24,7 @@ impl<'d, 'm> Site<'d, 'm> {
         }
     }
 
-    /// Whether a local may be moved or stored: a value, which may be moved or overwritten only if no edge leads out of it.
+    /// Whether a local may be moved, or stored into: if it is a value, no edge may lead out of it.
     #[tactic(auto, using(crate::proofs::Rows::met_if), unfolding(mv_certificate_rules::specs::BorrowRules::edges_after))]
     pub fn may_move(&self, local: u16, s: &Borrows<'_>) -> bool
         ensures moved { result ≡ is_some (edges_after self.now (Instruction.MoveLoc local) s.now) }
