@@ -45,6 +45,10 @@ module _ (s : List Edge) where
   out_of_one : (n : Node) → list_any (λ e. same_node e.from n && true) s ≡ not (no_edge_out n s)
   out_of_one n = sym (list_any-filter (λ e. true) (λ e. same_node e.from n) s) ∙ sym (any_at_all (out_of n s))
 
+  -- no edge leads out of a node
+  pub free_of_one : (n : Node) (any : Bool) → any ≡ any_between (λ m. same_node m n) None (λ m. true) s → not any ≡ no_edge_out n s
+  free_of_one n any is = ap not (is ∙ out_of_one n) ∙ not_asked (no_edge_out n s)
+
   out_of_any : (ns : List Node) → list_any (λ e. list_any (same_node e.from) ns && true) s ≡ not (list_all (λ n. no_edge_out n s) ns)
   out_of_any [] = none_of s
   out_of_any (n ∷ ns) =

@@ -1,58 +1,91 @@
 -- What the rows of the rules make of edges.
 use Rattle.std.proofs.Common.{◌≡◌, ℕ, Bool, true, false, not, List, [], ◌∷◌, ◌++◌, length, drop, get_or, slice_get, ◌+◌, ◌-◌, ◌<◌, ◌≤◌, Option}
-use Rattle.std.proofs.Common.{Some, None, Result, refl, sym, ap, ◌∙◌, subst, arith, append_assoc, append-nil}
+use Rattle.std.proofs.Common.{Some, None, Result, Ok, Err, refl, sym, ap, ◌∙◌, subst, arith, append_assoc, append-nil}
 use Rattle.std.specs.Bool.{then_some}
-use Rattle.std.specs.List.{list_all}
-use Rattle.std.proofs.Common.{◌&&◌}
-use Rattle.std.specs.Prelude.{if◌then◌else◌}
+use Rattle.std.specs.Option.{option_map_or}
+use Rattle.std.specs.Prelude.{if◌then◌else◌, is_some, IsSome, OnOk}
 use Rattle.std.proofs.lemmas.List.{drop_more, drop_all}
 use Rattle.mv_move_types.specs.declared.token.Token.{Token}
 use Rattle.mv_move_types.specs.declared.token.Token.TheVariants.{Plain, Reference, MutableReference}
 use Rattle.mv_move_types.specs.declared.token.ValueType.{ValueType}
 use Rattle.mv_move_types.specs.declared.borrow.Node.{Node}
-use Rattle.mv_move_types.specs.declared.borrow.Node.TheVariants.{Slot, Glob, Temp}
+use Rattle.mv_move_types.specs.declared.borrow.Node.TheVariants.{Slot, Temp}
 use Rattle.mv_move_types.specs.declared.tables.FunctionHandle.{FunctionHandle}
 use Rattle.mv_move_types.specs.Options.{◌>>=◌}
 use Rattle.mv_move_types.specs.Module.{own_acquires}
 use Rattle.mv_type_rules.specs.TypesHold.{Point}
-use Rattle.mv_lattice.specs.declared.StepError.{StepError}
-use Rattle.mv_edges.specs.Edges.{Edge, here, inherited, an_edge, without_each}
+use Rattle.mv_edges.specs.Ascending.{are_ascending}
+use Rattle.mv_edges.specs.Edges.{Edge, here, inherited, an_edge}
 use Rattle.mv_edges.specs.Sorted.{sorted}
-use Rattle.mv_certificate_rules.specs.BorrowRules.{next_temp, no_edge_out, copy_edges, field_edges, position_of, opened_edges, result_edges}
-use Rattle.mv_certificate_rules.specs.BorrowRules.{reference_nodes, call_edges, is_mutable_token, is_reference_token}
-use Rattle.mv_borrow_graph.specs.Domain.{ordered, Follows}
+use Rattle.mv_certificate_rules.specs.BorrowRules.{next_temp, no_edge_out, copy_edges, opened_edges, result_edges, reference_nodes, call_edges}
+use Rattle.mv_borrow_graph.specs.Calls.{call_after, tied_edges}
+use Rattle.mv_borrow_graph.specs.Domain.{ordered}
+use Rattle.mv_borrow_graph.proofs.Free.{both_kinds}
 use Rattle.mv_edges.proofs.InOrder.{sorted_first}
 pub use Rattle.mv_edges.proofs.Sorting.{sorted-ascending as kept_order}
 
--- a part may be sorted before a test
-ordered_first : (test : Bool) (es fs : List Edge) → ordered (then_some test (sorted es ++ fs)) ≡ ordered (then_some test (es ++ fs))
-ordered_first true es fs = ap Some (sorted_first es fs)
-ordered_first false es fs = refl
+-- ---- what is needed, asked
+
+some_if : (b : Bool) (edges : List Edge) → b ≡ is_some (then_some b edges)
+some_if true edges = refl
+some_if false edges = refl
+
+pub met_if : (r b : Bool) (edges : List Edge) → r ≡ b → r ≡ is_some (then_some b edges)
+met_if r b edges is = is ∙ some_if b edges
+
+-- of a field, if it is there
+pub field_met : (o : Option ℕ) (r : Bool) (asked forbids : ℕ → Bool) (after : ℕ → List Edge) → ((f : ℕ) → asked f ≡ forbids f)
+    → r ≡ option_map_or (λ f. not (asked f)) o false → r ≡ is_some (o >>= λ f. then_some (not (forbids f)) (after f))
+field_met None r asked forbids after same is = is
+field_met (Some f) r asked forbids after same is = is ∙ ap not (same f) ∙ some_if (not (forbids f)) (after f)
+
+-- ---- where it is found
+
+pub kept_if : (b : Bool) (edges : List Edge) → IsSome (then_some b edges) → then_some b edges ≡ Some edges
+kept_if true edges met = refl
+kept_if false edges met = cc
+
+-- edges that are left are in their order
+pub left_if : (b : Bool) (edges : List Edge) → are_ascending edges ≡ true → IsSome (then_some b edges) → ordered (then_some b edges) ≡ Some edges
+left_if b edges ascend met = ap ordered (kept_if b edges met) ∙ ap Some (kept_order edges ascend)
+
+pub after_if : (b : Bool) (edges new : List Edge) → new ≡ sorted edges → IsSome (then_some b edges) → ordered (then_some b edges) ≡ Some new
+after_if b edges new is met = ap ordered (kept_if b edges met) ∙ ap Some (sym is)
+
+pub ok_if : {E : Type 0} (r : Result (Unit {0}) E) (b : Bool) (edges new : List Edge) → OnOk r (new ≡ sorted edges) → IsSome (then_some b edges)
+    → OnOk r (ordered (then_some b edges) ≡ Some new)
+ok_if (Ok done) b edges new is met = after_if b edges new is met
+ok_if (Err e) b edges new is met = tt
 
 -- a mutable one is its child, too
-pub copied_mutably : (p : Point) (l : ℕ) (token : Token) (t : ValueType) (s both after : List Edge) (next : Node) (free : Bool) (r : Result (Unit {0}) StepError)
-    → token ≡ MutableReference t → free ≡ no_edge_out (Slot l) s → both ≡ sorted (s ++ inherited (λ label. label) (Slot l) (next_temp p) s) → next ≡ next_temp p
-    → Follows r after (ordered (then_some free (both ++ an_edge (Slot l) here next ∷ []))) → Follows r after (ordered (copy_edges p l token s))
-copied_mutably p l token t s both after next free r is_token tested is_both is_next f =
-    let own : List Edge = s ++ inherited (λ label. label) (Slot l) (next_temp p) s in
-    let same : ordered (then_some free (both ++ an_edge (Slot l) here next ∷ [])) ≡ ordered (copy_edges p l token s) =
-    (λ i. ordered (then_some (tested i) (is_both i ++ an_edge (Slot l) here (is_next i) ∷ [])))
-    ∙ ordered_first (no_edge_out (Slot l) s) own (an_edge (Slot l) here (next_temp p) ∷ [])
-    ∙ ap (λ x. ordered (copy_edges p l x s)) (sym is_token) in
-    subst (λ (o : Option (List Edge)). Follows r after o) same f
+pub copied_mutably : {E : Type 0} (p : Point) (l : ℕ) (t : ValueType) (s both after : List Edge) (next : Node) (o : Option Token) (token : Token) (r : Result (Unit {0}) E)
+    → o ≡ Some token → token ≡ MutableReference t → both ≡ sorted (s ++ inherited (λ label. label) (Slot l) next s) → next ≡ next_temp p
+    → OnOk r (after ≡ sorted (both ++ an_edge (Slot l) here next ∷ [])) → IsSome (o >>= λ x. copy_edges p l x s) → OnOk r (ordered (o >>= λ x. copy_edges p l x s) ≡ Some after)
+copied_mutably p l t s both after next o token r is is_token is_both is_next given =
+    let own : Node → List Edge = λ n. s ++ inherited (λ label. label) (Slot l) n s in
+    let child : Node → List Edge = λ n. an_edge (Slot l) here n ∷ [] in
+    let same : sorted (both ++ child next) ≡ sorted (own (next_temp p) ++ child (next_temp p)) =
+    ap (λ es. sorted (es ++ child next)) is_both ∙ sorted_first (own next) (child next) ∙ ap (λ n. sorted (own n ++ child n)) is_next in
+    subst (λ (x : Option Token). IsSome (x >>= λ y. copy_edges p l y s) → OnOk r (ordered (x >>= λ y. copy_edges p l y s) ≡ Some after)) (ap Some (sym is_token) ∙ sym is)
+    (ok_if r (no_edge_out (Slot l) s) (own (next_temp p) ++ child (next_temp p)) after (subst (λ es. OnOk r (after ≡ es)) same given))
 
--- a field is borrowed, by the position that its handle names, where nothing forbids it
-pub field_borrowed : (p : Point) (i f : ℕ) (s after : List Edge) (forbids : ℕ → Bool) (r : Result (Unit {0}) StepError) → position_of p i ≡ Some f → not (forbids f) ≡ true
-    → Follows r after (ordered (Some (field_edges p f s))) → Follows r after (ordered (position_of p i >>= λ g. then_some (not (forbids g)) (field_edges p g s)))
-field_borrowed p i f s after forbids r is free given =
-    subst (λ (o : Option ℕ). Follows r after (ordered (o >>= λ g. then_some (not (forbids g)) (field_edges p g s)))) (sym is)
-    (subst (λ (b : Bool). Follows r after (ordered (then_some b (field_edges p f s)))) (sym free) given)
+-- a field is borrowed, by the position that its handle names
+pub field_borrowed : {E : Type 0} (o : Option ℕ) (f : ℕ) (forbids : ℕ → Bool) (after : ℕ → List Edge) (new : List Edge) (r : Result (Unit {0}) E) → o ≡ Some f
+    → OnOk r (new ≡ sorted (after f)) → IsSome (o >>= λ g. then_some (not (forbids g)) (after g)) → OnOk r (ordered (o >>= λ g. then_some (not (forbids g)) (after g)) ≡ Some new)
+field_borrowed o f forbids after new r named is met =
+    subst (λ (x : Option ℕ). IsSome (x >>= λ g. then_some (not (forbids g)) (after g)) → OnOk r (ordered (x >>= λ g. then_some (not (forbids g)) (after g)) ≡ Some new)) (sym named)
+    (ok_if r (not (forbids f)) (after f) new is) met
 
--- where something does, a need fails
-pub field_refused : (p : Point) (i f : ℕ) (s : List Edge) (forbids : ℕ → Bool) → position_of p i ≡ Some f → not (forbids f) ≡ false
-    → ordered (position_of p i >>= λ g. then_some (not (forbids g)) (field_edges p g s)) ≡ None
-field_refused p i f s forbids is held =
-    ap (λ (o : Option ℕ). ordered (o >>= λ g. then_some (not (forbids g)) (field_edges p g s))) is ∙ ap (λ (b : Bool). ordered (then_some b (field_edges p f s))) held
+-- ---- one step
+
+-- where all edges are left
+pub left : (o : Option (List Edge)) (s : List Edge) → are_ascending s ≡ true → o ≡ Some s → ordered o ≡ Some s
+left o s ascend is = ap ordered is ∙ ap Some (kept_order s ascend)
+
+-- where something is found, it is in its order
+pub ordered_met : (o : Option (List Edge)) → IsSome o → IsSome (ordered o)
+ordered_met None met = met
+ordered_met (Some edges) met = refl
 
 -- ---- calls
 
@@ -63,22 +96,11 @@ result_edges-first m a k (Reference t) ts s = ap (λ x. x ++ result_edges m a (k
 result_edges-first m a k (MutableReference t) ts s = ap (λ x. x ++ result_edges m a (k + 1) ts s) (sym (append-nil (opened_edges m (Temp k) s)))
 
 -- a call, by what its handle names
-pub called : (p : Point) (i : ℕ) (s : List Edge) (found : Option FunctionHandle) (h : FunctionHandle) (ps rs : List Token) (base : ℕ) (holds : Bool)
-    → found ≡ slice_get p.home.function_handles i → found ≡ Some h → Some ps ≡ slice_get p.home.signatures h.parameters
-    → Some rs ≡ slice_get p.home.signatures h.results → base ≡ length p.types - length ps
-    → holds ≡ (list_all (λ n. no_edge_out n s) (reference_nodes is_mutable_token base ps) && list_all (λ t. no_edge_out (Glob t) s) (own_acquires p.home i))
-    → ordered (then_some holds (without_each (reference_nodes is_reference_token base ps) s
-    ++ result_edges (reference_nodes is_mutable_token base ps) (reference_nodes is_reference_token base ps) base rs s))
-    ≡ ordered (call_edges p i s)
-called p i s found h ps rs base holds is_found some is_ps is_rs is_base is_holds =
-    let handle : slice_get p.home.function_handles i ≡ Some h = sym is_found ∙ some in
-    let parameters : slice_get p.home.signatures h.parameters ≡ Some ps = sym is_ps in
-    let results : slice_get p.home.signatures h.results ≡ Some rs = sym is_rs in
-    let acquired : Bool = list_all (λ t. no_edge_out (Glob t) s) (own_acquires p.home i) in
-    let after : Bool → ℕ → Option (List Edge) = λ tested b.
-    ordered (then_some tested (without_each (reference_nodes is_reference_token b ps) s ++ result_edges (reference_nodes is_mutable_token b ps) (reference_nodes is_reference_token b ps) b rs s)) in
-    rw (handle, parameters, results)
-    (ap (λ x. after x base) is_holds ∙ ap (λ b. after (list_all (λ n. no_edge_out n s) (reference_nodes is_mutable_token b ps) && acquired) b) is_base)
+pub called : (p : Point) (i : ℕ) (h : FunctionHandle) (ps rs : List Token) (place : ℕ) → slice_get p.home.function_handles i ≡ Some h → slice_get p.home.signatures h.parameters ≡ Some ps
+    → slice_get p.home.signatures h.results ≡ Some rs → place ≡ length p.types - length ps → (s : List Edge) → call_edges p i s ≡ call_after p i place ps rs s
+called p i h ps rs place handle parameters results is_place s =
+    let base : ℕ = length p.types - length ps in
+    rw (handle, parameters, results) (ap (λ b. then_some b (tied_edges base ps rs s)) (sym (both_kinds base ps (own_acquires p.home i) s)) ∙ ap (λ b. call_after p i b ps rs s) (sym is_place))
 
 -- the nodes of one more type
 nodes_more : (test : Token → Bool) (place i : ℕ) (types : List Token) (d : Token) → i < length types

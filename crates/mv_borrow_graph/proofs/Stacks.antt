@@ -1,7 +1,7 @@
 -- How high a function's stack gets, and the step at a place.
-use Rattle.std.specs.Prelude.{◌==◌, IsSome, IsTrue, OnOk, is_some}
+use Rattle.std.specs.Prelude.{◌==◌, is_some, IfOk, IsSome}
 use Rattle.std.proofs.Common.{◌≡◌, ◌≤◌, reverse, arith, ℕ, Bool, true, false, cond, List, [], ◌∷◌, length, slice_range, ◌+◌, nat_le, Option, Some}
-use Rattle.std.proofs.Common.{None, slice_get, Result, Ok, Err, IsErrOf, option_map, refl, sym, ap, ◌∙◌, subst}
+use Rattle.std.proofs.Common.{None, Result, IsErrOf, slice_get, option_map, refl, sym, ap, ◌∙◌, subst}
 use Rattle.std.specs.List.{list_all, flat_map}
 use Rattle.std.specs.Option.{option_map_or}
 use Rattle.std.proofs.lemmas.Bool.{and_parts, and_from, leb-true}
@@ -15,7 +15,7 @@ use Rattle.mv_cfg.specs.Blocks.{BasicBlock, blocks}
 use Rattle.mv_type_rules.specs.TypeRules.{Types, types_after}
 use Rattle.mv_type_rules.specs.TypesHold.{Point, types_through, block_is_typed, function_is_typed, TypesHold, point_at}
 use Rattle.mv_type_rules.specs.Sound.{types_each, types_before}
-use Rattle.mv_borrow_graph.specs.Domain.{is_low, ordered, edges_step, places_reference, Follows}
+use Rattle.mv_borrow_graph.specs.Domain.{is_low, ordered, edges_step}
 use Rattle.mv_certificate_rules.specs.BorrowRules.{edges_after}
 use Rattle.mv_edges.specs.Edges.{Edge}
 use Rattle.mv_edges.specs.Ascending.{are_ascending}
@@ -83,34 +83,18 @@ module _ (m : Module) (d : FunctionDefinition) (at : ℕ) (s : List Edge) (i : I
   step_is : (p : Point) (found : Option Point) → found ≡ Some p → found ≡ option_map (point_at m d) (slice_get (types_before m d) at) → edges_step m d at s ≡ ordered (edges_after p i s)
   step_is p found was e = rw code (known p (slice_get (types_before m d) at) (sym was ∙ e))
 
-  pub step_ok : (p : Point) (found : Option Point) (r : Result (Unit {0}) StepError) (t : List Edge) → found ≡ Some p
-      → found ≡ option_map (point_at m d) (slice_get (types_before m d) at) → Follows r t (ordered (edges_after p i s))
-      → OnOk r (edges_step m d at s ≡ Some t)
-  step_ok p found (Ok done) t was e f = step_is p found was e ∙ f
-  step_ok p found (Err Need) t was e f = tt
-  step_ok p found (Err Memory) t was e f = tt
+  module _ (p : Point) (found : Option Point) (r : Result (List Edge) StepError) where
+    pub step_ok : found ≡ Some p → found ≡ option_map (point_at m d) (slice_get (types_before m d) at) → IfOk r (λ t. ordered (edges_after p i s) ≡ Some t)
+        → IfOk r (λ t. edges_step m d at s ≡ Some t)
+    step_ok was e = subst (λ (o : Option (List Edge)). IfOk r (λ t. o ≡ Some t)) (sym (step_is p found was e))
 
-  pub step_need : (p : Point) (found : Option Point) (r : Result (Unit {0}) StepError) (t : List Edge) → found ≡ Some p
-      → found ≡ option_map (point_at m d) (slice_get (types_before m d) at) → Follows r t (ordered (edges_after p i s)) → IsErrOf r Need
-      → edges_step m d at s ≡ None
-  step_need p found (Ok done) t was e f h = cc (h)
-  step_need p found (Err Need) t was e f h = step_is p found was e ∙ f
-  step_need p found (Err Memory) t was e f h = cc (h)
+    pub step_need : found ≡ Some p → found ≡ option_map (point_at m d) (slice_get (types_before m d) at) → (IsErrOf r Need → ordered (edges_after p i s) ≡ None)
+        → IsErrOf r Need → edges_step m d at s ≡ None
+    step_need was e needs h = step_is p found was e ∙ needs h
 
-  pub step_meets : (p : Point) (found : Option Point) (r : Result (Unit {0}) StepError) (t : List Edge) → found ≡ Some p
-      → found ≡ option_map (point_at m d) (slice_get (types_before m d) at) → Follows r t (ordered (edges_after p i s)) → IsErrOf r Memory
-      → IsSome (edges_step m d at s)
-  step_meets p found (Ok done) t was e f h = cc (h)
-  step_meets p found (Err Need) t was e f h = cc (h)
-  step_meets p found (Err Memory) t was e f h = subst (λ (o : Option (List Edge)). IsSome o) (sym (step_is p found was e)) f
-
-  pub step_memory : (p : Point) (found : Option Point) (r : Result (Unit {0}) StepError) → found ≡ Some p → found ≡ option_map (point_at m d) (slice_get (types_before m d) at)
-      → (r ≡ Err Memory → IsTrue (places_reference p.home p.function i)) → IsErrOf r Memory → IsTrue (option_map_or (places_reference m d) (slice_get d.code at) false)
-  step_memory p found r was e f h = rw code (at_point (slice_get (types_before m d) at) (sym was ∙ e) (f h))
-    where
-      at_point : (o : Option Types) → Some p ≡ option_map (point_at m d) o → IsTrue (places_reference p.home p.function i) → IsTrue (places_reference m d i)
-      at_point None none places = cc
-      at_point (Some types) is places = let same : p ≡ point_at m d types = cc in subst (λ (q : Point). IsTrue (places_reference q.home q.function i)) same places
+    pub step_meets : found ≡ Some p → found ≡ option_map (point_at m d) (slice_get (types_before m d) at) → (IsErrOf r Memory → IsSome (ordered (edges_after p i s)))
+        → IsErrOf r Memory → IsSome (edges_step m d at s)
+    step_meets was e meets h = subst (λ (o : Option (List Edge)). IsSome o) (sym (step_is p found was e)) (meets h)
 
   -- an instruction that leaves all edges as they are, where types are known before it
   pub step_left : ((p : Point) (es : List Edge) → edges_after p i es ≡ Some es) → is_some (slice_get (types_before m d) at) ≡ true → are_ascending s ≡ true → edges_step m d at s ≡ Some s

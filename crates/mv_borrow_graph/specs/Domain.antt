@@ -5,11 +5,10 @@
 --   edges_order m d            the edges of a function's references, their order and steps
 --   is_low types               the stack is within its limit
 --   is_picked mutable t        whether a type is a reference, or a mutable one
---   Finds result found         this is found, or a need fails
---   Follows result new after   the new state is the one after, or a need fails, or memory runs out where none does
+--   LeavesEdges p i            where the instruction finds what it needs, it leaves the edges as they are
 --   places_reference m d i     whether an instruction puts a reference where none stood, which takes memory
 -- is_reference_local is a part of these.
-use Rattle.std.specs.Prelude.{◌≡◌, ℕ, Bool, true, false, nat_le, List, ◌++◌, length, IsTrue, Option, Some, None, Result, Ok, Err, slice_get, IsSome}
+use Rattle.std.specs.Prelude.{◌≡◌, ℕ, Bool, true, false, nat_le, List, ◌++◌, length, IsTrue, Option, Some, slice_get, IsSome}
 use Rattle.std.specs.Option.{option_map_or}
 use Rattle.mv_move_types.specs.Limits.{most_operands}
 use Rattle.mv_move_types.specs.declared.token.Token.{Token}
@@ -19,13 +18,11 @@ use Rattle.mv_move_types.specs.declared.instruction.Instruction.{Instruction}
 use Rattle.mv_move_types.specs.declared.instruction.Instruction.TheVariants.{CopyLoc, MoveLoc, StLoc, MutBorrowLoc, ImmBorrowLoc, MutBorrowField}
 use Rattle.mv_move_types.specs.declared.instruction.Instruction.TheVariants.{ImmBorrowField, Call, MutBorrowGlobal, ImmBorrowGlobal}
 use Rattle.mv_type_rules.specs.TypeRules.{Types}
-use Rattle.mv_type_rules.specs.TypesHold.{point_at}
+use Rattle.mv_type_rules.specs.TypesHold.{Point, point_at}
 use Rattle.mv_type_rules.specs.Sound.{types_before}
 use Rattle.mv_edges.specs.Ascending.{are_ascending}
 use Rattle.mv_edges.specs.Edges.{Edge, edges_leq}
 use Rattle.mv_edges.specs.Sorted.{sorted}
-use Rattle.mv_lattice.specs.declared.StepError.{StepError}
-use Rattle.mv_lattice.specs.declared.StepError.TheVariants.{Need, Memory}
 use Rattle.mv_lattice.specs.Order.{Order}
 use Rattle.mv_certificate_rules.specs.BorrowRules.{edges_after, is_mutable_token, is_reference_token}
 use Rattle.mv_certificate_rules.specs.Nodes.{may_begin_with, are_few, IsGraphOf}
@@ -68,16 +65,9 @@ abbrev pub is_picked : Bool → Token → Bool
 is_picked true t = is_mutable_token t
 is_picked false t = is_reference_token t
 
--- this is found, or a need fails where there is none
-abbrev pub Finds : {A : Type 0} → Result A StepError → Option A → Type 0
-Finds (Ok x) found = found ≡ Some x
-Finds (Err e) found = (e ≡ Need) × (found ≡ None)
-
--- the new state is the one after, or a need fails where there is none; memory is wanted only where no need fails
-abbrev pub Follows : {S : Type 0} → Result (Unit {0}) StepError → S → Option S → Type 0
-Follows (Ok done) new after = after ≡ Some new
-Follows (Err Need) new after = after ≡ None
-Follows (Err Memory) new after = IsSome after
+-- where an instruction finds what it needs, it leaves the edges as they are
+abbrev pub LeavesEdges : Point → Instruction → Type 0
+LeavesEdges p i = (edges : List Edge) → IsSome (edges_after p i edges) → edges_after p i edges ≡ Some edges
 
 -- whether a local is of a reference type
 abbrev pub is_reference_local : Module → FunctionDefinition → ℕ → Bool

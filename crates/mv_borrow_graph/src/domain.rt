@@ -1,12 +1,11 @@
 // A function's borrow graph as a domain of states.
-ghost use Rattle.std.specs.Prelude.{◌≡◌, ◌<◌, List, [], length, slice_get, Option, Some, is_some, option_map, false, IsTrue, OnOk, IsErrOf, IsSome};
+ghost use Rattle.std.specs.Prelude.{◌≡◌, ◌<◌, List, [], length, slice_get, Option, Some, is_some, option_map, IsTrue, IfOk, IsErrOf, IsSome};
 ghost use Rattle.std.specs.List.{list_all};
-ghost use Rattle.std.specs.Option.{option_map_or};
 ghost use Rattle.mv_edges.specs.Ascending.{are_ascending};
 ghost use Rattle.mv_edges.specs.Edges.{Edge as EdgeRecord};
 ghost use Rattle.mv_type_rules.specs.Sound.{types_before};
 ghost use Rattle.mv_type_rules.specs.TypesHold.{TypesHold, point_at};
-ghost use Rattle.mv_borrow_graph.specs.Domain.{is_low, edges_step, places_reference};
+ghost use Rattle.mv_borrow_graph.specs.Domain.{is_low, edges_step};
 
 use super::site::{Site, leaves_edges};
 use mv_binary_format::FunctionDefinition;
@@ -14,7 +13,7 @@ use mv_bound_rules::Bounded;
 use mv_lattice::{Domain, StepError};
 use mv_move_types::{Instruction, Node, Token};
 use mv_type_rules::{StackTypes, Typed};
-use mv_ways::{Borrows, Graph};
+use mv_ways::Borrows;
 use std::alloc::{AllocError, Global};
 use std::marker::Model;
 
@@ -133,15 +132,13 @@ impl<'t, 'm> BorrowDomain<'t, 'm> {
         }
     }
 
-    /// Changes the edges as the instruction at a place does. `Memory` is answered only if no need fails and the instruction puts a
-    /// reference where none stood.
-    #[tactic(auto, using(crate::proofs::Stacks::step_ok, crate::proofs::Stacks::step_need, crate::proofs::Stacks::step_meets, crate::proofs::Stacks::step_memory, crate::proofs::Stacks::step_unknown))]
-    fn change(&self, alloc: Global, s: &mut Graph, at: usize) -> Result<(), StepError>
-        requires { IsTrue (are_ascending s.old) }
-        ensures ok { OnOk result (edges_step self.now.home self.now.function at s.old ≡ Option.Some s.new) }
-        ensures need { IsErrOf result StepError.Need → edges_step self.now.home self.now.function at s.old ≡ Option.None }
-        ensures meets { IsErrOf result StepError.Memory → IsSome (edges_step self.now.home self.now.function at s.old) }
-        ensures memory { IsErrOf result StepError.Memory → IsTrue (option_map_or (places_reference self.now.home self.now.function) (slice_get self.now.function.code at) false) }
+    /// What the instruction at a place makes of the edges. `Memory` is answered only if no need fails.
+    #[tactic(auto, using(crate::proofs::Stacks::step_ok, crate::proofs::Stacks::step_need, crate::proofs::Stacks::step_meets, crate::proofs::Stacks::step_unknown))]
+    fn changed(&self, alloc: Global, s: Borrows<'t>, at: usize) -> Result<Borrows<'t>, StepError>
+        requires { IsTrue (are_ascending s) }
+        ensures ok { IfOk result (λ t. edges_step self.now.home self.now.function at s.entry ≡ Option.Some t) }
+        ensures need { IsErrOf result StepError.Need → edges_step self.now.home self.now.function at s.entry ≡ Option.None }
+        ensures meets { IsErrOf result StepError.Memory → IsSome (edges_step self.now.home self.now.function at s.entry) }
     {
         let Some(instruction) = self.instruction(at) else {
             return Err(StepError::Need);
@@ -188,16 +185,13 @@ impl<'t, 'm> Domain for BorrowDomain<'t, 'm> {
         Borrows::join(alloc, a, b)
     }
 
-    /// An instruction that leaves all edges, or no edges where there are none, gives back what it got. Another one changes a graph,
-    /// which is made of a list and then goes on from step to step.
+    /// An instruction that needs nothing and leaves all edges, or no edges where there are none, gives back what it got at once.
     #[inline(always)]
     fn step(&self, alloc: Global, s: Borrows<'t>, at: usize) -> Result<Borrows<'t>, StepError> {
         if self.leaves_edges(at) || s.are_plainly_none() && self.leaves_none(at) {
             return Ok(s);
         }
-        let mut graph = s.grown(alloc)?;
-        self.change(alloc, &mut graph, at)?;
-        Ok(Borrows::of_graph(graph))
+        self.changed(alloc, s, at)
     }
 
     fn fits(&self, s: &Borrows<'t>) -> bool {

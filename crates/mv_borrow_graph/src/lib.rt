@@ -17,7 +17,6 @@
 //! ```
 #![tactic(auto)]
 
-mod changes;
 mod domain;
 mod needed;
 mod nodes;

@@ -8,7 +8,7 @@ ghost use Rattle.mv_borrow_graph.specs.Calls.{AreMarks, is_marked, needed_free};
 
 use crate::nodes::is_mutable_reference;
 use mv_move_types::{Node, Token};
-use mv_ways::{All, Graph, NodeSet};
+use mv_ways::{All, Borrows, NodeSet};
 use std::marker::Model;
 
 /// How many acquired globals are looked through one by one. Where there are more, each global is looked up among marks.
@@ -67,7 +67,7 @@ impl<'a> NeededFree<'a> {
 
     /// Whether no edge leads out of any of them.
     #[tactic(auto, using(crate::proofs::Free::free_of_none))]
-    fn are_free(&self, s: &Graph) -> bool
+    fn are_free(&self, s: &Borrows<'_>) -> bool
         ensures { result ≡ list_all (λ n. no_edge_out n s.now) self.now }
     {
         self.is_empty() || !s.any_between(self, None, &All)
@@ -145,7 +145,7 @@ fn mark_all(marks: &mut [bool], acquired: &[u16])
 }
 
 /// Whether no edge leads out of the mutable ones of these arguments, or of any of many globals.
-fn are_free_of_many(place: usize, parameters: &[Token], acquired: &[u16], s: &Graph) -> bool
+fn are_free_of_many(place: usize, parameters: &[Token], acquired: &[u16], s: &Borrows<'_>) -> bool
     ensures { result ≡ list_all (λ n. no_edge_out n s.now) (needed_free place parameters.now acquired.now) }
 {
     let mut marks = [false; MARKED_GLOBALS];
@@ -160,7 +160,7 @@ fn are_free_of_many(place: usize, parameters: &[Token], acquired: &[u16], s: &Gr
 }
 
 /// The same of a few.
-fn are_free_of_few(place: usize, parameters: &[Token], acquired: &[u16], s: &Graph) -> bool
+fn are_free_of_few(place: usize, parameters: &[Token], acquired: &[u16], s: &Borrows<'_>) -> bool
     ensures { result ≡ list_all (λ n. no_edge_out n s.now) (needed_free place parameters.now acquired.now) }
 {
     let needed = NeededFree {
@@ -174,9 +174,8 @@ fn are_free_of_few(place: usize, parameters: &[Token], acquired: &[u16], s: &Gra
 
 /// Whether no edge leads out of the mutable ones of a call's arguments, which stand on the stack from a place on, or of the globals that
 /// the function acquires.
-pub fn are_free(place: usize, parameters: &[Token], acquired: &[u16], s: &Graph) -> bool
-    ensures { result ≡ (list_all (λ n. no_edge_out n s.now) (reference_nodes is_mutable_token place parameters.now)
-        && list_all (λ t. no_edge_out (Glob t) s.now) acquired.now) }
+pub fn are_free(place: usize, parameters: &[Token], acquired: &[u16], s: &Borrows<'_>) -> bool
+    ensures { result ≡ list_all (λ n. no_edge_out n s.now) (needed_free place parameters.now acquired.now) }
 {
     if acquired.len() <= FEW_GLOBALS {
         are_free_of_few(place, parameters, acquired, s)

@@ -5,7 +5,7 @@ ghost use Rattle.mv_certificate_rules.specs.BorrowRules.{is_mutable_token, is_re
 ghost use Rattle.mv_borrow_graph.specs.Domain.{is_picked};
 
 use mv_move_types::{Node, Token};
-use mv_ways::Graph;
+use mv_ways::{All, Borrows, One};
 use std::alloc::{AllocError, Global};
 
 /// Whether a type is a mutable reference.
@@ -66,10 +66,11 @@ pub fn is_root(node: Node) -> bool
 }
 
 /// Whether no edge leads out of a node.
-pub fn is_free(node: Node, s: &Graph) -> bool
+#[tactic(auto, using(crate::proofs::Free::free_of_one))]
+pub fn is_free(node: Node, s: &Borrows<'_>) -> bool
     ensures { result ≡ no_edge_out node s.now }
 {
-    !s.has_out_of(node)
+    !s.any_between(&One(node), None, &All)
 }
 
 /// Whether a type is a reference, or a mutable one where only those are asked for.

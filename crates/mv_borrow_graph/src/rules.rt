@@ -1,6 +1,5 @@
-// What the instructions do to the edges, by families.
+// What the instructions need of the edges, and what they do to them, by families.
 
 pub mod calls;
-pub mod globals;
 pub mod locals;
 pub mod references;

@@ -1,22 +1,20 @@
 // Where an instruction stands in its function, and what it does to the edges.
-ghost use Rattle.std.specs.Prelude.{◌≡◌, ◌-◌, List, [], length, reverse, slice_get, Some, Err, IsTrue};
-ghost use Rattle.std.specs.List.{list_any};
+ghost use Rattle.std.specs.Prelude.{◌≡◌, ◌-◌, List, [], length, reverse, slice_get, Some, None, is_some, IfOk, IsErr, IsErrOf, IsSome, IsTrue, OnOk};
 ghost use Rattle.mv_move_types.specs.declared.borrow.Node.TheVariants.{Temp};
 ghost use Rattle.mv_move_types.specs.Module.{local_type as type_of_local};
 ghost use Rattle.mv_type_rules.specs.TypesHold.{Point};
-ghost use Rattle.mv_edges.specs.Edges.{Edge as EdgeRecord, out_of};
+ghost use Rattle.mv_edges.specs.Edges.{Edge as EdgeRecord};
 ghost use Rattle.mv_edges.specs.Ascending.{are_ascending};
 ghost use Rattle.mv_certificate_rules.specs.BorrowRules.{edges_after, is_mutable, next_temp, top_temp, no_mutable_from};
-ghost use Rattle.mv_borrow_graph.specs.Domain.{Follows, ordered, places_reference};
+ghost use Rattle.mv_borrow_graph.specs.Domain.{ordered, places_reference, LeavesEdges};
 
-use crate::changes::{keep, release};
 use crate::nodes::{among, is_free, is_mutable_reference, token_at};
 use mv_binary_format::FunctionDefinition;
 use mv_bound_rules::Bounded;
 use mv_lattice::StepError;
 use mv_move_types::{Instruction, Node, Token};
-use mv_ways::{Graph, NodeSet, One};
-use std::alloc::Global;
+use mv_ways::{All, Borrows, Graph, NodeSet, One};
+use std::alloc::{AllocError, Global};
 use std::marker::Model;
 
 /// Whether an instruction leaves all edges as they are wherever it stands, and needs nothing of them.
@@ -144,18 +142,11 @@ impl<'d, 'm> Site<'d, 'm> {
         Node::Temp(self.stack.len().saturating_sub(2) as u16)
     }
 
-    /// Whether an edge leads from a node to a mutable reference.
-    fn leads_to_mutable(&self, from: Node, s: &Graph) -> bool
-        ensures { result ≡ list_any (λ e. is_mutable self.now e.to) (out_of from s.now) }
-    {
-        s.any_between(&One(from), None, &MutableAt { site: self })
-    }
-
     /// Whether no edge leads from a node to a mutable reference, so that what it stands for may be read.
-    pub fn is_readable(&self, node: Node, s: &Graph) -> bool
+    pub fn is_readable(&self, node: Node, s: &Borrows<'_>) -> bool
         ensures { result ≡ no_mutable_from self.now node s.now }
     {
-        !self.leads_to_mutable(node, s)
+        !s.any_between(&One(node), None, &MutableAt { site: self })
     }
 
     /// Whether an instruction here needs nothing and leaves no edges, where there are none.
@@ -184,49 +175,113 @@ impl<'d, 'm> Site<'d, 'm> {
         }
     }
 
-    /// Changes the edges as an instruction here does.
+    /// Whether an instruction here finds what it needs.
+    #[tactic(auto, using(crate::proofs::Rows::met_if), unfolding(mv_certificate_rules::specs::BorrowRules::edges_after))]
+    fn is_met(&self, instruction: &Instruction, s: &Borrows<'_>) -> bool
+        ensures { result ≡ is_some (edges_after self.now instruction.now s.now) }
+    {
+        match instruction {
+            Instruction::Ret => self.may_return(s),
+            Instruction::Call(callee) => self.may_call(*callee, s),
+            Instruction::CopyLoc(local) => self.may_copy(*local, s),
+            Instruction::MoveLoc(local) | Instruction::StLoc(local) => self.may_move(*local, s),
+            Instruction::MutBorrowLoc(local) => is_free(Node::Own(*local), s),
+            Instruction::ImmBorrowLoc(local) => self.is_readable(Node::Own(*local), s),
+            Instruction::MutBorrowField(field) => self.is_field_free(*field, &All, s),
+            Instruction::ImmBorrowField(field) => {
+                self.is_field_free(*field, &MutableAt { site: self }, s)
+            }
+            Instruction::ReadRef | Instruction::FreezeRef => self.is_readable(self.top(), s),
+            Instruction::WriteRef => is_free(self.top(), s),
+            Instruction::MutBorrowGlobal(definition) | Instruction::MoveFrom(definition) => {
+                is_free(Node::Glob(*definition), s)
+            }
+            Instruction::ImmBorrowGlobal(definition) => {
+                self.is_readable(Node::Glob(*definition), s)
+            }
+            _ => true,
+        }
+    }
+
+    /// Whether an instruction here leaves the edges as they are, if it finds what it needs.
+    #[tactic(auto, using(crate::proofs::Rows::kept_if), unfolding(mv_certificate_rules::specs::BorrowRules::edges_after))]
+    fn leaves(&self, instruction: &Instruction) -> bool
+        ensures { IsTrue result → LeavesEdges self.now instruction.now }
+    {
+        match instruction {
+            Instruction::Ret | Instruction::MoveFrom(_) => true,
+            Instruction::CopyLoc(local) | Instruction::MoveLoc(local) | Instruction::StLoc(local) =>
+                self.is_value(*local),
+            _ => false,
+        }
+    }
+
+    /// Changes the edges as an instruction here does that finds what it needs.
     ///
     /// # Errors
-    /// `Need` if a need of the instruction fails. Otherwise `Memory` if an allocation failed; an instruction that doesn't put a
-    /// reference where none stood allocates nothing. In either case nothing is known of the edges afterwards.
-    #[tactic(auto, using(crate::proofs::Rows::kept_order), unfolding(mv_certificate_rules::specs::BorrowRules::edges_after))]
-    pub fn step(
+    /// An allocation failed; an instruction that doesn't put a reference where none stood allocates nothing. Nothing is known of the
+    /// edges afterwards.
+    #[tactic(auto, using(crate::proofs::Rows::kept_order, crate::proofs::Rows::left_if, crate::proofs::Rows::ok_if), unfolding(mv_certificate_rules::specs::BorrowRules::edges_after))]
+    fn change(
         &self,
         alloc: Global,
         instruction: Instruction,
         s: &mut Graph,
-    ) -> Result<(), StepError>
-        requires { IsTrue (are_ascending s.old) }
-        ensures after { Follows result s.new (ordered (edges_after self.now instruction s.old)) }
-        ensures memory { result ≡ Err StepError.Memory → IsTrue (places_reference self.now.home self.now.function instruction) }
+    ) -> Result<(), AllocError>
+        requires ascending { IsTrue (are_ascending s.old) }
+        requires met { IsSome (edges_after self.now instruction s.old) }
+        ensures after { OnOk result (ordered (edges_after self.now instruction s.old) ≡ Some s.new) }
+        ensures memory { IsErr result → IsTrue (places_reference self.now.home self.now.function instruction) }
     {
         match instruction {
-            Instruction::Pop => {
-                s.remove_at(self.top());
-                Ok(())
+            Instruction::Call(callee) => return self.call(alloc, callee, s),
+            Instruction::CopyLoc(local) => return self.copy_local(local, s),
+            Instruction::MutBorrowLoc(local) | Instruction::ImmBorrowLoc(local) => {
+                return s.lend(Node::Own(local), self.next());
             }
-            Instruction::Ret => self.hand_out(s),
-            Instruction::Call(callee) => self.call(alloc, callee, s),
-            Instruction::CopyLoc(local) => self.copy_local(local, s),
+            Instruction::MutBorrowField(field) | Instruction::ImmBorrowField(field) => {
+                return self.borrow_field(alloc, field, s);
+            }
+            Instruction::MutBorrowGlobal(definition) | Instruction::ImmBorrowGlobal(definition) => {
+                return s.lend(Node::Glob(definition), self.top());
+            }
             Instruction::MoveLoc(local) => self.move_local(local, s),
             Instruction::StLoc(local) => self.store_local(local, s),
-            Instruction::MutBorrowLoc(local) => self.borrow_local_mutably(local, s),
-            Instruction::ImmBorrowLoc(local) => self.borrow_local(local, s),
-            Instruction::MutBorrowField(field) => self.borrow_field_mutably(alloc, field, s),
-            Instruction::ImmBorrowField(field) => self.borrow_field(alloc, field, s),
-            Instruction::ReadRef => release(self.is_readable(self.top(), s), self.top(), s),
-            Instruction::WriteRef => release(is_free(self.top(), s), self.top(), s),
-            Instruction::FreezeRef => self.freeze(s),
-            Instruction::MutBorrowGlobal(definition) => {
-                self.borrow_global_mutably(definition, s)
+            Instruction::Pop | Instruction::ReadRef | Instruction::WriteRef => {
+                s.remove_at(self.top());
             }
-            Instruction::ImmBorrowGlobal(definition) => self.borrow_global(definition, s),
-            Instruction::MoveFrom(definition) => keep(is_free(Node::Glob(definition), s), s),
-            Instruction::MoveTo(_) => {
-                s.remove_at(self.second());
-                Ok(())
-            }
-            _ => Ok(()),
+            Instruction::FreezeRef => s.remove_out_of(self.top()),
+            Instruction::MoveTo(_) => s.remove_at(self.second()),
+            _ => {}
         }
+        Ok(())
+    }
+
+    /// What an instruction here makes of the edges. Only one that changes them makes a graph of a list, which then goes on from step
+    /// to step.
+    ///
+    /// # Errors
+    /// `Need` if a need of the instruction fails; otherwise `Memory` if an allocation failed.
+    #[tactic(auto, using(crate::proofs::Rows::ordered_met))]
+    pub fn step<'s>(
+        &self,
+        alloc: Global,
+        instruction: Instruction,
+        s: Borrows<'s>,
+    ) -> Result<Borrows<'s>, StepError>
+        requires { IsTrue (are_ascending s) }
+        ensures ok { IfOk result (λ t. ordered (edges_after self.now instruction s.entry) ≡ Some t) }
+        ensures need { IsErrOf result StepError.Need → ordered (edges_after self.now instruction s.entry) ≡ None }
+        ensures meets { IsErrOf result StepError.Memory → IsSome (ordered (edges_after self.now instruction s.entry)) }
+    {
+        if !self.is_met(&instruction, &s) {
+            return Err(StepError::Need);
+        }
+        if self.leaves(&instruction) {
+            return Ok(s);
+        }
+        let mut graph = s.grown(alloc)?;
+        self.change(alloc, instruction, &mut graph)?;
+        Ok(Borrows::of_graph(graph))
     }
 }

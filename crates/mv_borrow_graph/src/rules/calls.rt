@@ -1,25 +1,19 @@
 // Calls and returns.
-ghost use Rattle.std.specs.Prelude.{◌≡◌, List, ◌+◌, ◌++◌, ◌∷◌, [], ◌≤◌, ◌^◌, ◌&&◌, ◌||◌, ◌-◌, length, slice_get, option_map, Some, Err, IfOk, IfSome, OnOk, IsTrue};
-ghost use Rattle.std.specs.Bool.{then_some};
-ghost use Rattle.std.specs.List.{list_all, list_any};
+ghost use Rattle.std.specs.Prelude.{◌≡◌, List, ◌+◌, ◌++◌, ◌∷◌, [], ◌≤◌, ◌^◌, ◌&&◌, ◌||◌, ◌-◌, length, slice_get, option_map, Some, None, is_some, IfOk, IfNone, IfSome, IsSome, OnOk, IsTrue};
+ghost use Rattle.std.specs.List.{list_any};
 ghost use Rattle.mv_move_types.specs.Limits.{most_operands, most_types};
-ghost use Rattle.mv_move_types.specs.declared.borrow.Node.TheVariants.{Glob, Temp};
-ghost use Rattle.mv_edges.specs.Edges.{Edge as EdgeRecord, without_each};
-ghost use Rattle.mv_ways.specs.Graph.{taken_over};
-ghost use Rattle.mv_move_types.specs.Module.{own_acquires};
-ghost use Rattle.mv_edges.specs.Ascending.{are_ascending};
+ghost use Rattle.mv_edges.specs.Edges.{Edge as EdgeRecord};
 ghost use Rattle.mv_edges.specs.Sorted.{sorted};
-ghost use Rattle.mv_certificate_rules.specs.BorrowRules.{call_edges, is_mutable, is_mutable_token, is_reference_token, is_root_node, is_temp, no_edge_out};
-ghost use Rattle.mv_certificate_rules.specs.BorrowRules.{reference_nodes, result_edges, return_edges};
-ghost use Rattle.mv_borrow_graph.specs.Domain.{Follows, ordered};
+ghost use Rattle.mv_ways.specs.Graph.{taken_over};
+ghost use Rattle.mv_certificate_rules.specs.BorrowRules.{call_edges, is_mutable, is_root_node, is_temp, result_edges, return_edges};
+ghost use Rattle.mv_borrow_graph.specs.Calls.{call_after, tied_edges};
+ghost use Rattle.mv_borrow_graph.specs.Domain.{ordered};
 
-use crate::changes::keep;
 use crate::needed::are_free;
 use crate::nodes::{is_operand, is_root, nodes_of};
 use crate::site::Site;
-use mv_lattice::StepError;
 use mv_move_types::{FunctionHandle, Node, Token};
-use mv_ways::{Graph, Heir, NodeSet};
+use mv_ways::{Borrows, Graph, Heir, NodeSet};
 use std::alloc::{AllocError, Global};
 use std::marker::Model;
 
@@ -60,43 +54,24 @@ fn heirs_of<'a>(
     Ok(heirs)
 }
 
-/// Ties a call's results to its arguments, which are taken.
-fn tie(
-    alloc: Global,
-    mutable: &[Node],
-    all: &[Node],
+/// A call: the place of its first argument on the stack, and the types of its arguments and results.
+#[derive(Drop)]
+struct Call<'a> {
     place: usize,
-    results: &[Token],
-    s: &mut Graph,
-) -> Result<(), AllocError>
-    requires { place + length results.now ≤ 2 ^ 16 }
-    ensures { OnOk result (s.new ≡ sorted (without_each all.now s.old ++ result_edges mutable.now all.now place results.now s.old)) }
-{
-    let heirs = heirs_of(alloc, mutable, all, place, results)?;
-    s.tie(alloc, all, &heirs)
+    parameters: &'a [Token],
+    results: &'a [Token],
 }
 
-/// Ties the results to the arguments, whose types are given, where a need holds.
-fn tie_if(
-    alloc: Global,
-    holds: bool,
-    place: usize,
-    parameters: &[Token],
-    results: &[Token],
-    s: &mut Graph,
-) -> Result<(), StepError>
-    requires taken { place + length parameters.now ≤ 2 ^ 16 }
-    requires given { place + length results.now ≤ 2 ^ 16 }
-    ensures { let mutable = reference_nodes is_mutable_token place parameters.now in
-        let all = reference_nodes is_reference_token place parameters.now in
-        Follows result s.new (ordered (then_some holds (without_each all s.old ++ result_edges mutable all place results.now s.old))) }
+/// Ties a call's results to its arguments, which are taken.
+fn tie(alloc: Global, call: &Call<'_>, s: &mut Graph) -> Result<(), AllocError>
+    requires taken { call.now.place + length call.now.parameters.now ≤ 2 ^ 16 }
+    requires given { call.now.place + length call.now.results.now ≤ 2 ^ 16 }
+    ensures { OnOk result (s.new ≡ sorted (tied_edges call.now.place call.now.parameters.now call.now.results.now s.old)) }
 {
-    if !holds {
-        return Err(StepError::Need);
-    }
-    let mutable = nodes_of(alloc, true, place, parameters)?;
-    let all = nodes_of(alloc, false, place, parameters)?;
-    Ok(tie(alloc, &mutable, &all, place, results, s)?)
+    let mutable = nodes_of(alloc, true, call.place, call.parameters)?;
+    let all = nodes_of(alloc, false, call.place, call.parameters)?;
+    let heirs = heirs_of(alloc, &mutable, &all, call.place, call.results)?;
+    s.tie(alloc, &all, &heirs)
 }
 
 /// The operands.
@@ -163,62 +138,71 @@ impl<'d, 'm> Site<'d, 'm> {
         self.stack.len().saturating_sub(count)
     }
 
-    /// Whether no edge leads out of a call's mutable arguments, or of the globals that the function acquires.
-    fn may_call(&self, place: usize, parameters: &[Token], callee: u16, s: &Graph) -> bool
-        requires { place + length parameters.now ≤ 2 ^ 16 }
-        ensures { result ≡ (list_all (λ n. no_edge_out n s.now) (reference_nodes is_mutable_token place parameters.now)
-            && list_all (λ t. no_edge_out (Glob t) s.now) (own_acquires self.now.home callee)) }
+    /// The call of a function, if its handle and its signatures are there.
+    #[tactic(auto, using(crate::proofs::Rows::called))]
+    fn call_of(&self, callee: u16) -> Option<Call<'_>>
+        ensures edges { IfSome result (λ c. (s : List EdgeRecord) → call_edges self.now callee s ≡ call_after self.now callee c.place c.parameters.now c.results.now s) }
+        ensures none { IfNone result ((s : List EdgeRecord) → call_edges self.now callee s ≡ None) }
+        ensures taken { IfSome result (λ c. c.place + length c.parameters.now ≤ 2 ^ 16) }
+        ensures given { IfSome result (λ c. c.place + length c.results.now ≤ 2 ^ 16) }
     {
-        let acquired = self.module.own_acquires(callee);
-        are_free(place, parameters, acquired, s)
+        let handle = self.function_handle(callee)?;
+        let parameters = self.signature(handle.parameters)?;
+        let results = self.signature(handle.results)?;
+        Some(Call {
+            place: self.first_of(parameters.len()),
+            parameters,
+            results,
+        })
     }
 
-    /// Calls a function: its mutable arguments and the globals that it acquires have to be free.
-    pub fn call(&self, alloc: Global, callee: u16, s: &mut Graph) -> Result<(), StepError>
-        ensures { Follows result s.new (ordered (call_edges self.now callee s.old)) }
+    /// Whether a function may be called: its mutable arguments and the globals that it acquires have to be free.
+    #[tactic(auto, using(crate::proofs::Rows::met_if))]
+    pub fn may_call(&self, callee: u16, s: &Borrows<'_>) -> bool
+        ensures { result ≡ is_some (call_edges self.now callee s.now) }
     {
-        let Some(handle) = self.function_handle(callee) else {
-            return Err(StepError::Need);
-        };
-        let Some(parameters) = self.signature(handle.parameters) else {
-            return Err(StepError::Need);
-        };
-        let Some(results) = self.signature(handle.results) else {
-            return Err(StepError::Need);
-        };
-        let place = self.first_of(parameters.len());
-        let holds = self.may_call(place, parameters, callee, s);
-        tie_if(alloc, holds, place, parameters, results, s)
+        match self.call_of(callee) {
+            Some(call) => {
+                let acquired = self.module.own_acquires(callee);
+                are_free(call.place, call.parameters, acquired, s)
+            }
+            None => false,
+        }
+    }
+
+    /// Calls a function.
+    #[tactic(auto, using(crate::proofs::Rows::ok_if))]
+    pub fn call(&self, alloc: Global, callee: u16, s: &mut Graph) -> Result<(), AllocError>
+        requires { IsSome (call_edges self.now callee s.old) }
+        ensures { OnOk result (ordered (call_edges self.now callee s.old) ≡ Some s.new) }
+    {
+        match self.call_of(callee) {
+            Some(call) => tie(alloc, &call, s),
+            None => Ok(()),
+        }
     }
 
     /// Whether a call needs nothing and leaves no edges where there are none: the function's handle and its signatures are there.
     pub fn call_leaves_none(&self, callee: u16) -> bool
         ensures { IsTrue result → call_edges self.now callee [] ≡ Some [] }
     {
-        match self.function_handle(callee) {
-            Some(handle) => {
-                self.signature(handle.parameters).is_some()
-                    && self.signature(handle.results).is_some()
-            }
-            None => false,
-        }
+        self.call_of(callee).is_some()
     }
 
     /// Whether an edge keeps a result from being handed out: it leads to it from what the frame or the storage holds, or
     /// from a mutable result.
     #[tactic(auto, using(crate::proofs::Between::to_results))]
-    fn any_holds_result(&self, s: &Graph) -> bool
+    fn any_holds_result(&self, s: &Borrows<'_>) -> bool
         ensures { result ≡ list_any (λ e. is_temp e.to && (is_root_node e.from || is_temp e.from && is_mutable self.now e.from)) s.now }
     {
         s.any_between(&HoldingAt { site: self }, None, &Operands)
     }
 
-    /// Hands out the results, into which nothing of the frame may lead.
-    pub fn hand_out(&self, s: &Graph) -> Result<(), StepError>
-        requires { IsTrue (are_ascending s.now) }
-        ensures after { Follows result s.now (ordered (return_edges self.now s.now)) }
-        ensures memory { ¬ (result ≡ Err StepError.Memory) }
+    /// Whether the results may be handed out: nothing of the frame leads into one.
+    #[tactic(auto, using(crate::proofs::Rows::met_if))]
+    pub fn may_return(&self, s: &Borrows<'_>) -> bool
+        ensures { result ≡ is_some (return_edges self.now s.now) }
     {
-        keep(!self.any_holds_result(s), s)
+        !self.any_holds_result(s)
     }
 }

@@ -1,49 +1,70 @@
-// Locals: copied, moved, stored and borrowed.
-ghost use Rattle.std.specs.Prelude.{◌≡◌, [], ◌++◌, Some, Err, OnOk, IsTrue};
-ghost use Rattle.mv_edges.specs.Edges.{inherited};
-ghost use Rattle.mv_edges.specs.Sorted.{sorted};
+// Locals: copied, moved and stored.
+ghost use Rattle.std.specs.Prelude.{◌≡◌, [], Some, is_some, IsErr, IsSome, OnOk, IsTrue};
 ghost use Rattle.mv_edges.specs.Ascending.{are_ascending};
-ghost use Rattle.mv_certificate_rules.specs.BorrowRules.{edges_after, next_temp};
-ghost use Rattle.mv_borrow_graph.specs.Domain.{Follows, ordered, places_reference};
+ghost use Rattle.mv_certificate_rules.specs.BorrowRules.{edges_after};
+ghost use Rattle.mv_borrow_graph.specs.Domain.{ordered, places_reference, LeavesEdges};
 
-use crate::changes::{keep, lend};
 use crate::nodes::{is_free, is_mutable_reference};
 use crate::site::Site;
-use mv_lattice::StepError;
 use mv_move_types::{Instruction, Node, Token};
-use mv_ways::Graph;
+use mv_ways::{Borrows, Graph};
 use std::alloc::AllocError;
 
 impl<'d, 'm> Site<'d, 'm> {
-    /// Adds the edges that lead into a reference, for a copy of it.
-    fn add_copy(&self, slot: Node, s: &mut Graph) -> Result<(), AllocError>
-        ensures { OnOk result (s.new ≡ sorted (s.old ++ inherited (λ label. label) slot (next_temp self.now) s.old)) }
+    /// Whether a local may be copied: from a value no edge may lead to a mutable reference, and out of a mutable reference none.
+    #[tactic(auto, using(crate::proofs::Rows::met_if), unfolding(mv_certificate_rules::specs::BorrowRules::edges_after))]
+    pub fn may_copy(&self, local: u16, s: &Borrows<'_>) -> bool
+        ensures { result ≡ is_some (edges_after self.now (Instruction.CopyLoc local) s.now) }
     {
-        s.share(slot, self.next())
+        match self.local(local) {
+            Some(Token::Plain(_)) => self.is_readable(Node::Own(local), s),
+            Some(Token::Reference(_)) => true,
+            Some(Token::MutableReference(_)) => is_free(Node::Slot(local), s),
+            None => false,
+        }
+    }
+
+    /// Whether a local may be moved, or stored into: if it is a value, no edge may lead out of it.
+    #[tactic(auto, using(crate::proofs::Rows::met_if), unfolding(mv_certificate_rules::specs::BorrowRules::edges_after))]
+    pub fn may_move(&self, local: u16, s: &Borrows<'_>) -> bool
+        ensures moved { result ≡ is_some (edges_after self.now (Instruction.MoveLoc local) s.now) }
+        ensures stored { result ≡ is_some (edges_after self.now (Instruction.StLoc local) s.now) }
+    {
+        match self.local(local) {
+            Some(Token::Plain(_)) => is_free(Node::Own(local), s),
+            Some(Token::Reference(_) | Token::MutableReference(_)) => true,
+            None => false,
+        }
+    }
+
+    /// Whether a local is a value, so that its copy, its move and its store leave the edges as they are, if they may be.
+    #[tactic(auto, using(crate::proofs::Rows::kept_if), unfolding(mv_certificate_rules::specs::BorrowRules::edges_after))]
+    pub fn is_value(&self, local: u16) -> bool
+        ensures copied { IsTrue result → LeavesEdges self.now (Instruction.CopyLoc local) }
+        ensures moved { IsTrue result → LeavesEdges self.now (Instruction.MoveLoc local) }
+        ensures stored { IsTrue result → LeavesEdges self.now (Instruction.StLoc local) }
+    {
+        matches!(self.local(local), Some(Token::Plain(_)))
     }
 
     /// Copies a local: the new reference has the edges of its original, and a mutable one is also its child. A value takes no
     /// memory.
-    #[tactic(auto, unfolding(mv_certificate_rules::specs::BorrowRules::edges_after))]
-    pub fn copy_local(&self, local: u16, s: &mut Graph) -> Result<(), StepError>
-        requires { IsTrue (are_ascending s.old) }
-        ensures after { Follows result s.new (ordered (edges_after self.now (Instruction.CopyLoc local) s.old)) }
-        ensures memory { result ≡ Err StepError.Memory → IsTrue (places_reference self.now.home self.now.function (Instruction.CopyLoc local)) }
+    #[tactic(auto, using(crate::proofs::Rows::kept_order, crate::proofs::Rows::left_if), unfolding(mv_certificate_rules::specs::BorrowRules::edges_after))]
+    pub fn copy_local(&self, local: u16, s: &mut Graph) -> Result<(), AllocError>
+        requires ascending { IsTrue (are_ascending s.old) }
+        requires met { IsSome (edges_after self.now (Instruction.CopyLoc local) s.old) }
+        ensures after { OnOk result (ordered (edges_after self.now (Instruction.CopyLoc local) s.old) ≡ Some s.new) }
+        ensures memory { IsErr result → IsTrue (places_reference self.now.home self.now.function (Instruction.CopyLoc local)) }
     {
-        let Some(token) = self.local(local) else {
-            return Err(StepError::Need);
-        };
         let slot = Node::Slot(local);
-        match token {
-            Token::Plain(_) => keep(self.is_readable(Node::Own(local), s), s),
-            Token::Reference(_) => Ok(self.add_copy(slot, s)?),
-            Token::MutableReference(_) => {
-                if !is_free(slot, s) {
-                    return Err(StepError::Need);
-                }
-                self.add_copy(slot, s)?;
-                lend(true, slot, self.next(), s)
+        let next = self.next();
+        match self.local(local) {
+            Some(Token::Reference(_)) => s.share(slot, next),
+            Some(Token::MutableReference(_)) => {
+                s.share(slot, next)?;
+                s.lend(slot, next)
             }
+            _ => Ok(()),
         }
     }
 
@@ -67,60 +88,28 @@ impl<'d, 'm> Site<'d, 'm> {
         self.local(local).is_some()
     }
 
-    /// Moves a local: a reference takes its edges along, and a value, which takes no memory, may have none.
-    #[tactic(auto, unfolding(mv_certificate_rules::specs::BorrowRules::edges_after))]
-    pub fn move_local(&self, local: u16, s: &mut Graph) -> Result<(), StepError>
-        requires { IsTrue (are_ascending s.old) }
-        ensures after { Follows result s.new (ordered (edges_after self.now (Instruction.MoveLoc local) s.old)) }
-        ensures memory { result ≡ Err StepError.Memory → IsTrue (places_reference self.now.home self.now.function (Instruction.MoveLoc local)) }
+    /// Moves a local: a reference takes its edges along.
+    #[tactic(auto, using(crate::proofs::Rows::kept_order, crate::proofs::Rows::left_if), unfolding(mv_certificate_rules::specs::BorrowRules::edges_after))]
+    pub fn move_local(&self, local: u16, s: &mut Graph)
+        requires ascending { IsTrue (are_ascending s.old) }
+        requires met { IsSome (edges_after self.now (Instruction.MoveLoc local) s.old) }
+        ensures { ordered (edges_after self.now (Instruction.MoveLoc local) s.old) ≡ Some s.new }
     {
-        let Some(token) = self.local(local) else {
-            return Err(StepError::Need);
-        };
-        match token {
-            Token::Plain(_) => keep(is_free(Node::Own(local), s), s),
-            Token::Reference(_) | Token::MutableReference(_) => {
-                s.rename(Node::Slot(local), self.next());
-                Ok(())
-            }
+        if let Some(Token::Reference(_) | Token::MutableReference(_)) = self.local(local) {
+            s.rename(Node::Slot(local), self.next());
         }
     }
 
-    /// Stores into a local: a reference takes its edges along, and an overwritten value, which takes no memory, may have none.
-    #[tactic(auto, unfolding(mv_certificate_rules::specs::BorrowRules::edges_after))]
-    pub fn store_local(&self, local: u16, s: &mut Graph) -> Result<(), StepError>
-        requires { IsTrue (are_ascending s.old) }
-        ensures after { Follows result s.new (ordered (edges_after self.now (Instruction.StLoc local) s.old)) }
-        ensures memory { result ≡ Err StepError.Memory → IsTrue (places_reference self.now.home self.now.function (Instruction.StLoc local)) }
+    /// Stores into a local: a reference takes its edges along.
+    #[tactic(auto, using(crate::proofs::Rows::kept_order, crate::proofs::Rows::left_if), unfolding(mv_certificate_rules::specs::BorrowRules::edges_after))]
+    pub fn store_local(&self, local: u16, s: &mut Graph)
+        requires ascending { IsTrue (are_ascending s.old) }
+        requires met { IsSome (edges_after self.now (Instruction.StLoc local) s.old) }
+        ensures { ordered (edges_after self.now (Instruction.StLoc local) s.old) ≡ Some s.new }
     {
-        let Some(token) = self.local(local) else {
-            return Err(StepError::Need);
-        };
-        match token {
-            Token::Plain(_) => keep(is_free(Node::Own(local), s), s),
-            Token::Reference(_) | Token::MutableReference(_) => {
-                s.remove_at(Node::Slot(local));
-                s.rename(self.top(), Node::Slot(local));
-                Ok(())
-            }
+        if let Some(Token::Reference(_) | Token::MutableReference(_)) = self.local(local) {
+            s.remove_at(Node::Slot(local));
+            s.rename(self.top(), Node::Slot(local));
         }
-    }
-
-    /// Borrows a local mutably: no edge may lead out of its value.
-    #[tactic(auto, unfolding(mv_certificate_rules::specs::BorrowRules::edges_after))]
-    pub fn borrow_local_mutably(&self, local: u16, s: &mut Graph) -> Result<(), StepError>
-        ensures { Follows result s.new (ordered (edges_after self.now (Instruction.MutBorrowLoc local) s.old)) }
-    {
-        let own = Node::Own(local);
-        lend(is_free(own, s), own, self.next(), s)
-    }
-
-    /// Borrows a local: no edge may lead from its value to a mutable reference.
-    #[tactic(auto, unfolding(mv_certificate_rules::specs::BorrowRules::edges_after))]
-    pub fn borrow_local(&self, local: u16, s: &mut Graph) -> Result<(), StepError>
-        ensures { Follows result s.new (ordered (edges_after self.now (Instruction.ImmBorrowLoc local) s.old)) }
-    {
-        let own = Node::Own(local);
-        lend(self.is_readable(own, s), own, self.next(), s)
     }
 }

@@ -1,16 +1,15 @@
-// References: to fields, read, written and frozen.
-ghost use Rattle.std.specs.Prelude.{◌≡◌, [], ◌&&◌, not, slice_get, Some, Err, IsTrue};
-ghost use Rattle.std.specs.List.{list_any};
-ghost use Rattle.mv_edges.specs.Edges.{agrees, out_of, but_out_of};
-ghost use Rattle.std.specs.Bool.{then_some};
-ghost use Rattle.mv_certificate_rules.specs.BorrowRules.{edges_after, is_mutable, no_mutable_from, position_of, top_temp, field_edges};
-ghost use Rattle.mv_borrow_graph.specs.Domain.{Finds, Follows, ordered};
+// References: to fields.
+ghost use Rattle.std.specs.Prelude.{◌≡◌, [], not, false, slice_get, Some, IsSome, IsTrue, OnOk};
+ghost use Rattle.std.specs.Option.{option_map_or};
+ghost use Rattle.mv_edges.specs.Edges.{same_node};
+ghost use Rattle.mv_ways.specs.Between.{any_between};
+ghost use Rattle.mv_certificate_rules.specs.BorrowRules.{edges_after, position_of, top_temp};
+ghost use Rattle.mv_borrow_graph.specs.Domain.{ordered};
 
-use crate::site::{MutableAt, Site};
-use mv_lattice::StepError;
-use mv_move_types::{FieldHandle, Instruction, Node};
-use mv_ways::{Graph, One};
-use std::alloc::Global;
+use crate::site::Site;
+use mv_move_types::{FieldHandle, Instruction};
+use mv_ways::{Borrows, Graph, NodeSet, One};
+use std::alloc::{AllocError, Global};
 
 impl<'d, 'm> Site<'d, 'm> {
     /// A field handle, if it is there.
@@ -30,78 +29,37 @@ impl<'d, 'm> Site<'d, 'm> {
         self.field_handle(field).is_some()
     }
 
-    /// The position that a field handle names.
-    fn position(&self, field: u16) -> Result<u8, StepError>
-        ensures { Finds result (position_of self.now field) }
+    /// The position that a field handle names, if it is there.
+    fn position(&self, field: u16) -> Option<u8>
+        ensures { result ≡ position_of self.now field }
     {
         let module = self.module.module();
         let _structs = module.structs();
         match self.field_handle(field) {
-            Some(handle) => Ok(handle.position as u8),
-            None => Err(StepError::Need),
+            Some(handle) => Some(handle.position as u8),
+            None => None,
         }
     }
 
-    /// The new reference to a field stands where its operand stood.
-    fn field_reference(&self, alloc: Global, position: u8, s: &mut Graph) -> Result<(), StepError>
-        ensures { Follows result s.new (ordered (Some (field_edges self.now position s.old))) }
+    /// Whether a field is there, and no edge that agrees with it leads from the operand to one of these nodes.
+    pub fn is_field_free<Q: NodeSet>(&self, field: u16, to: &Q, s: &Borrows<'_>) -> bool
+        ensures { result ≡ option_map_or (λ f. not (any_between (λ n. same_node n (top_temp self.now)) (Some f) (Q.test to.now) s.now)) (position_of self.now field) false }
     {
-        Ok(s.extend(alloc, position, self.top())?)
-    }
-
-    /// Borrows a field mutably: no edge out of the operand may agree with the field.
-    #[tactic(auto, unfolding(mv_certificate_rules::specs::BorrowRules::edges_after))]
-    pub fn borrow_field_mutably(
-        &self,
-        alloc: Global,
-        field: u16,
-        s: &mut Graph,
-    ) -> Result<(), StepError>
-        ensures { Follows result s.new (ordered (edges_after self.now (Instruction.MutBorrowField field) s.old)) }
-    {
-        let position = self.position(field)?;
-        if s.has_agreeing_out_of(self.top(), position) {
-            return Err(StepError::Need);
+        match self.position(field) {
+            Some(position) => !s.any_between(&One(self.top()), Some(position), to),
+            None => false,
         }
-        self.field_reference(alloc, position, s)
     }
 
-    /// Whether an edge leads from a node to a mutable reference, and agrees with a position.
-    fn leads_to_mutable_at(&self, from: Node, position: u8, s: &Graph) -> bool
-        ensures { result ≡ list_any (λ e. is_mutable self.now e.to && agrees position e.label) (out_of from s.now) }
+    /// Borrows a field: the new reference stands where its operand stood.
+    #[tactic(auto, using(crate::proofs::Rows::field_borrowed), unfolding(mv_certificate_rules::specs::BorrowRules::edges_after))]
+    pub fn borrow_field(&self, alloc: Global, field: u16, s: &mut Graph) -> Result<(), AllocError>
+        ensures mutable { IsSome (edges_after self.now (Instruction.MutBorrowField field) s.old) → OnOk result (ordered (edges_after self.now (Instruction.MutBorrowField field) s.old) ≡ Some s.new) }
+        ensures immutable { IsSome (edges_after self.now (Instruction.ImmBorrowField field) s.old) → OnOk result (ordered (edges_after self.now (Instruction.ImmBorrowField field) s.old) ≡ Some s.new) }
     {
-        s.any_between(&One(from), Some(position), &MutableAt { site: self })
-    }
-
-    /// Whether no edge that agrees with a position leads from a node to a mutable reference.
-    fn is_readable_at(&self, node: Node, position: u8, s: &Graph) -> bool
-        ensures { result ≡ not (list_any (λ e. is_mutable self.now e.to && agrees position e.label) (out_of node s.now)) }
-    {
-        !self.leads_to_mutable_at(node, position, s)
-    }
-
-    /// Borrows a field: no edge out of the operand that agrees with the field may lead to a mutable reference.
-    #[tactic(auto, unfolding(mv_certificate_rules::specs::BorrowRules::edges_after))]
-    pub fn borrow_field(&self, alloc: Global, field: u16, s: &mut Graph) -> Result<(), StepError>
-        ensures { Follows result s.new (ordered (edges_after self.now (Instruction.ImmBorrowField field) s.old)) }
-    {
-        let position = self.position(field)?;
-        if !self.is_readable_at(self.top(), position, s) {
-            return Err(StepError::Need);
+        match self.position(field) {
+            Some(position) => s.extend(alloc, position, self.top()),
+            None => Ok(()),
         }
-        self.field_reference(alloc, position, s)
-    }
-
-    /// Makes a mutable reference an immutable one: no edge may lead from it to a mutable one, and none out of it is left.
-    pub fn freeze(&self, s: &mut Graph) -> Result<(), StepError>
-        ensures after { Follows result s.new (ordered (then_some (no_mutable_from self.now (top_temp self.now) s.old) (but_out_of (top_temp self.now) s.old))) }
-        ensures memory { ¬ (result ≡ Err StepError.Memory) }
-    {
-        let top = self.top();
-        if !self.is_readable(top, s) {
-            return Err(StepError::Need);
-        }
-        s.remove_out_of(top);
-        Ok(())
     }
 }
