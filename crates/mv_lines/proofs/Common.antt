@@ -43,7 +43,7 @@ pub use Rattle.mv_interface.specs.Shapes.{AreFieldsAt, AreParts, IsMadeOf, IsPar
 pub use Rattle.mv_interface.specs.declared.shapes.Part.{Part}
 pub use Rattle.mv_interface.specs.declared.shapes.Part.TheVariants.{Leaf as LeafPart, Nothing, Struct as StructPart}
 pub use Rattle.mv_machine.specs.Tallies.{all_of, nameless, tallied}
-pub use Rattle.mv_lines.specs.Auditing.{counted_in, counts_from, stored_of}
+pub use Rattle.mv_lines.specs.Auditing.{counted_in, stored_of}
 pub use Rattle.mv_lines.specs.Plain.{IsPlain, is_plain}
 pub use Rattle.mv_lines.specs.Showing.{PutsText, fields_text, key_name_text, key_value_text}
 pub use Rattle.mv_lines.specs.ValueParts.{Extends, part_from, parts_from}

@@ -7,7 +7,6 @@
 --   Objects     The text that is written for an entry is its object in JSON, since its texts are plain.
 --   Pieces      A line of JSON, piece by piece.
 --   Parted      The texts of a stored value, one behind the other.
---   Audits      The counts of an audit, module by module.
 pub mod Digits
 pub mod Fields
 pub mod Structs
@@ -16,4 +15,3 @@ pub mod Characters
 pub mod Objects
 pub mod Pieces
 pub mod Parted
-pub mod Audits

@@ -1,12 +1,8 @@
--- Pieces of lines, and what is left of a line of JSON.
+-- Pieces of lines.
 --   TakesPiece ends piece old new   a piece was taken off the front of the first of these lines
 --   TakesNext piece old new         the next piece of these lines was taken, if there is one
 --   piece_text ends piece           what is written for it
---   json_left key place objects     what is left of a line of JSON
-use Rattle.std.specs.Prelude.{◌≡◌, ℕ, ◌<◌, Bool, true, false, List, [], ◌∷◌, ◌++◌, codes, length, Option, MatchOption}
-use Rattle.mv_machine.specs.Lines.{json_line, with_commas}
-use Rattle.mv_lines.specs.declared.json_pieces.Place.{Place}
-use Rattle.mv_lines.specs.declared.json_pieces.Place.TheVariants.{Opening, Entries, Ended}
+use Rattle.std.specs.Prelude.{◌≡◌, ℕ, ◌<◌, Bool, true, false, List, [], ◌∷◌, ◌++◌, length, Option, MatchOption}
 use Rattle.mv_lines.specs.declared.pieces.Piece.{Piece}
 
 -- A piece was taken off the front of the first of these lines. The line ends with it, or goes on; then the piece has bytes.
@@ -23,9 +19,3 @@ piece_text false piece = piece
 -- The next piece of these lines was taken; or there is none, and no line is left.
 abbrev pub TakesNext : Option Piece → List (List ℕ) → List (List ℕ) → Type 0
 TakesNext piece old new = MatchOption piece ((old ≡ []) × (new ≡ [])) (λ p. TakesPiece p.is_last p.text.items old new)
-
--- what is left of a line of JSON with this key and these objects to come
-abbrev pub json_left : List ℕ → Place → List (List ℕ) → List (List ℕ)
-json_left key Opening objects = json_line key objects ∷ []
-json_left key Entries objects = (with_commas objects ++ codes "]}") ∷ []
-json_left key Ended objects = []

@@ -5,7 +5,7 @@ use Rattle.mv_move_types.specs.Module.{name_at}
 use Rattle.mv_move_types.specs.Names.{StructName}
 use Rattle.mv_move_types.specs.Published.{PublishedModule}
 use Rattle.mv_machine.specs.Value.{Value}
-use Rattle.mv_machine.specs.Lines.{Tallied, address_text, struct_text, value_text}
+use Rattle.mv_machine.specs.Lines.{address_text, struct_text, value_text}
 use Rattle.mv_link_rules.specs.Link.{IsStore, tables_in}
 
 -- a byte that JSON writes as it is: printed ASCII, but no quotation mark and no backslash
@@ -15,10 +15,6 @@ is_plain b = nat_le 32 b && nat_lt b 127 && not (b == 34) && not (b == 92)
 -- a text of such bytes
 abbrev pub IsPlain : List ℕ → Type 0
 IsPlain text = IsTrue (list_all is_plain text)
-
--- the texts of the structs of these counts have such bytes
-abbrev pub ArePlain : List Tallied → Type 0
-ArePlain ts = IsTrue (list_all (λ t. list_all is_plain (struct_text t.struct)) ts)
 
 -- No text between the quotation marks of a show or an audit has a byte that JSON would escape: no address, no number, no value, and
 -- no name of a struct of a store.

@@ -1,21 +1,18 @@
--- How the lines of a show and of an audit are made, and which of them are left.
+-- How the lines of a show are made.
 --   fields_text fields                 fields with commas between
 --   PutsText text found rest old new   the text of what was found was put after the old one
 --   key_name_text, key_value_text      the text of a key's struct, and of a value given by its words
---   show_from modules entries n        the lines of a show that are left, after n others
---   with_first found entries           a stored value that was read, in front of others
-use Rattle.std.specs.Prelude.{◌≡◌, ℕ, ◌+◌, List, [], ◌∷◌, ◌++◌, map, length, Option, Some, None, option_map, unwrap_or}
+use Rattle.std.specs.Prelude.{◌≡◌, ℕ, List, [], ◌++◌, Option, Some, None, option_map, unwrap_or}
 use Rattle.std.specs.Borrow.{Bor}
 use Rattle.mv_move_types.specs.Limits.{most_nesting}
-use Rattle.mv_move_types.specs.declared.tables.Key.{Key}
 use Rattle.mv_move_types.specs.Names.{StructName}
 use Rattle.mv_move_types.specs.Module.{Module}
 use Rattle.std.specs.Option.{option_map_or}
 use Rattle.mv_move_types.specs.Options.{◌>>=◌}
 use Rattle.mv_move_types.specs.declared.token.LeafKind.TheVariants.{Boolean}
 use Rattle.mv_machine.specs.Value.{Leaf, Values, NoMore, More}
-use Rattle.mv_machine.specs.Flat.{FlatEntry, storage_of, struct_from}
-use Rattle.mv_machine.specs.Lines.{value_text, rest_text, struct_text, entry_line, end_line}
+use Rattle.mv_machine.specs.Flat.{struct_from}
+use Rattle.mv_machine.specs.Lines.{value_text, rest_text, struct_text}
 
 -- fields' values with a comma between each two
 abbrev pub fields_text : Values → List ℕ
@@ -35,12 +32,3 @@ key_name_text name = option_map_or struct_text name []
 abbrev pub key_value_text : List Module → Option StructName → List ℕ → List ℕ
 key_value_text modules name words =
     value_text (unwrap_or (name >>= λ n. struct_from most_nesting modules n words >>= λ v. Some v.0) (Leaf Boolean 0))
-
--- the lines of a show over these entries, after so many others
-abbrev pub show_from : List Module → List FlatEntry → ℕ → List (List ℕ)
-show_from modules entries n = map (entry_line modules) (storage_of modules entries) ++ end_line (n + length entries) ∷ []
-
--- a stored value that was read, in front of others
-abbrev pub with_first : Option (Key × Bor (List ℕ)) → List FlatEntry → List FlatEntry
-with_first None entries = entries
-with_first (Some e) entries = record { key = e.0; words = e.1.now } ∷ entries

@@ -1,47 +1,41 @@
-// The stored values that a report has yet to tell.
-ghost use Rattle.std.specs.Prelude.{◌≡◌, ◌∷◌, [], drop, MatchOption};
+// What a report has yet to tell.
+ghost use Rattle.std.specs.Prelude.{◌≡◌, ◌==◌, ◌∷◌, [], drop, length, MatchOption};
 
-use crate::source::Source;
-use mv_move_types::Key;
+use crate::source::{Entry, Told};
 use std::marker::Model;
 
-/// The stored values that are not shown yet, of which the next one is at hand. Its model is the list of them.
+/// The entries that are not told yet, of which the next one is at hand. Its model is the list of them.
 #[derive(Drop)]
 pub struct Ahead<'a> {
-    first: Option<(Key, &'a [u128])>,
-    rest: Source<'a>,
+    first: Option<Entry<'a>>,
+    rest: Told<'a>,
 }
 
 impl<'a> Model for Ahead<'a> {
     ghost use Rattle.std.specs.Prelude.{◌≡◌, List, [], None};
-    ghost use Rattle.mv_machine.specs.Flat.{FlatEntry};
-    ghost use Rattle.mv_lines.specs.Showing.{with_first};
-    ghost use Rattle.mv_lines.specs.Sources.{values_in};
+    ghost use Rattle.mv_lines.specs.Sources.{Item, items_in, with_first};
 
-    ghost Value = { List FlatEntry };
+    ghost Value = { List Item };
 
-    ghost view = { λ a. with_first a.first (values_in a.rest) };
+    ghost view = { λ a. with_first a.first (items_in a.rest) };
 
-    ghost invariant = { λ a. a.first ≡ None → values_in a.rest ≡ [] };
+    ghost invariant = { λ a. a.first ≡ None → items_in a.rest ≡ [] };
 }
 
 impl<'a> Ahead<'a> {
-    ghost use Rattle.mv_lines.specs.Sources.{values_in};
+    ghost use Rattle.mv_lines.specs.Sources.{item_of, items_in};
 
     /// All of these.
-    pub fn new(mut source: Source<'a>) -> Self
-        ensures { result ≡ values_in source.entry }
+    pub fn new(mut told: Told<'a>) -> Self
+        ensures { result ≡ items_in told.entry }
     {
-        let first = source.next();
-        Ahead {
-            first,
-            rest: source,
-        }
+        let first = told.next();
+        Ahead { first, rest: told }
     }
 
     /// The next one, which stays.
-    pub fn first(&self) -> Option<(Key, &'a [u128])>
-        ensures { MatchOption result (self.now ≡ []) (λ e. self.now ≡ record { key = e.0; words = e.1.now } ∷ drop 1 self.now) }
+    pub fn first(&self) -> Option<Entry<'a>>
+        ensures { MatchOption result (self.now ≡ []) (λ e. self.now ≡ item_of e ∷ drop 1 self.now) }
     {
         self.first
     }
@@ -51,5 +45,12 @@ impl<'a> Ahead<'a> {
         ensures { self.new ≡ drop 1 self.old }
     {
         self.first = self.rest.next();
+    }
+
+    /// Whether there is none.
+    pub fn is_empty(&self) -> bool
+        ensures { result ≡ (length self.now == 0) }
+    {
+        self.first.is_none()
     }
 }

@@ -1,9 +1,10 @@
-// The counts of an audit, and their lines.
-ghost use Rattle.std.specs.Prelude.{◌≡◌, [], ◌∷◌, length, map, IfOk, MatchOption};
+// The tallies of an audit, and their lines.
+ghost use Rattle.std.specs.Prelude.{◌≡◌, [], ◌∷◌, IfOk, MatchOption};
 ghost use Rattle.mv_link_rules.specs.Link.{tables_in};
-ghost use Rattle.mv_machine.specs.Lines.{count_line};
-ghost use Rattle.mv_lines.specs.Auditing.{counted_in, counts_from, stored_of};
-ghost use Rattle.mv_machine.specs.Tallies.{lists_of, nameless, tallied};
+ghost use Rattle.mv_machine.specs.Lines.{count_line, struct_text};
+ghost use Rattle.mv_lines.specs.Auditing.{counted_in, stored_of};
+ghost use Rattle.mv_lines.specs.Plain.{IsPlain};
+ghost use Rattle.mv_machine.specs.Tallies.{all_of, lists_of, nameless, tallied};
 
 use crate::texts::{put_labelled, put_name};
 use mv_linker::{Store, StructName};
@@ -28,9 +29,12 @@ fn unnamed<'a>() -> StructName<'a>
 }
 
 /// The counts of a tally, with the struct's name.
-fn count_of<'s>(store: &'s Store, tally: &Tally) -> Counted<'s>
-    ensures { counted_in result ≡ tallied (tables_in store.entry.now) tally.now }
+pub fn count_of<'s>(store: &'s Store, tally: &Tally) -> Counted<'s>
+    ensures counts { counted_in result ≡ tallied (tables_in store.entry.now) tally.now }
+    ensures plain { IsPlain (struct_text result.name) }
 {
+    // For the prover: what it holds is a store.
+    let _len = store.len();
     let definition = Definition {
         place: tally.place,
         index: tally.index,
@@ -59,70 +63,48 @@ pub fn count_text(alloc: Global, counted: &Counted<'_>) -> Result<Vec<u8>, Alloc
     Ok(text)
 }
 
-/// The counts of all structs with neither copy nor drop, module by module; no byte of a module is read. Its model is the list
-/// of those that are left.
+/// The tallies of all modules that are left, module by module. Its model is the list of them.
 #[derive(Drop)]
-pub struct Counts<'a> {
-    store: &'a Store,
-    tallies: &'a [Vec<Tally>],
-    place: usize,
+pub struct Tallies<'a> {
     left: &'a [Tally],
+    rest: &'a [Vec<Tally>],
 }
 
-impl<'a> Model for Counts<'a> {
-    ghost use Rattle.std.specs.Prelude.{List, ◌≡◌, ◌++◌, length, map};
-    ghost use Rattle.mv_link_rules.specs.Link.{tables_in};
-    ghost use Rattle.mv_machine.specs.Lines.{Tallied};
-    ghost use Rattle.mv_lines.specs.Auditing.{counts_from};
-    ghost use Rattle.mv_machine.specs.Tallies.{lists_of, tallied};
+impl<'a> Model for Tallies<'a> {
+    ghost use Rattle.std.specs.Prelude.{List, ◌++◌};
+    ghost use Rattle.mv_machine.specs.Tallies.{all_of, lists_of};
+    ghost use Rattle.mv_machine.specs.declared.Tally.{Tally};
 
-    ghost Value = { List Tallied };
+    ghost Value = { List Tally };
 
-    ghost view = { λ c. map (tallied (tables_in c.store.now)) c.left.now ++ counts_from c.store.now (lists_of c.tallies.now) c.place };
-
-    ghost invariant = { λ c. length c.tallies.now ≡ length c.store.now };
+    ghost view = { λ t. t.left.now ++ all_of (lists_of t.rest.now) };
 }
 
-impl<'a> Counts<'a> {
-    /// The counts of these tallies, which stand module by module as the store's modules do.
-    pub fn new(store: &'a Store, tallies: &'a [Vec<Tally>]) -> Self
-        requires { length tallies.now ≡ length store.now }
-        ensures { result ≡ counts_from store.entry.now (lists_of tallies.entry.now) 0 }
+impl<'a> Tallies<'a> {
+    /// All of these.
+    pub fn new(tallies: &'a [Vec<Tally>]) -> Self
+        ensures { result ≡ all_of (lists_of tallies.entry.now) }
     {
-        Counts {
-            store,
-            tallies,
-            place: 0,
+        Tallies {
             left: &[],
+            rest: tallies,
         }
     }
 
-    /// The same counts once more.
-    pub fn copied(&self) -> Self
-        ensures { result ≡ self.now }
-    {
-        Counts {
-            store: self.store,
-            tallies: self.tallies,
-            place: self.place,
-            left: self.left,
-        }
-    }
-
-    /// The next count; none where all were had.
-    pub fn next(&mut self) -> Option<Counted<'a>>
-        ensures { MatchOption result ((self.old ≡ []) × (self.new ≡ [])) (λ c. self.old ≡ counted_in c ∷ self.new) }
+    /// The next tally; None at the end.
+    pub fn next(&mut self) -> Option<&'a Tally>
+        ensures { MatchOption result ((self.old ≡ []) × (self.new ≡ [])) (λ t. self.old ≡ t.now ∷ self.new) }
     {
         'modules: loop {
             if let [tally, left @ ..] = self.left {
                 self.left = left;
-                return Some(count_of(self.store, tally));
+                return Some(tally);
             }
-            if self.place >= self.tallies.len() {
+            let [own, rest @ ..] = self.rest else {
                 return None;
-            }
-            self.left = self.tallies[self.place].as_slice();
-            self.place += 1;
+            };
+            self.left = own.as_slice();
+            self.rest = rest;
         }
     }
 }

@@ -3,7 +3,7 @@
 ghost use Rattle.std.specs.Prelude.{◌≡◌, ◌≤◌, ◌++◌, drop, length, slice_range, take, IfOk, OnOk};
 ghost use Rattle.mv_link_rules.specs.Link.{tables_in};
 ghost use Rattle.mv_machine.specs.Flat.{value_under};
-ghost use Rattle.mv_machine.specs.Lines.{address_text, key_text, value_text};
+ghost use Rattle.mv_machine.specs.Lines.{address_text, entry_object, key_text, value_text};
 ghost use Rattle.mv_lines.specs.Plain.{IsPlain};
 
 use crate::texts::{definition_of, put_address, put_key, struct_at};
@@ -11,7 +11,7 @@ use crate::values::put_value;
 use mv_linker::Store;
 use mv_move_types::Key;
 use serde::{Described, Serialize, Serializer};
-use std::alloc::AllocError;
+use std::alloc::{AllocError, Global};
 
 /// A plain text as characters.
 pub fn as_str(text: &[u8]) -> &str
@@ -26,10 +26,10 @@ pub fn as_str(text: &[u8]) -> &str
 
 /// The texts of a stored value, which are sent as an object: those of its address, of its struct and of the value.
 #[derive(Clone, Copy)]
-pub struct EntryShow<'a> {
-    pub address: &'a str,
-    pub name: &'a str,
-    pub value: &'a str,
+struct EntryShow<'a> {
+    address: &'a str,
+    name: &'a str,
+    value: &'a str,
 }
 
 impl<'a> Described for EntryShow<'a> {
@@ -53,7 +53,7 @@ impl<'a> Serialize for EntryShow<'a> {
 }
 
 /// Makes the texts of a stored value in this room, one behind the other, and returns where the second and the third begin.
-pub fn put_texts(
+fn put_texts(
     room: &mut Vec<u8>,
     store: &Store,
     key: Key,
@@ -73,7 +73,7 @@ pub fn put_texts(
 }
 
 /// The texts that stand one behind the other, the second and the third from these places on.
-pub fn parted(texts: &[u8], name: usize, value: usize) -> EntryShow<'_>
+fn parted(texts: &[u8], name: usize, value: usize) -> EntryShow<'_>
     requires plain { IsPlain texts.now }
     requires name { name ≤ value }
     requires value { value ≤ length texts.now }
@@ -86,5 +86,25 @@ pub fn parted(texts: &[u8], name: usize, value: usize) -> EntryShow<'_>
         address: &text[..name],
         name: &text[name..value],
         value: &text[value..],
+    }
+}
+
+/// A stored value with its key as JSON. Its texts are made in this room.
+pub fn entry_json(
+    alloc: Global,
+    room: &mut Vec<u8>,
+    store: &Store,
+    key: Key,
+    words: &[u128],
+) -> Result<Vec<u8>, AllocError>
+    ensures { IfOk result (λ text. text.items ≡ entry_object (tables_in store.now) (record { key = key; value = value_under (tables_in store.now) key words.now })) }
+{
+    // For the prover: what it holds is a store.
+    let _len = store.len();
+    let (name, value) = put_texts(room, store, key, words)?;
+    let entry = parted(room, name, value);
+    match serde_json::to_vec(alloc, &entry) {
+        Ok(json) => Ok(json),
+        Err(_) => Err(AllocError),
     }
 }

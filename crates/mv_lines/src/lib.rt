@@ -19,12 +19,12 @@ mod audit;
 mod changed;
 mod json_counts;
 mod json_entries;
-mod json_pieces;
 mod lines;
 mod pieces;
 mod source;
 mod texts;
 mod values;
+mod walk;
 
 pub use changed::Side;
 pub use lines::Lines;

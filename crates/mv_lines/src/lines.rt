@@ -1,159 +1,25 @@
 // The lines of a show and of an audit, whole or in pieces.
-ghost use Rattle.std.specs.Prelude.{◌≡◌, ◌∷◌, [], ◌+◌, ◌<◌, ◌^◌, true, length, map, IfOk, IfSome, IsUtf8, OnErr, MatchOption, string_bytes};
+ghost use Rattle.std.specs.Prelude.{◌≡◌, ◌∷◌, [], ◌<◌, ◌^◌, cond, false, true, length, map, IfOk, IfSome, IsUtf8, OnErr, MatchOption, string_bytes};
 ghost use Rattle.mv_link_rules.specs.Link.{tables_in};
-ghost use Rattle.mv_machine.specs.Flat.{storage_of, value_under};
+ghost use Rattle.mv_machine.specs.Flat.{storage_of};
 ghost use Rattle.mv_machine.specs.Ledger.{AsJson, AsText};
-ghost use Rattle.mv_machine.specs.Lines.{end_line, entry_line, show_json, show_lines};
+ghost use Rattle.mv_machine.specs.Lines.{show_json, show_lines};
 ghost use Rattle.mv_lines.specs.Auditing.{audit_from, counts_json};
 ghost use Rattle.mv_lines.specs.LinesView.{ended};
-ghost use Rattle.mv_lines.specs.Pieces.{TakesNext, TakesPiece};
+ghost use Rattle.mv_lines.specs.Pieces.{TakesPiece};
 ghost use Rattle.mv_machine.specs.Tallies.{all_of, lists_of, tallied};
 
 use crate::ahead::Ahead;
-use crate::audit::{Counts, count_text};
+use crate::audit::Tallies;
 use crate::changed::Side;
-use crate::json_pieces::{CountedJson, StoredJson};
 use crate::pieces::Piece;
-use crate::source::Source;
-use crate::texts::{definition_of, put_address, put_key, put_labelled, struct_at};
-use crate::values::put_value;
+use crate::source::{Source, Told};
+use crate::walk::{AUDIT, SHOW, Walk};
 use mv_linker::Store;
 use mv_machine::Tally;
-use mv_move_types::Key;
 use mv_storage::{Changes, Entries, Page, Storage};
 use std::alloc::{AllocError, Global};
 use std::marker::Model;
-
-// The bytes for which a line of a show begins with room: those of two addresses, two names and a few leaves.
-const LINE_ROOM: usize = 160;
-
-/// The line of a stored value: its address, its struct and the value.
-fn entry_text(alloc: Global, store: &Store, key: Key, words: &[u128]) -> Result<Vec<u8>, AllocError>
-    ensures { IfOk result (λ text. text.items ≡ entry_line (tables_in store.now) (record { key = key; value = value_under (tables_in store.now) key words.now })) }
-{
-    let name = struct_at(store, key);
-    let mut text = Vec::with_capacity(alloc, LINE_ROOM)?;
-    text.extend_from_slice(b"at ")?;
-    put_address(&mut text, key.address)?;
-    text.push(b' ')?;
-    put_key(&mut text, name.as_ref())?;
-    text.push(b' ')?;
-    put_value(&mut text, store, definition_of(key), words)?;
-    Ok(text)
-}
-
-/// The last line, with the number of lines before it.
-fn end_text(alloc: Global, count: u64) -> Result<Vec<u8>, AllocError>
-    ensures { IfOk result (λ text. text.items ≡ end_line count) }
-{
-    let mut text = Vec::new(alloc);
-    put_labelled(&mut text, b"end ", u128::from(count))?;
-    Ok(text)
-}
-
-// The stored values that are not shown yet, the number of those that are, and whether that is told too.
-#[derive(Drop)]
-struct Stored<'a> {
-    store: &'a Store,
-    entries: Ahead<'a>,
-    told: u64,
-    is_ended: bool,
-    ghost few: { told + length entries < 2 ^ 63 },
-}
-
-impl<'a> Stored<'a> {
-    ghost use Rattle.mv_lines.specs.Left.{stored_left};
-
-    // The next line, if there is one, as a piece.
-    fn next(&mut self, alloc: Global) -> Result<Option<Piece>, AllocError>
-        ensures piece { IfOk result (λ piece. TakesNext piece (stored_left self.old) (stored_left self.new)) }
-        ensures whole { IfOk result (λ piece. IfSome piece (λ p. p.is_last ≡ true)) }
-        ensures kept { OnErr result (stored_left self.new ≡ stored_left self.old) }
-    {
-        if self.is_ended {
-            return Ok(None);
-        }
-        match self.entries.first() {
-            Some((key, words)) => {
-                let line = entry_text(alloc, self.store, key, words)?;
-                self.entries.skip();
-                self.told += 1;
-                Ok(Some(Piece::last(line)))
-            }
-            None => {
-                let line = end_text(alloc, self.told)?;
-                self.is_ended = true;
-                Ok(Some(Piece::last(line)))
-            }
-        }
-    }
-}
-
-// The counts that are not told yet, the number of those that are, and whether that is told too.
-#[derive(Drop)]
-struct Counting<'a> {
-    counts: Counts<'a>,
-    told: u64,
-    is_ended: bool,
-    ghost few: { told + length counts < 2 ^ 63 },
-}
-
-impl<'a> Counting<'a> {
-    ghost use Rattle.mv_lines.specs.Left.{counting_left};
-
-    // The next line, if there is one, as a piece.
-    fn next(&mut self, alloc: Global) -> Result<Option<Piece>, AllocError>
-        ensures piece { IfOk result (λ piece. TakesNext piece (counting_left self.old) (counting_left self.new)) }
-        ensures whole { IfOk result (λ piece. IfSome piece (λ p. p.is_last ≡ true)) }
-        ensures kept { OnErr result (counting_left self.new ≡ counting_left self.old) }
-    {
-        if self.is_ended {
-            return Ok(None);
-        }
-        let mut counts = self.counts.copied();
-        match counts.next() {
-            Some(counted) => {
-                let line = count_text(alloc, &counted)?;
-                self.counts = counts;
-                self.told += 1;
-                Ok(Some(Piece::last(line)))
-            }
-            None => {
-                let line = end_text(alloc, self.told)?;
-                self.is_ended = true;
-                Ok(Some(Piece::last(line)))
-            }
-        }
-    }
-}
-
-// Which lines are left, the first of which may be begun.
-#[derive(Drop)]
-enum Left<'a> {
-    Stored(Stored<'a>),
-    Counting(Counting<'a>),
-    StoredJson(StoredJson<'a>),
-    CountedJson(CountedJson<'a>),
-}
-
-impl<'a> Left<'a> {
-    ghost use Rattle.mv_lines.specs.Left.{lines_left};
-
-    // The next piece, if there is one. Where an allocation failed, the same is left as before.
-    fn next(&mut self, alloc: Global) -> Result<Option<Piece>, AllocError>
-        ensures piece { IfOk result (λ piece. TakesNext piece (lines_left self.old).left (lines_left self.new).left) }
-        ensures whole { (lines_left self.old).format ≡ AsText → IfOk result (λ piece. IfSome piece (λ p. p.is_last ≡ true)) }
-        ensures format { (lines_left self.new).format ≡ (lines_left self.old).format }
-        ensures kept { OnErr result ((lines_left self.new).left ≡ (lines_left self.old).left) }
-    {
-        match self {
-            Left::Stored(stored) => stored.next(alloc),
-            Left::Counting(counting) => counting.next(alloc),
-            Left::StoredJson(json) => json.next(alloc),
-            Left::CountedJson(json) => json.next(alloc),
-        }
-    }
-}
 
 /// The lines that a show or an audit has yet to give, without their number and line end. They come piece by piece, and each
 /// piece is made when it is asked for: a line of text is one piece, and a line of JSON is its opening, one piece for each entry,
@@ -161,7 +27,7 @@ impl<'a> Left<'a> {
 #[derive(Drop)]
 pub struct Lines<'a> {
     alloc: Global,
-    left: Left<'a>,
+    left: Walk<'a>,
 }
 
 impl<'a> Model for Lines<'a> {
@@ -175,7 +41,8 @@ impl<'a> Model for Lines<'a> {
 
 impl<'a> Lines<'a> {
     ghost use Rattle.mv_lines.specs.Changed.{values_of};
-    ghost use Rattle.mv_lines.specs.Sources.{values_in};
+    ghost use Rattle.mv_lines.specs.Left.{lines_from};
+    ghost use Rattle.mv_lines.specs.Sources.{items_in, values_in};
 
     /// The lines of a show of all that is stored.
     pub fn of_storage(alloc: Global, store: &'a Store, storage: &'a Storage) -> Self
@@ -200,36 +67,15 @@ impl<'a> Lines<'a> {
         Lines::of_source(alloc, store, Source::Page(page))
     }
 
-    /// The same of what is left of a range or of a page.
-    fn of_source(alloc: Global, store: &'a Store, source: Source<'a>) -> Self
-        requires { length (values_in source) < 2 ^ 63 }
-        ensures { result ≡ record { format = AsText; left = show_lines (tables_in store.entry.now) (storage_of (tables_in store.entry.now) (values_in source.entry)) } }
-    {
-        Lines {
-            alloc,
-            left: Left::Stored(Stored {
-                store,
-                entries: Ahead::new(source),
-                told: 0,
-                is_ended: false,
-            }),
-        }
-    }
-
     /// The lines of an audit by these tallies, which stand module by module as the store's modules do.
+    #[tactic(auto, using(crate::proofs::Shows::Pieces::counted))]
     pub fn of_tallies(alloc: Global, store: &'a Store, tallies: &'a [Vec<Tally>]) -> Self
         requires aligned { length tallies.now ≡ length store.now }
         requires few { length (all_of (lists_of tallies.now)) < 2 ^ 63 }
         ensures { result ≡ record { format = AsText; left = audit_from (map (tallied (tables_in store.entry.now)) (all_of (lists_of tallies.entry.now))) 0 } }
     {
-        Lines {
-            alloc,
-            left: Left::Counting(Counting {
-                counts: Counts::new(store, tallies),
-                told: 0,
-                is_ended: false,
-            }),
-        }
+        let told = Told::Counts(Tallies::new(tallies));
+        Lines::of_told(alloc, store, told, false, &[])
     }
 
     /// The line of a show of all that is stored, as JSON.
@@ -243,20 +89,14 @@ impl<'a> Lines<'a> {
     pub fn json_of_entries(alloc: Global, store: &'a Store, entries: Entries<'a>) -> Self
         ensures { result ≡ record { format = AsJson; left = show_json (tables_in store.entry.now) (storage_of (tables_in store.entry.now) entries.entry) ∷ [] } }
     {
-        Lines {
-            alloc,
-            left: Left::StoredJson(StoredJson::new(alloc, store, Source::Range(entries))),
-        }
+        Lines::json_of_source(alloc, store, Source::Range(entries))
     }
 
     /// The same of the values of a page, as JSON.
     pub fn json_of_page(alloc: Global, store: &'a Store, page: Page<'a>) -> Self
         ensures { result ≡ record { format = AsJson; left = show_json (tables_in store.entry.now) (storage_of (tables_in store.entry.now) page.entry.values) ∷ [] } }
     {
-        Lines {
-            alloc,
-            left: Left::StoredJson(StoredJson::new(alloc, store, Source::Page(page))),
-        }
+        Lines::json_of_source(alloc, store, Source::Page(page))
     }
 
     /// The line of a show, as JSON, if these values were all that is stored: those that changed keys had before, or those that they
@@ -269,21 +109,59 @@ impl<'a> Lines<'a> {
     ) -> Self
         ensures { result ≡ record { format = AsJson; left = show_json (tables_in store.entry.now) (storage_of (tables_in store.entry.now) (values_of side changes.entry)) ∷ [] } }
     {
-        let source = Source::of_changes(changes, side);
-        Lines {
-            alloc,
-            left: Left::StoredJson(StoredJson::new(alloc, store, source)),
-        }
+        Lines::json_of_source(alloc, store, Source::of_changes(changes, side))
     }
 
     /// The line of an audit by these tallies, which stand module by module as the store's modules do, as JSON.
+    #[tactic(auto, using(crate::proofs::Shows::Pieces::counted_json))]
     pub fn json_of_tallies(alloc: Global, store: &'a Store, tallies: &'a [Vec<Tally>]) -> Self
         requires { length tallies.now ≡ length store.now }
         ensures { result ≡ record { format = AsJson; left = counts_json (map (tallied (tables_in store.entry.now)) (all_of (lists_of tallies.entry.now))) ∷ [] } }
     {
+        let told = Told::Counts(Tallies::new(tallies));
+        Lines::of_told(alloc, store, told, true, AUDIT)
+    }
+
+    // The lines of a show of these values.
+    #[tactic(auto, using(crate::proofs::Shows::Pieces::shown))]
+    fn of_source(alloc: Global, store: &'a Store, source: Source<'a>) -> Self
+        requires { length (values_in source) < 2 ^ 63 }
+        ensures { result ≡ record { format = AsText; left = show_lines (tables_in store.entry.now) (storage_of (tables_in store.entry.now) (values_in source.entry)) } }
+    {
+        Lines::of_told(alloc, store, Told::Values(source), false, &[])
+    }
+
+    // The line of a show of these values, as JSON.
+    #[tactic(auto, using(crate::proofs::Shows::Pieces::shown_json))]
+    fn json_of_source(alloc: Global, store: &'a Store, source: Source<'a>) -> Self
+        ensures { result ≡ record { format = AsJson; left = show_json (tables_in store.entry.now) (storage_of (tables_in store.entry.now) (values_in source.entry)) ∷ [] } }
+    {
+        Lines::of_told(alloc, store, Told::Values(source), true, SHOW)
+    }
+
+    // The lines of a report of these, or its line of JSON, which begins so.
+    fn of_told(
+        alloc: Global,
+        store: &'a Store,
+        told: Told<'a>,
+        is_json: bool,
+        opening: &'static [u8],
+    ) -> Self
+        requires few { is_json ≡ false → length (items_in told) < 2 ^ 63 }
+        requires no_opening { is_json ≡ false → opening.now ≡ [] }
+        ensures { result ≡ record { format = cond is_json AsJson AsText; left = lines_from is_json (tables_in store.entry.now) opening.now 0 (items_in told.entry) } }
+    {
         Lines {
             alloc,
-            left: Left::CountedJson(CountedJson::new(store, tallies)),
+            left: Walk {
+                store,
+                entries: Ahead::new(told),
+                is_json,
+                opening,
+                told: 0,
+                is_ended: false,
+                room: Vec::new(alloc),
+            },
         }
     }
 

@@ -1,5 +1,5 @@
 // The pieces in which the lines of a report are told.
-ghost use Rattle.std.specs.Prelude.{◌≡◌, ◌++◌, false, true, OnOk};
+ghost use Rattle.std.specs.Prelude.{◌≡◌, ◌++◌, OnOk};
 ghost use Rattle.mv_lines.specs.Pieces.{piece_text};
 
 use std::alloc::AllocError;
@@ -14,28 +14,6 @@ pub struct Piece {
 }
 
 impl Piece {
-    /// The last piece of a line.
-    pub(crate) fn last(text: Vec<u8>) -> Self
-        ensures text { result.text.items ≡ text.items }
-        ensures last { result.is_last ≡ true }
-    {
-        Piece {
-            text,
-            is_last: true,
-        }
-    }
-
-    /// A piece of a line that goes on.
-    pub(crate) fn front(text: Vec<u8>) -> Self
-        ensures text { result.text.items ≡ text.items }
-        ensures front { result.is_last ≡ false }
-    {
-        Piece {
-            text,
-            is_last: false,
-        }
-    }
-
     /// Appends its bytes and, if the line ends with it, a line end.
     ///
     /// # Errors

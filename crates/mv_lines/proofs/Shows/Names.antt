@@ -3,8 +3,8 @@ use Rattle.mv_lines.proofs.Common.{[], ◌%◌, ◌++◌, ◌/◌, ◌<◌, ◌�
 use Rattle.mv_lines.proofs.Common.{and_from, cond_both, nat_tests, list_all-append, same_Some, first_so, second_so, byte_at, bytes_high_first, list_all, ◌&&◌, ◌==◌, ◌||◌, nat_le, nat_lt}
 use Rattle.mv_lines.proofs.Common.{slice_get, Module, module_name, name_at, name_of_struct, struct_name, ModuleName, StructName, PublishedModule, LeafKind, Address, Boolean, Number, Signer}
 use Rattle.mv_lines.proofs.Common.{HasText, on_bind, identifier_fits, is_letter, is_name_part, hex_digit, leaf_text, rest_text, value_text, Leaf, More, NoMore, Struct, Value, Values, all_at}
-use Rattle.mv_lines.proofs.Common.{IsPublishable, IsStore, tables_in, IsPlain, is_plain, All, All-head, All-tail, AllByRecursion, Key, None, Option, StructDefinition, Tallied, Tally}
-use Rattle.mv_lines.proofs.Common.{cond, cons_option, filter_map, is_scarce_struct, key_text, map, nameless, option_map_or, scarce_name, scarce_structs, tallied, unwrap_or}
+use Rattle.mv_lines.proofs.Common.{IsPublishable, IsStore, tables_in, IsPlain, is_plain, All, All-head, All-tail, AllByRecursion, Key, None, Option, StructDefinition, Tally}
+use Rattle.mv_lines.proofs.Common.{cond, cons_option, filter_map, is_scarce_struct, key_text, nameless, option_map_or, scarce_name, scarce_structs, tallied, unwrap_or}
 use Rattle.std.specs.Fmt.{digits, digits_onto, digit_glyph}
 use Rattle.mv_machine.specs.Lines.{address_text, struct_text}
 use Rattle.mv_bound_rules.proofs.Found.{at-all}
@@ -155,9 +155,8 @@ plain-default : (o : Option StructName) → ((name : StructName) → o ≡ Some 
 plain-default None each = refl
 plain-default (Some name) each = each name refl
 
-pub plain-tallied : (published : List PublishedModule) → IsStore published → (ts : List Tally) → AllByRecursion (λ (t : Tallied). IsPlainStruct t.struct) (map (tallied (tables_in published)) ts)
-plain-tallied published store [] = tt
-plain-tallied published store (t ∷ ts) = (plain-default (name_at (tables_in published) t.place t.index) (plain-named published store t.place t.index), plain-tallied published store ts)
+pub plain-tallied : (published : List PublishedModule) → IsStore published → (t : Tally) → IsPlainStruct (tallied (tables_in published) t).struct
+plain-tallied published store t = plain-default (name_at (tables_in published) t.place t.index) (plain-named published store t.place t.index)
 
 -- the structs with neither copy nor drop
 pub all-append : {A : Type 0} (P : A → Type 0) (xs ys : List A) → AllByRecursion P xs → AllByRecursion P ys → AllByRecursion P (xs ++ ys)

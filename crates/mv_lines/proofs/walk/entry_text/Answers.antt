@@ -1,6 +1,6 @@
 use Rattle.mv_lines.proofs.Common.{[], ◌++◌, ◌∙◌, ◌≡◌, List, ap, append_assoc, codes, ℕ, name_at, Definition, value_under, key_text, value_text, tables_in, key_name_text, key_value_text}
 use Rattle.mv_machine.specs.Lines.{address_text}
-use Rattle.mv_lines.proofs.lines.entry_text.Goals as goal
+use Rattle.mv_lines.proofs.walk.entry_text.Goals as goal
 
 -- of a stored value
 entry_put : (t0 t1 t2 t3 t4 t5 t6 address struct value : List ℕ) → t0 ≡ [] → t1 ≡ t0 ++ codes "at " → t2 ≡ t1 ++ address → t3 ≡ t2 ++ codes " " → t4 ≡ t3 ++ struct

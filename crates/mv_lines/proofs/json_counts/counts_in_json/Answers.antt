@@ -3,7 +3,7 @@ use Rattle.serde_json.proofs.FreeTexts.{text_of_value}
 use Rattle.mv_lines.specs.Sending.{count_data, count_texts}
 use Rattle.mv_lines.proofs.Shows.Objects.{members_whole, object_text}
 use Rattle.mv_lines.proofs.Shows.Pieces.{plain-counts}
-use Rattle.mv_lines.proofs.json_pieces.counts_in_json.Goals as goal
+use Rattle.mv_lines.proofs.json_counts.counts_in_json.Goals as goal
 
 pub returns-in-Ok : goal.returns-in-Ok
 returns-in-Ok c =

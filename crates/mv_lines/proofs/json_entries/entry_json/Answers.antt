@@ -6,7 +6,7 @@ use Rattle.mv_lines.specs.Sending.{texts_data}
 use Rattle.mv_lines.proofs.Shows.Objects.{members_whole, object_text}
 use Rattle.mv_lines.proofs.Shows.Parted.{entry_data, entry_texts, plain-texts, same-entry}
 use Rattle.mv_lines.proofs.Shows.Pieces.{plain-entry}
-use Rattle.mv_lines.proofs.json_pieces.entry_json.Goals as goal
+use Rattle.mv_lines.proofs.json_entries.entry_json.Goals as goal
 
 pub parted-entry-requires-clause-plain : goal.parted-entry-requires-clause-plain
 parted-entry-requires-clause-plain c =
