@@ -1,7 +1,8 @@
 """What the program costs beside a plain implementation of the same rules (plain.rs): machine instructions of both, less what an
-empty stream takes, seconds by the clock, the least of several tries, and how both grow from n to 2n. Their reports are equal,
+empty stream or module takes, seconds by the clock, the least of several tries, and how both grow from n to 2n. What they print is equal,
 byte for byte, or it ends. Each row has a bound: how many times the plain one's machine instructions the program may take for the second
-half of its records, which are the same on both sides of any that come before. Where one is above it, the script ends with status 1.
+half of its records, which are the same on both sides of any that come before, or of its blocks. Where one is above it, the script ends with
+status 1.
 
 usage: python3 bench/beside.py FOLDER [PROGRAM]    FOLDER is kept; it has the plain implementation as `plain`, or a rustc makes
 it there. Machine instructions are counted where there is a valgrind."""
@@ -12,7 +13,7 @@ import sys
 import time
 from functools import partial
 from pathlib import Path
-from typing import Any, Callable, Dict, Iterator, List, NamedTuple, Optional, Tuple, Union
+from typing import Any, Callable, Dict, Iterator, List, NamedTuple, Optional, Sequence, Tuple
 
 import inputs
 import process
@@ -21,8 +22,10 @@ from inputs import ASSET, Module, publish, record, run, u64
 from process import difference
 
 HERE = Path(__file__).resolve().parent
-# The plain implementation, in the folder.
+# The plain implementation, in the folder, and the commands of both.
 PLAIN = "plain"
+APPLY, PROVE, CHECK = "apply", "prove", "check"
+Words = Sequence[str]
 TRIES = 3
 GROWTH_AIM = "2.3 or less"
 NO_STATE = b""
@@ -91,17 +94,18 @@ def using() -> Tuple[Module, bytes]:
     return m, b"".join(bytes([1, *held, 0]) for held in holding)
 
 
-# What makes the records of an input, for n.
+# What makes the parts of an input, for n: records, or a module.
 Made = Callable[[int], List[bytes]]
 
 
 class Row(NamedTuple):
-    """What is measured: what the records for n = 2 are, the records for n, and how many times the plain one's machine instructions the second
-    half of them may take."""
+    """What is measured: what the input for n = 2 is, the parts of the input for n, how many times the plain one's machine instructions the
+    second half of it may take, and the command that reads it."""
 
     what: str
     made: Made
     bound: float = 1.0
+    command: str = APPLY
 
 
 def of_pairs() -> Iterator[Row]:
@@ -122,7 +126,7 @@ def of_pairs() -> Iterator[Row]:
     def wides(name: str, n: int) -> List[bytes]:
         return [published, *[record(2, run(name, 10_000_000, u64(7)))] * (USES * n)]
 
-    yield Row(f"{MODULES * 2} modules of {module.instructions:,} instructions without a branch, each of which is reached", modules, 1.45)
+    yield Row(f"{MODULES * 2} modules of {module.instructions:,} instructions without a branch, each of which is reached", modules, 1.5)
     for name, _, _, _, what, bound in USED:
         yield Row(f"{USES * 2:,} runs of {what}, of {COINS:,}", partial(uses, name, USES), bound)
     yield Row(f"{USES * 2:,} runs of 200 payments between two coins, of {COINS:,}", partial(uses, "pays", USES), 0.52)
@@ -156,60 +160,80 @@ def streams() -> Iterator[Tuple[str, Made]]:
     yield f"{WRITES * 2:,} runs of 1,000 writes by a reference kept", lambda n: writes(n, "holds")
 
 
+def of_flows() -> Iterator[Row]:
+    """Modules with loops: the search for a certificate, and the check of the one that it finds."""
+    def loop(n: int) -> List[bytes]:
+        return [inputs.looping(100 * n).bytes()]
+
+    yield Row("`prove` of a loop of 200 blocks with 30 references", loop, 12, PROVE)
+    yield Row("`prove` of 40 rounds through 200 blocks", lambda n: [inputs.rippling(40, 100 * n).bytes()], 19, PROVE)
+    yield Row("`check` of the first one's certificate", loop, 7, CHECK)
+
+
 def rows() -> Iterator[Row]:
     """All that is measured."""
     yield from (Row(what, made) for what, made in streams())
     yield from of_pairs()
+    yield from of_flows()
 
 
 class Side:
-    """One of the two programs, which is run over streams in a folder."""
+    """One of the two programs, which is run in a folder."""
 
-    def __init__(self, folder: Path, *words: Union[str, Path]):
-        self.folder, self.words = folder, words
+    def __init__(self, folder: Path, program: Path):
+        self.folder, self.program = folder, program
 
-    def run(self, stream: str, **how: Any) -> "subprocess.CompletedProcess[bytes]":
-        return subprocess.run([*self.words, stream], check=True, cwd=self.folder, **how)
+    def run(self, words: Words, **how: Any) -> "subprocess.CompletedProcess[bytes]":
+        return subprocess.run([self.program, *words], check=True, cwd=self.folder, **how)
 
-    def report(self, stream: str) -> bytes:
-        printed: bytes = self.run(stream, stdout=subprocess.PIPE).stdout
+    def printed(self, words: Words) -> bytes:
+        printed: bytes = self.run(words, stdout=subprocess.PIPE).stdout
         return printed
 
-    def seconds(self, stream: str) -> float:
+    def seconds(self, words: Words) -> float:
         """The least seconds by the clock."""
         tries = []
         for _ in range(TRIES):
             start = time.monotonic()
-            self.run(stream, stdout=subprocess.DEVNULL)
+            self.run(words, stdout=subprocess.DEVNULL)
             tries.append(time.monotonic() - start)
         return min(tries)
 
-    def instructions(self, stream: str) -> Optional[int]:
+    def instructions(self, words: Words) -> Optional[int]:
         """The machine instructions, or None where there is no valgrind."""
-        return process.instructions([*self.words, stream], self.folder)
+        return process.instructions([self.program, *words], self.folder)
+
+    def words(self, command: str, name: str, parts: Sequence[bytes]) -> Words:
+        """A command, with the files of an input of these parts."""
+        (self.folder / name).write_bytes(b"".join(parts))
+        if command != CHECK:
+            return [command, name]
+        certificate = f"{name}.certificate"
+        (self.folder / certificate).write_bytes(self.printed([PROVE, name]))
+        return [command, name, certificate]
 
 
 def sides(program: Path, folder: Path) -> Tuple[Side, Side]:
-    """The program and the plain implementation, which is made where there is none."""
+    """The program and the plain implementation, which is made where there is none of today."""
     plain = folder / PLAIN
-    if not plain.exists():
+    if not plain.exists() or plain.stat().st_mtime < max(source.stat().st_mtime for source in HERE.glob("plain*.rs")):
         subprocess.run(["rustc", "-O", "-o", plain, HERE / "plain.rs"], check=True)
-    return Side(folder, Path(program).resolve(), "apply"), Side(folder, plain)
+    return Side(folder, Path(program).resolve()), Side(folder, plain)
 
 
 def compare(row: Row, both: Tuple[Side, Side]) -> bool:
     """Prints what an input costs on both sides, and how the program grows, and answers whether the program is above the bound."""
-    what, made, bound = row
+    what, made, bound, command = row
     is_above = False
     spent: Dict[int, List[float]] = {}
     counts: Dict[int, List[Optional[int]]] = {}
+    nothing = both[0].words(command, "nothing.input", [] if command == APPLY else [Module().bytes()])
     for n in 1, 2:
-        stream = f"beside{n}.stream"
-        (both[0].folder / stream).write_bytes(b"".join(made(n)))
-        reports = [side.report(stream) for side in both]
-        assert reports[0] == reports[1], f"{what}: the reports differ"
-        spent[n] = [side.seconds(stream) for side in both]
-        counts[n] = [difference(side.instructions(stream), side.instructions("nothing.stream")) for side in both]
+        words = both[0].words(command, f"beside{n}.input", made(n))
+        printed = [side.printed(words) for side in both]
+        assert printed[0] == printed[1], f"{what}: what they print differs"
+        spent[n] = [side.seconds(words) for side in both]
+        counts[n] = [difference(side.instructions(words), side.instructions(nothing)) for side in both]
     ours, plain = spent[2]
     line = f"{ours:.3f} s by the clock, plain {plain:.3f} s"
     counted, of_plain, of_half = counts[2][0], counts[2][1], counts[1][0]
@@ -229,7 +253,6 @@ def tell(folder: Path, program: Path = HERE.parent / PROGRAM) -> int:
     folder = Path(folder).resolve()
     folder.mkdir(parents=True, exist_ok=True)
     both = sides(program, folder)
-    (folder / "nothing.stream").write_bytes(b"")
     above = sum(compare(row, both) for row in rows())
     print(f"beside: {above} above a bound")
     return above
