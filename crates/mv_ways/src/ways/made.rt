@@ -19,6 +19,9 @@ struct Group {
 /// How many slots there are. Nodes that share none are found with one look.
 const SLOTS: usize = 64;
 
+/// The most leads of a node for which there is room from the start.
+const FEW_LEADS: u8 = 8;
+
 /// The slot of a node. A local and a place on the stack share one only where there are many of them.
 fn slot_of(node: Node) -> usize
     ensures { result < 64 }
@@ -27,6 +30,16 @@ fn slot_of(node: Node) -> usize
         Node::Slot(index) | Node::Own(index) | Node::Glob(index) => usize::from(index) % SLOTS,
         Node::Temp(place) => SLOTS - 1 - usize::from(place) % SLOTS,
     }
+}
+
+/// How many edges lead to the nodes of each slot: at most 255 are counted.
+fn counts_of(edges: &[Edge]) -> [u8; SLOTS] {
+    let mut counts = [0u8; SLOTS];
+    for e in edges {
+        let slot = slot_of(e.to());
+        counts[slot] = counts[slot].saturating_add(1);
+    }
+    counts
 }
 
 /// Whether a group is of a node.
@@ -55,11 +68,12 @@ fn place_of(groups: &[Group], last: usize, to: Node) -> Option<usize>
     None
 }
 
-/// The place of a node's group, which is made if there is none.
+/// The place of a node's group, which is made if there is none, with room for so many leads, or for a few.
 fn group_at(
     alloc: Global,
     groups: &mut Vec<Group>,
     last: usize,
+    room: u8,
     to: Node,
 ) -> Result<usize, AllocError>
     ensures { IfOk result (IsPlaced to groups.old.items groups.new.items) }
@@ -68,10 +82,8 @@ fn group_at(
         return Ok(place);
     }
     let place = groups.len();
-    groups.push(Group {
-        to,
-        leads: Vec::new(alloc),
-    })?;
+    let leads = Vec::with_capacity(alloc, usize::from(room.min(FEW_LEADS)))?;
+    groups.push(Group { to, leads })?;
     Ok(place)
 }
 
@@ -83,12 +95,13 @@ impl WayGraph {
         ensures same { OnOk result (edges_of self.new ≡ edges_of self.old) }
     {
         let mut groups = Vec::with_capacity(alloc, SLOTS)?;
+        let counts = counts_of(edges);
         let mut places = [usize::MAX; SLOTS];
         for number in 0..edges.len() {
             let e = &edges[number];
             let source = self.source_behind(e.from())?;
             let slot = slot_of(e.to());
-            let place = group_at(alloc, &mut groups, places[slot], e.to())?;
+            let place = group_at(alloc, &mut groups, places[slot], counts[slot], e.to())?;
             places[slot] = place;
             let label = e.label().copy(alloc)?;
             groups[place].leads.push(Lead {
