@@ -1,17 +1,14 @@
 -- What becomes of the edges of a graph of ways where it is changed: what the rules make of a list of them.
-use Rattle.mv_edges.proofs.Common.{[], ℕ, ◌&&◌, ◌++◌, ◌∙◌, ◌∷◌, ◌≡◌, Bool, List, None, Option, Some, ap, append-nil, cond, false, filter, flat_map, length, map, not, option_map, refl, sym}
-use Rattle.mv_edges.proofs.Common.{true, flat_map-append, flat_map-map, option_map_or, Node, Edge, Label, an_edge, but_out_of, inherited, renamed, renamed_node, same_node, without}
+use Rattle.mv_edges.proofs.Common.{[], ℕ, ◌&&◌, ◌∙◌, ◌∷◌, ◌≡◌, Bool, List, None, Option, Some, ap, cond, false, filter, flat_map, map, not, option_map, refl, sym}
+use Rattle.mv_edges.proofs.Common.{true, flat_map-map, option_map_or, Node, Edge, Label, an_edge, but_out_of, inherited, renamed, renamed_node, same_node, without}
 use Rattle.mv_ways.specs.Between.{but_at}
 use Rattle.mv_edges.specs.Edges.{renamed_edge}
 use Rattle.std.proofs.lemmas.Option.{slice_get-map}
-use Rattle.mv_edges.proofs.Common.{slice_get, ltb-true}
-use Rattle.std.specs.Prelude.{nat_lt}
-use Rattle.mv_ways.proofs.Piecewise.{filter_piecewise, map_piecewise, inherited_piecewise, flat_map_nothing, flat_map_passing, flat_map-filter, through}
+use Rattle.mv_edges.proofs.Common.{slice_get}
+use Rattle.mv_ways.proofs.Piecewise.{filter_piecewise, map_piecewise, inherited_piecewise, flat_map_nothing, flat_map-filter, through}
 use Rattle.mv_ways.specs.declared.ways.Reference.{Reference}
-use Rattle.mv_ways.specs.declared.ways.Way.{Way}
 use Rattle.mv_ways.specs.Leads.{Lead}
-use Rattle.mv_ways.specs.Ways.{WayGraph, a_lead, all_leads, are_below, changed_leads, edges_of, gone, lead_edges, leads_at, leads_of, moved, moved_reference, reference_edges, referred, severed, source_at, ways_at}
-use Rattle.mv_ways.proofs.WayGraph.Listing.{leads_at-earlier, leads_at-last}
+use Rattle.mv_ways.specs.Ways.{WayGraph, a_lead, all_leads, changed_leads, edges_of, gone, lead_edges, leads_at, moved, moved_reference, reference_edges, severed, source_at, ways_at}
 
 -- where a source is after a change of all of them
 source_at-map : (h : Option Node → Option Node) → h None ≡ None → (sources : List (Option Node)) (number : ℕ) → source_at (map h sources) number ≡ h (source_at sources number)
@@ -162,22 +159,3 @@ edges_of-taken change n to g =
         by_case false h =
             sym (flat_map_nothing (λ (l : Lead). []) (λ l. refl) leads)
             ∙ through (inherited change n to) (inherited_piecewise change n to) (lead_edges g.sources r.node) (λ l. []) h leads
-
--- ---- one reference more, with a way of its own
-
-reference_edges-earlier : (sources : List (Option Node)) (ways : List Way) (way : Way) (r : Reference) → nat_lt r.way (length ways) ≡ true
-    → reference_edges sources (all_leads (ways ++ way ∷ [])) r ≡ reference_edges sources (all_leads ways) r
-reference_edges-earlier sources ways way r h = ap (flat_map (lead_edges sources r.node)) (leads_at-earlier ways way r.way (ltb-true r.way (length ways) h))
-
-pub edges_of-referred : (n : Node) (way : Way) (g : WayGraph) → are_below (length g.ways) g.references ≡ true
-    → edges_of (referred n way g) ≡ edges_of g ++ flat_map (lead_edges g.sources n) (leads_of (all_leads g.ways) way)
-edges_of-referred n way g below =
-    flat_map-append (reference_edges g.sources (all_leads (g.ways ++ way ∷ []))) g.references (new ∷ [])
-    ∙ ap (λ es. es ++ flat_map (reference_edges g.sources (all_leads (g.ways ++ way ∷ []))) (new ∷ []))
-    (flat_map_passing (λ (r : Reference). nat_lt r.way (length g.ways)) (reference_edges g.sources (all_leads (g.ways ++ way ∷ []))) (reference_edges g.sources (all_leads g.ways))
-    (reference_edges-earlier g.sources g.ways way) g.references below)
-    ∙ ap (λ es. edges_of g ++ es)
-    (append-nil (reference_edges g.sources (all_leads (g.ways ++ way ∷ [])) new) ∙ ap (flat_map (lead_edges g.sources n)) (leads_at-last g.ways way))
-  where
-    new : Reference
-    new = record { node = n; way = length g.ways }
