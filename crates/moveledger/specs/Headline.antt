@@ -7,7 +7,7 @@
 --
 -- Each part of the sentence has its name below, from a run up to a whole input. Records.antt says which records bytes are, and
 -- Outcome.antt which prefix of the report stands where something fails. The ledger that the input meets may be an empty one or one
--- that was loaded, whatever its bytes were: EachLoadIsSound of mv_ledger_state's SavedLaws.antt says that it is sound.
+-- that was loaded, whatever its bytes were: EachLoadIsSound of mv_saved_text's SavedLaws.antt says that it is sound.
 -- OneReport.antt says that an input and a ledger allow one text and one state after it, so that what is said to be there is one thing.
 use Rattle.std.specs.Prelude.{◌≡◌, ℕ, ◌+◌, ◌≤◌, true, List, [], ◌∷◌, ◌++◌, length, Option, Some, None, IfOk, ⊤, ◌⊎◌, flat_map}
 use Rattle.std.specs.List.{AllByRecursion, AllPairs, AllZip}

@@ -68,6 +68,10 @@ fn offer<'a>(reader: &mut Reader<'a>) -> Result<Offered<'a>, Unread>
 }
 
 /// Reads modules with their certificates, of which there are at most so many, after their number.
+///
+/// # Errors
+///
+/// `Cut` or `Malformed` if no such modules stand at the front; `Memory` if an allocation failed.
 #[inline(always)]
 pub fn offers<'a>(
     alloc: Global,
@@ -123,6 +127,10 @@ pub fn read_bundle<'a>(alloc: Global, payload: &'a [u8]) -> Result<Bundle<'a>, R
 }
 
 /// Reads a leaf of a kind.
+///
+/// # Errors
+///
+/// `Phase(2)`, that of malformed bytes, if none stands at the front.
 pub fn leaf(reader: &mut Reader<'_>, kind: LeafKind) -> Result<u128, Refusal>
     ensures ok { IfOk result (λ n. leaf_from kind reader.old ≡ Some (n, reader.new)) }
     ensures range { IfOk result (λ n. IsTrue (number_fits kind n)) }

@@ -67,6 +67,10 @@ fn certified<'a>(
 }
 
 /// An offered module with what it passed: phases 2 to 12 in order.
+///
+/// # Errors
+///
+/// The first phase that it fails; `Memory`, where a growth was refused.
 pub fn verified<'a>(alloc: Global, offer: &Offered<'a>) -> Result<New<'a>, Refusal>
     ensures text { IfOk result (λ n. n.text.now ≡ offer.now.text.now) }
     ensures certificate { IfOk result (λ n. n.certificate.now ≡ offer.now.certificate.now) }
@@ -86,6 +90,10 @@ pub fn verified<'a>(alloc: Global, offer: &Offered<'a>) -> Result<New<'a>, Refus
 }
 
 /// The offered modules with what they passed, tried one after the other.
+///
+/// # Errors
+///
+/// The first phase that the first of them fails that fails one; `Memory`, where a growth was refused.
 pub fn all_verified<'a>(alloc: Global, offers: &[Offered<'a>]) -> Result<Vec<New<'a>>, Refusal>
     ensures passed { IfOk result (λ v. AllPass (offers_of offers.now) (published_of v.items)) }
     ensures texts { IfOk result (λ v. AreTexts v.items) }
