@@ -66,5 +66,5 @@ class Docs(Cases):
             for name, text in examples.items():
                 (source / f"of_{name}.rt").write_text(text.replace("fn example(", "pub fn example(") + "\n")
             ran = subprocess.run(["rt", "try"], cwd=source.parent, stdout=subprocess.PIPE, stderr=subprocess.STDOUT, text=True)
-        self.note("the examples compile", ran.stdout if ran.returncode else "")
+        self.note("the examples compile", f"status {ran.returncode}: {ran.stdout}" if ran.returncode else "")
         self.note("each library has an example", f"not {' '.join(lacking)}" if lacking else "")

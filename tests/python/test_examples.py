@@ -76,7 +76,7 @@ class Examples(Cases):
             if self.note(f"{name}: the text's bytes", fault_of(made_stream(report.with_suffix(".text"), self.folder), stream.read_bytes())):
                 self.note(f"{name}: the report", fault_of(applied(stream), report.read_text(encoding="utf-8")))
                 ended = outcome([TOOLS / "movetest", "--moveledger", program(), report.with_suffix(".test")])
-                self.note(f"{name}: the cases of its test file", ended.printed + ended.said if ended.status else "")
+                self.note(f"{name}: the cases of its test file", f"status {ended.status}: {ended.printed}{ended.said}" if ended.status else "")
 
     def test_ledgers(self) -> None:
         """The saved ledger of the examples, as it is saved and as it is migrated."""

@@ -228,7 +228,7 @@ class Saved(Cases):
         """What came of texts. Notes each that went wrong, up to ten, or all together."""
         counts, wrong = all_tried(self.program, self.pool, texts)
         for name, word, text in wrong[:10]:
-            self.note(f"{name}: {word}", text.hex())
+            self.note(name, f"{word}\n    {text.hex()}")
         if not wrong:
             self.note(f"{sum(counts.values())} texts in {time.monotonic() - self.began:.0f} s: {dict(sorted(counts.items()))}")
         return counts
