@@ -321,7 +321,7 @@ def at_random() -> List[Offered]:
 
 
 def summary() -> str:
-    return ", ".join(f"{count} {what}" for what, count in trial().counts.items())
+    return ", ".join(f"{count} {what}" for what, count in trial().counts.items()) or "as it should be"
 
 
 class Text(Cases):
