@@ -9,11 +9,10 @@ from pathlib import Path
 from typing import Dict, Iterator, List, Mapping, Set, Tuple
 
 from common import CRATES, crates
-from must_fail import functions_of
+from sources import code_of, functions_of, is_test, text_of, without_contract
 
 # Calls that the language makes by itself, without a word.
 IMPLIED = {"drop", "next", "fmt", "from", "eq", "cmp", "partial_cmp", "deref", "deref_mut", "source", "default", "write", "read", "flush"}
-CLAUSE = re.compile(r"^\s*(?:requires|ensures|ghost(?! use))\b")
 
 
 @dataclass
@@ -30,37 +29,6 @@ class Function:
     is_of_trait: bool
 
 
-@lru_cache(maxsize=None)
-def code_of(file: Path) -> List[str]:
-    """The lines of a file without comments."""
-    return [re.sub(r"(?<!:)//.*", "", line) for line in file.read_text(encoding="utf-8").split("\n")]
-
-
-@lru_cache(maxsize=None)
-def text_of(file: Path) -> str:
-    """The text of a file without comments."""
-    return "\n".join(code_of(file))
-
-
-def body_of(lines: List[str]) -> str:
-    """A function's lines without its contract."""
-    kept: List[str] = []
-    is_clause = False
-    for line in lines:
-        if CLAUSE.match(line):
-            is_clause = True
-        elif line.strip() == "{" or re.match(r"^\s*(?:pub(?:\([^)]*\))? )?(?:const )?fn ", line):
-            is_clause = False
-        if not is_clause:
-            kept.append(line)
-    return "\n".join(kept)
-
-
-def is_test(file: Path) -> bool:
-    parts = file.relative_to(CRATES).parts
-    return parts[0].endswith("tests") or "tests" in parts or file.name == "tests.rt"
-
-
 def functions() -> Iterator[Function]:
     """All functions but those of tests."""
     for crate in crates():
@@ -73,7 +41,7 @@ def functions() -> Iterator[Function]:
                 text = "\n".join(span)
                 if re.search(r"^\s*#\[test\]", text, re.M):
                     continue
-                body = body_of(span)
+                body = without_contract(span)
                 heads = [line for line in lines[: function.first + 1] if line.startswith(("impl", "pub trait", "trait", "}"))]
                 is_of_trait = bool(heads) and (" for " in heads[-1] or "trait" in heads[-1])
                 is_root = 'extern "C"' in text or function.name in IMPLIED or (file.name == "main.rt" and function.name == "main")

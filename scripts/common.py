@@ -15,6 +15,7 @@ TESTS = CRATES / "moveledger_tests/src/tests"
 COMMAND_TESTS = CRATES / "moveledger_command_tests/src/tests"
 EXAMPLES = TOP / "examples"
 TOOLS = TOP / "tools"
+PYTHON_TESTS = TOP / "tests/python"
 # Where a build leaves the program, from the top.
 BUILT = "crates/moveledger_program/out/moveledger_program"
 
@@ -28,6 +29,12 @@ def use_tools() -> None:
     """Lets the scripts import the package movetext."""
     if str(TOOLS) not in sys.path:
         sys.path.insert(0, str(TOOLS))
+
+
+def use_tests() -> None:
+    """Lets the scripts import the modules of tests/python."""
+    if str(PYTHON_TESTS) not in sys.path:
+        sys.path.insert(0, str(PYTHON_TESTS))
 
 
 def arguments(description: Optional[str]) -> argparse.ArgumentParser:
@@ -92,6 +99,12 @@ class Comparison:
         """Prints how it came out, and answers the status of the script."""
         print(f"{self.name}: {self.wrong} of {self.tried} wrong" if self.wrong or not self.tried else f"{self.name}: {passed}")
         return 1 if self.wrong or not self.tried else 0
+
+
+def name_of(line: str) -> str:
+    """What the words of a quick script go by: its name, or that of the test that scripts/test runs."""
+    first, *rest = line.split()
+    return rest[0].partition(".")[0] if first == "test" else first
 
 
 def crates(with_static: bool = True) -> Dict[str, Tuple[str, ...]]:

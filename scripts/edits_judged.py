@@ -7,7 +7,8 @@ from pathlib import Path
 from typing import Dict, Iterator, List, NamedTuple, Optional, Set, Tuple
 
 from common import CRATES
-from must_fail import Edit, Function, Place, complaints, edits_of, functions_of
+from must_fail import Edit, Place, complaints, edits_of
+from sources import Function, functions_of
 
 CONSTANT = re.compile(r"^(?:pub(?:\([^)]*\))? )?(?:const|static) \w+:")
 

@@ -9,7 +9,8 @@ from pathlib import Path
 from typing import Dict, List, NamedTuple, Optional, Set, Tuple
 
 from common import CRATES, TOP, crates, processors
-from must_fail import Edit, Place, functions_of
+from must_fail import Edit, Place
+from sources import functions_of
 
 PARTS = "src", "specs", "proofs"
 # What a check of a few functions takes at most of those that were measured, in bytes.

@@ -1,5 +1,4 @@
-"""The must-fail edits of the crates, as they stand in `must-fail/`; the functions of a file, which they change; and what a check says of the
-proofs of these."""
+"""The must-fail edits of the crates, as they stand in `must-fail/`, and what a check says of the proofs of the functions that they change."""
 
 import re
 from dataclasses import dataclass, field
@@ -12,7 +11,6 @@ MORE = "more.md "  # how the name of an edit begins that stands there
 TAKEN = re.compile(r"which was rejected|has no field|has no `|is not in scope|was not admitted")
 # What it says where the prover met a limit of its own, so that nothing was decided.
 LIMIT = re.compile(r"stopped at the step limit|outgrew the memory limit|antt ran out of")
-FUNCTION = re.compile(r"^( *)(?:pub(?:\([^)]*\))? )?(?:const )?(?:unsafe )?(?:extern \"C\" )?fn (\w+)")
 
 
 class Change(NamedTuple):
@@ -41,42 +39,6 @@ class Edit:
 
     def __str__(self) -> str:
         return f"{self.crate}/must-fail/{self.name}"
-
-
-@dataclass
-class Function:
-    name: str
-    first: int
-    last: int
-
-
-def functions_of(text: str) -> List[Function]:
-    """The functions of a file in their order; a function's lines begin behind the one before it. One of a trait may have no body: it ends
-    with the first line that ends in a semicolon before a body begins."""
-    found: List[Function] = []
-    lines, at = text.split("\n"), 0
-    while at < len(lines):
-        match = FUNCTION.match(lines[at])
-        if match:
-            start = found[-1].last + 1 if found else 0
-            at = end_of(lines, at, match[1])
-            found.append(Function(match[2], start, at))
-        at += 1
-    return found
-
-
-def end_of(lines: List[str], first: int, indent: str) -> int:
-    """The last line of the function that begins at a line, which is indented so."""
-    begun = lines[first].rstrip()
-    if begun.endswith((";", "}")):
-        return first
-    has_body = begun.endswith("{")
-    for at in range(first + 1, len(lines)):
-        line = lines[at].rstrip()
-        if line in (indent + "{}", indent + "}", indent + "};") or (not has_body and line.endswith(";")) or line.endswith(";;"):
-            return at
-        has_body = has_body or line == indent + "{" or (line.startswith(indent + ")") and line.endswith("{"))
-    return len(lines) - 1
 
 
 def parsed(crate: str, name: str, lines: List[str]) -> Edit:

@@ -7,20 +7,22 @@ import importlib
 import json
 import os
 import resource
-import runpy
 import subprocess
 import sys
 import time
 import unittest
-from typing import IO, Any, Callable, Dict, Iterator, List, NamedTuple
+from typing import IO, Callable, Iterator, List, NamedTuple
 
 import reached
-from common import TOP, arguments
+from common import TOP, arguments, use_tests
+
+use_tests()
+
+import test_mistakes  # noqa: E402
 
 UNIT, MISTAKE, SCRIPT = "unit", "mistake", "script"
 # So much address space a test may use: a mutant may ask for memory without end.
 MOST_BYTES = 3 << 30
-MISTAKES = TOP / "scripts/try-mistakes"
 # What most tests import; a mutant may not let it be imported.
 COMMON = "movetext.making", "movetext.disassembler", "movetext.testing"
 
@@ -43,17 +45,15 @@ def units(suite: unittest.TestSuite) -> Iterator[Test]:
 def known(folder: str) -> List[Test]:
     """The unit tests of a folder, and the mistakes for that of the text tools."""
     found = list(units(unittest.defaultTestLoader.discover(folder, top_level_dir=folder)))
-    count = len(mistakes()[1]) if folder.endswith("tools") else 0
+    count = len(mistakes()) if folder.endswith("tools") else 0
     return found + [Test(MISTAKE, str(number)) for number in range(count)]
 
 
-def mistakes() -> Any:
-    """What the script of mistakes has, and all mistakes of its files."""
-    script: Dict[str, Any] = runpy.run_path(str(MISTAKES))
-    return script, [one for path in sorted(script["FOLDER"].glob("*.txt")) for one in script["mistakes_in"](path)]
+def mistakes() -> List[test_mistakes.Mistake]:
+    return [one for mistakes in test_mistakes.every_file().values() for one in mistakes]
 
 
-def tried(test: Test, script: Dict[str, Any], told: List[Any]) -> bool:
+def tried(test: Test, told: List[test_mistakes.Mistake]) -> bool:
     """Whether a test passes."""
     if test.kind == UNIT:
         result = unittest.TestResult()
@@ -61,7 +61,7 @@ def tried(test: Test, script: Dict[str, Any], told: List[Any]) -> bool:
         return result.wasSuccessful() and result.testsRun > 0
     if test.kind == MISTAKE:
         one = told[int(test.name)]
-        return bool(script["made"](one) == (one.status, one.wanted))
+        return test_mistakes.made(one) == (one.status, one.wanted)
     return subprocess.run(test.name.split(), cwd=TOP).returncode == 0
 
 
@@ -96,11 +96,11 @@ def run(tests: List[Test], told_to: IO[str]) -> None:
     """Runs tests up to the first that fails."""
     print("begin 0", file=told_to)
     load(tests)
-    script, told = mistakes() if any(it.kind == MISTAKE for it in tests) else ({}, [])
+    told = mistakes() if any(it.kind == MISTAKE for it in tests) else []
     for number, test in enumerate(tests):
         print(f"begin {number}", file=told_to)
         began = time.monotonic()
-        passes = in_own_process(number, lambda: tried(test, script, told))
+        passes = in_own_process(number, lambda: tried(test, told))
         print(f"{'passed' if passes else 'failed'} {number} {time.monotonic() - began:.3f}", file=told_to)
         if not passes:
             break

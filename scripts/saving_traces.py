@@ -8,9 +8,13 @@ import subprocess
 from pathlib import Path
 from typing import Any, Dict, Iterator, List, NamedTuple, Optional, Set, Tuple
 
-from exits_run import OLD, SAVED, STREAM
+from common import use_tests
 from saving_disk import Disk, Explorer
 from saving_protocol import BARE, EMPTY, LOCK, NEW, PLACE, PREVIOUS, Content, Saver
+
+use_tests()
+
+from exits_run import OLD, SAVED, STREAM  # noqa: E402
 
 CHANGES = "opencreate", "lock", "create", "write", "sync", "syncdir", "link", "rename", "unlink"
 # A call of strace's: its name, its words, and what it gave. With -y a descriptor has its path.

@@ -1,4 +1,4 @@
-"""The limits, each once: the table of docs/FORMATS.md has them, and scripts/try-text compares it with these."""
+"""The limits, each once: the table of docs/FORMATS.md has them, and tests/python/test_text.py compares it with these."""
 
 # The greatest index, and the most entries of each kind that a module holds.
 INDEX = 65_535

@@ -14,7 +14,8 @@ sys.path.insert(0, str(TOP / "scripts"))
 
 from edits_listed import clauses  # noqa: E402
 from edits_over import PARTS, Libraries, owner_of  # noqa: E402
-from must_fail import complaints, functions_of  # noqa: E402
+from must_fail import complaints  # noqa: E402
+from sources import functions_of  # noqa: E402
 
 TRAIT = """/// What is known.
 pub trait Domain {

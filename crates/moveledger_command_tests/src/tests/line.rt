@@ -1,4 +1,4 @@
-// The command line, and how the program ends. The words that are refused stand in scripts/try-exits.
+// The command line, and how the program ends. The words that are refused stand in tests/python/test_exits.py.
 
 use moveledger::{
     End, EngineError, KeepError, LimitError, ProveError, Task, command, end_of, end_of_check,

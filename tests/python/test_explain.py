@@ -1,48 +1,43 @@
-#!/usr/bin/env python3
-"""Compares what `tools/movedis --explain` says of modules and streams with what the program answers: the phase that refuses a
-bundle, the certificate that `prove` makes, how each run ends, what is shown and audited, and whether a saved ledger is loaded.
-Over a refused module for each rule (docs/REFUSALS.md, whose words are compared too), the examples, the bytes in the tests,
-modules made at random, alone and in bundles that name each other, runs of them, ledgers that they leave, and altered ones.
-The gate runs it over fewer modules and altered ones.
-
-usage: scripts/try-explain [--seed N] [--random N] [--altered N] [--runs N] [--moveledger PROGRAM] [FILE ...]
-       scripts/try-explain --make    writes what is said into docs/REFUSALS.md"""
+"""Compares what `tools/movedis --explain` says of modules and streams with what the program answers: the phase that refuses a bundle, the
+certificate that `prove` makes, how each run ends, what is shown and audited, and whether a saved ledger is loaded. Over a refused module
+for each rule (docs/REFUSALS.md, whose words are compared too), the examples, the bytes in the tests, modules made at random, alone and in
+bundles that name each other, runs of them, ledgers that they leave, and altered ones. The gate runs it over fewer modules and altered
+ones. `scripts/test --make explain` writes what is said into docs/REFUSALS.md."""
 
 import copy
 import random
 import re
 import subprocess
-import sys
 import tempfile
 import textwrap
 import time
+from functools import lru_cache
 from pathlib import Path
 from typing import Counter, Dict, Iterable, Iterator, List, Match, Optional, Sequence, Tuple, Union
 
-from common import COMMAND_TESTS, EXAMPLES, TESTS, TOP, add_seed, arguments, program, seed_of, use_tools
+from cases import Cases, Given, program
+from common import COMMAND_TESTS, EXAMPLES, TESTS, TOP
+from movetext import model
+from movetext.errors import Source
+from movetext.explain.answers import Answer, answers
+from movetext.explain.forgiving import certificate_for
+from movetext.explain.ledger import Ledger
+from movetext.explain.subject import Subject
+from movetext.explain.telling import module_explained, stream_explained
+from movetext.explain.verdict import explain_module
+from movetext.ledgers import read_ledger
+from movetext.opcodes import OPCODES
+from movetext.proving import Prover
+from movetext.random_borrows import random_borrowing_text
+from movetext.random_code import random_typed_module
+from movetext.random_modules import random_module, random_value
+from movetext.reader import read_module
+from movetext.records import read_stream
+from movetext.samples import altered, given_bytes, modules_in
+from movetext.streaming import TextAssembler
+from movetext.writer import write_certificate, write_ledger, write_module, write_record
 
-use_tools()
-
-from movetext import model  # noqa: E402
-from movetext.errors import Source  # noqa: E402
-from movetext.explain.answers import Answer, answers  # noqa: E402
-from movetext.explain.forgiving import certificate_for  # noqa: E402
-from movetext.explain.ledger import Ledger  # noqa: E402
-from movetext.explain.subject import Subject  # noqa: E402
-from movetext.explain.telling import module_explained, stream_explained  # noqa: E402
-from movetext.explain.verdict import explain_module  # noqa: E402
-from movetext.ledgers import read_ledger  # noqa: E402
-from movetext.opcodes import OPCODES  # noqa: E402
-from movetext.proving import Prover  # noqa: E402
-from movetext.random_borrows import random_borrowing_text  # noqa: E402
-from movetext.random_code import random_typed_module  # noqa: E402
-from movetext.random_modules import random_module, random_value  # noqa: E402
-from movetext.reader import read_module  # noqa: E402
-from movetext.records import read_stream  # noqa: E402
-from movetext.samples import altered, given_bytes, modules_in  # noqa: E402
-from movetext.streaming import TextAssembler  # noqa: E402
-from movetext.writer import write_certificate, write_ledger, write_module, write_record  # noqa: E402
-
+IS_RANDOM = True
 REFUSALS = TOP / "docs/REFUSALS.md"
 # So many records are given to the program at once: a module that takes another's place is asked beside all that are published.
 RECORDS = 100
@@ -56,13 +51,9 @@ ADDRESSES = [bytes(15) + bytes([n]) for n in range(1, 5)]
 # A text of docs/REFUSALS.md, which stands by itself on lines that begin with blanks, and what is said of it.
 EXAMPLE = re.compile(r"^( {4}.*\n(?:(?: {4}.*)?\n)*)(?:```\n((?:(?!```).*\n)*)```\n)?", re.M)
 # A module and its certificate; records by world, the modules in them, and records with other certificates.
-Given = Tuple[bytes, bytes]
-World = Tuple[List[List[bytes]], List[Given], List[bytes]]
+Offered = Tuple[bytes, bytes]
+World = Tuple[List[List[bytes]], List[Offered], List[bytes]]
 NOT_PROVED = re.compile("refused [0-9]+|too complex")
-
-
-class Failed(Exception):
-    """What differs."""
 
 
 class Comparison:
@@ -296,7 +287,7 @@ def try_tests(comparison: Comparison) -> None:
                 comparison.differ(f"authoring.rt: {answer} stands there, and --explain says {failure}", [digits, stated])
 
 
-def try_given(comparison: Comparison, paths: Iterable[Path]) -> List[Given]:
+def try_given(comparison: Comparison, paths: Iterable[Path]) -> List[Offered]:
     """What stands in files: streams as they are, and each module in a record of its own and without a certificate."""
     found = dict(given_bytes(paths))
     modules: Dict[bytes, bytes] = {}
@@ -320,7 +311,7 @@ def random_records(draw: random.Random, count: int) -> World:
     """Records of modules made at random, so many for an empty ledger; the modules with their certificates; and records of some
     of them with certificates that state something else."""
     records: List[List[bytes]] = []
-    made: List[Given] = []
+    made: List[Offered] = []
     others: List[bytes] = []
     while len(made) < count:
         more, modules, loose = random_world(draw, min(count - len(made), RECORDS))
@@ -330,13 +321,13 @@ def random_records(draw: random.Random, count: int) -> World:
     return records, made, others
 
 
-def random_world(draw: random.Random, count: int) -> Tuple[List[bytes], List[Given], List[bytes]]:
+def random_world(draw: random.Random, count: int) -> Tuple[List[bytes], List[Offered], List[bytes]]:
     """Records of modules made at random, the modules with their certificates, and records of some that state something else.
     Three of four find the types that they need: half borrow much, some take the places of others, or come in bundles."""
     ledger = Ledger()
     world: List[model.Module] = []
     records: List[bytes] = []
-    made: List[Given] = []
+    made: List[Offered] = []
     others: List[bytes] = []
     while len(made) < count:
         if len(made) % 4 == 0:
@@ -389,7 +380,7 @@ def random_linked(draw: random.Random, world: List[model.Module], number: int) -
     return random_typed_module(draw, (SENDER, f"M{number}"), others, errors, needs)
 
 
-def altered_records(draw: random.Random, bases: List[Given], count: int) -> Iterator[bytes]:
+def altered_records(draw: random.Random, bases: List[Offered], count: int) -> Iterator[bytes]:
     """Records of altered modules: of their bytes, of what they say, or of their certificates' bytes."""
     bases = [one for one in bases if len(one[0]) < 4_000]
     for _ in range(count):
@@ -402,7 +393,7 @@ def altered_records(draw: random.Random, bases: List[Given], count: int) -> Iter
         yield record_of((data, write_certificate(certificate_for(data))), sender=own_address(data))
 
 
-def try_random(comparison: Comparison, seed: str, counts: Tuple[int, int], given: List[Given]) -> None:
+def try_random(comparison: Comparison, seed: str, counts: Tuple[int, int], given: List[Offered]) -> None:
     """Modules made at random, and altered ones."""
     draw = random.Random(f"{seed} random")
     worlds, made, others = random_records(draw, counts[0])
@@ -530,7 +521,7 @@ def said_of(text: str) -> Tuple[bytes, str]:
     return data, "\n".join(said.lines) + "\n"
 
 
-def make_refusals() -> None:
+def make() -> None:
     """Writes what is said of each text into docs/REFUSALS.md."""
     def with_words(found: Match[str]) -> str:
         after = "" if found[2] is not None else "\n"
@@ -572,35 +563,54 @@ def try_programs(comparison: Comparison, stream: Path) -> None:
                 comparison.differ(f"movedis --explain {words}: status {ended.returncode}", [ended.stdout.decode()])
 
 
-def main() -> int:
-    words = arguments(__doc__)
-    add_seed(words)
-    words.add_argument("--random", type=int, default=3_000, help="how many modules are made at random")
-    words.add_argument("--altered", type=int, default=10_000, help="how many are altered")
-    words.add_argument("--runs", type=int, default=2_000, help="how many runs are made at random")
-    words.add_argument("--moveledger", metavar="PROGRAM", help="the program to compare with, if not that of these sources")
-    words.add_argument("--make", action="store_true", help="write what is said into docs/REFUSALS.md, and compare nothing")
-    words.add_argument("files", nargs="*", type=Path, metavar="FILE", help="more files with bytes in hexadecimal")
-    given = words.parse_args()
-    if given.make:
-        make_refusals()
-        return 0
-    seed = seed_of(given)
-    comparison = Comparison(given.moveledger or str(program()))
-    try_refusals(comparison)
-    try_hostile(comparison)
-    try_programs(comparison, EXAMPLES / "upgrade.stream")
-    try_tests(comparison)
-    files = [*sorted(EXAMPLES.glob("*.stream")), *sorted(TESTS.rglob("*.rt")), *given.files]
-    found = try_given(comparison, files)
-    try_random(comparison, seed, (given.random, given.altered), found)
-    try_runs(comparison, seed, given.runs)
-    for part, counts in comparison.counts.items():
-        told = ", ".join(f"{count} {answer}" for answer, count in sorted(counts.items(), key=str))
-        print(f"{part}: {sum(counts.values())} compared ({told})")
-    print(f"failed: {len(comparison.differences)} differ" if comparison.differences else "passed: all compare equal")
-    return 1 if comparison.differences else 0
+@lru_cache(maxsize=None)
+def comparison() -> Comparison:
+    return Comparison(program())
 
 
-if __name__ == "__main__":
-    sys.exit(main())
+@lru_cache(maxsize=None)
+def in_files() -> List[Offered]:
+    """The modules in files, which are compared once."""
+    return try_given(comparison(), [*sorted(EXAMPLES.glob("*.stream")), *sorted(TESTS.rglob("*.rt")), *map(Path, Given.files)])
+
+
+def summary() -> str:
+    return "all compare equal"
+
+
+class Explain(Cases):
+    """What --explain says, beside what the program answers."""
+
+    @classmethod
+    def tearDownClass(cls) -> None:
+        for part, counts in comparison().counts.items():
+            told = ", ".join(f"{count} {answer}" for answer, count in sorted(counts.items(), key=str))
+            print(f"{part}: {sum(counts.values())} compared ({told})")
+
+    def setUp(self) -> None:
+        self.before = len(comparison().differences)
+
+    def tearDown(self) -> None:
+        count = len(comparison().differences) - self.before
+        self.assertEqual(count, 0, f"{count} differ")
+
+    def test_refusals(self) -> None:
+        try_refusals(comparison())
+
+    def test_hostile(self) -> None:
+        try_hostile(comparison())
+
+    def test_programs(self) -> None:
+        try_programs(comparison(), EXAMPLES / "upgrade.stream")
+
+    def test_tests(self) -> None:
+        try_tests(comparison())
+
+    def test_given(self) -> None:
+        self.assertTrue(in_files())
+
+    def test_random(self) -> None:
+        try_random(comparison(), Given.seed, (Given.random, Given.altered), in_files())
+
+    def test_runs(self) -> None:
+        try_runs(comparison(), Given.seed, Given.runs)

@@ -1,26 +1,20 @@
-#!/usr/bin/env python3
 """Gives tools/moveasm texts and command lines with errors, and compares its exit status and what it says, with what each caret marks; and
-sees that the text tools leave other files as they are, and never end in a traceback. The gate runs it too.
-usage: scripts/try-moveasm [PART..]"""
+sees that the text tools leave other files as they are, and never end in a traceback."""
 
 import os
 import pty
 import re
 import signal
 import subprocess
-import sys
-import tempfile
 from pathlib import Path
-from typing import IO, Callable, Dict, Iterator, List, Optional, Sequence, Tuple, Union
+from typing import IO, List, Optional, Sequence, Tuple, Union
 
-from common import TOOLS, TOP, Comparison, arguments, use_tools
-
-use_tools()
-
-from movetext import VERSION  # noqa: E402
-from movetext.errors import Source, TextErrors  # noqa: E402
-from movetext.proving import Prover  # noqa: E402
-from movetext.streaming import TextAssembler  # noqa: E402
+from cases import Cases, Found, add_tests
+from common import TOOLS, TOP
+from movetext import VERSION
+from movetext.errors import Source, TextErrors
+from movetext.proving import Prover
+from movetext.streaming import TextAssembler
 
 TOOL = TOOLS / "moveasm"
 USAGE = "\n\nUsage: moveasm [OPTIONS] <FILE>\n\nFor more information, try '--help'.\n"
@@ -219,7 +213,7 @@ def told(text: str) -> Tuple[int, List[str]]:
     return 0, []
 
 
-def cases_of_texts(_folder: Path) -> Iterator[Tuple[str, object, object]]:
+def cases_of_texts(_folder: Path) -> Found:
     """What each text with an error shows, how it ended, and how it has to end."""
     yield "a text with an error", refused(MODULE % LINES[0][0]), (3, [f"7:{LINES[0][1]}"])
     found = tried([MODULE % line for line, _ in LINES])
@@ -231,7 +225,7 @@ def cases_of_texts(_folder: Path) -> Iterator[Tuple[str, object, object]]:
     yield "no UTF-8", refused(b"show // \xff"), (3, ["1:9: the byte FF isn't UTF-8; save the text as UTF-8"])
 
 
-def cases_of_words(_folder: Path) -> Iterator[Tuple[str, object, object]]:
+def cases_of_words(_folder: Path) -> Found:
     """Command lines. Help and version go to standard output, the help in short lines that name the version."""
     for words, status, said in WORDS:
         outcome = ended(words)
@@ -244,7 +238,7 @@ def cases_of_words(_folder: Path) -> Iterator[Tuple[str, object, object]]:
         yield f"{name} --version", (run.returncode, run.stdout, run.stderr), (0, f"{name} {VERSION}\n", "")
 
 
-def cases_of_files(folder: Path) -> Iterator[Tuple[str, object, object]]:
+def cases_of_files(folder: Path) -> Found:
     """The same of texts that name files and programs."""
     program = Path(folder, "refuses")
     program.write_text("#!/bin/sh\necho refused 8\nexit 3\n")
@@ -276,7 +270,7 @@ def cases_of_files(folder: Path) -> Iterator[Tuple[str, object, object]]:
         3, ["2:12: this module is refused: refused 8 (stack and types)"])
 
 
-def cases_of_outputs(folder: Path) -> Iterator[Tuple[str, object, object]]:
+def cases_of_outputs(folder: Path) -> Found:
     """What stands where an output goes is left as it is where it is an input, or of another kind."""
     text, out, link, hard = (folder / name for name in ("x.text", "x.stream", "link", "hard"))
     text.write_text("show\n")
@@ -356,7 +350,7 @@ BURN = """module 0x1::M {
 """
 
 
-def cases_of_warnings(folder: Path) -> Iterator[Tuple[str, object, object]]:
+def cases_of_warnings(folder: Path) -> Found:
     """An entry function that takes from any address is warned of, unless the text or the command line says that it is meant."""
     text = folder / "x.text"
     anybody = ["4:16: anybody can take any `Coin`: `burn` is entry, and has an address and no signer; take a signer too, and test that "
@@ -385,7 +379,7 @@ FOREVER = """publish by 0x1 {
 """ + 40 * "run 0x1::M::f() by 0x1 budget 10_000_000\n"
 
 
-def cases_of_bounds(folder: Path) -> Iterator[Tuple[str, object, object]]:
+def cases_of_bounds(folder: Path) -> Found:
     """An explanation takes ten seconds and 500 MB at most, unless the command line allows more, or less."""
     text, stream, zeros = (folder / name for name in ("x.text", "x.stream", "zeros"))
     text.write_text(FOREVER)
@@ -405,7 +399,7 @@ def cases_of_bounds(folder: Path) -> Iterator[Tuple[str, object, object]]:
         1, "fault: time: not done within 10 seconds; '--seconds <SECONDS>' allows more\n")
 
 
-def cases_of_kinds(folder: Path) -> Iterator[Tuple[str, object, object]]:
+def cases_of_kinds(folder: Path) -> Found:
     """What is said of a file of another kind."""
     for data, what in ((b"\3\0", "a stream"), (bytes.fromhex("a11ceb0b05000000000000"), "a module"), (b"MVL2\0\0", "a saved ledger")):
         file = folder / "x"
@@ -418,7 +412,7 @@ def cases_of_kinds(folder: Path) -> Iterator[Tuple[str, object, object]]:
             3, f"{file}: this is a text, not bytes: `tools/moveasm {file}` makes its bytes\n")
 
 
-def cases_of_streams(folder: Path) -> Iterator[Tuple[str, object, object]]:
+def cases_of_streams(folder: Path) -> Found:
     """Closed streams, a reader that goes away, Ctrl-C and bytes that nest: a message or none, and never a traceback."""
     text = folder / "x.text"
     text.write_text("show\n" * 20_000)
@@ -460,23 +454,12 @@ def cases_of_streams(folder: Path) -> Iterator[Tuple[str, object, object]]:
     yield "braces without end", (status, "Traceback" in message), (3, False)
 
 
-PARTS: Dict[str, Callable[[Path], Iterator[Tuple[str, object, object]]]] = {
-    "texts": cases_of_texts, "words": cases_of_words, "files": cases_of_files, "bounds": cases_of_bounds, "outputs": cases_of_outputs,
-    "warnings": cases_of_warnings, "kinds": cases_of_kinds, "streams": cases_of_streams,
-}
+class Moveasm(Cases):
+    """What moveasm says, and what it leaves as it is."""
+
+    def same(self, shows: str, found: object, wanted: object) -> bool:
+        return super().same(repr(shows), found, wanted)
 
 
-def main() -> int:
-    words = arguments(__doc__)
-    words.add_argument("parts", nargs="*", metavar="PART", choices=[*PARTS, []], help=f"only these: {', '.join(PARTS)}")
-    given = words.parse_args()
-    comparison = Comparison("try-moveasm")
-    for name in given.parts or PARTS:
-        with tempfile.TemporaryDirectory() as folder:
-            for shows, found, wanted in PARTS[name](Path(folder)):
-                comparison.same(repr(shows), found, wanted)
-    return comparison.end(f"all {comparison.tried} as they should be")
-
-
-if __name__ == "__main__":
-    sys.exit(main())
+add_tests(Moveasm, [cases_of_texts, cases_of_words, cases_of_files, cases_of_bounds, cases_of_outputs, cases_of_warnings, cases_of_kinds,
+                    cases_of_streams], Path)

@@ -1,4 +1,4 @@
-"""What try-exits tries of ledgers that are loaded, saved and migrated, each in a folder of its own."""
+"""What test_exits.py tries of ledgers that are loaded, saved and migrated, each in a folder of its own."""
 
 import fcntl
 import os
@@ -7,9 +7,10 @@ import subprocess
 from pathlib import Path
 from typing import Callable, Iterator, List, Optional, Sequence, Tuple
 
+from cases import Found
 from common import has
 from exits_run import (
-    COUNTED, EMPTY, FIRST, KEPT, MEMORY, NOT_KEPT, OLD, OLD_FORM, PATIENCE, READ, REPORT, SAVED, STREAM, WRITE, Cases, End, Given, Running,
+    COUNTED, EMPTY, FIRST, KEPT, MEMORY, NOT_KEPT, OLD, OLD_FORM, PATIENCE, READ, REPORT, SAVED, STREAM, WRITE, End, Given, Running,
     Shelf, closes, ended, explained, fault_in, limits, line_from, mint_by, no_bytes, nobody, not_kept, program, saved)
 
 IN_USE = "another program has this ledger in use"
@@ -29,7 +30,7 @@ def refused_ledgers() -> Iterator[Tuple[bytes, int]]:
     yield b"", 1
 
 
-def loaded_and_saved(folder: str) -> Cases:
+def loaded_and_saved(folder: str) -> Found:
     """What comes of ledgers that are begun with, and kept."""
     shelf = Shelf(folder)
     audit, none = shelf.file("audit", b"\4\0"), shelf.file("none", b"")
@@ -94,7 +95,7 @@ FRONTS: List[Tuple[str, bytes, End]] = [
 ]
 
 
-def much_is_given(shelf: Shelf, audit: Path) -> Cases:
+def much_is_given(shelf: Shelf, audit: Path) -> Found:
     """What comes of files that are long, or don't end: their first bytes tell that they are no ledgers."""
     few = limits(500)
     for shows, front, refused in FRONTS:
@@ -126,7 +127,7 @@ def lock_of(path: Path) -> Path:
     return path.with_name(f".moveledger-lock-{path.name}")
 
 
-def in_use(folder: str) -> Cases:
+def in_use(folder: str) -> Found:
     """What comes of a ledger that two programs go on with."""
     found: object
     shelf = Shelf(folder)
@@ -172,7 +173,7 @@ def in_use(folder: str) -> Cases:
     yield from at_once(shelf, both, kept)
 
 
-def locked(shelf: Shelf, kept: Path) -> Cases:
+def locked(shelf: Shelf, kept: Path) -> Found:
     """What comes of locks that others hold, or that can't be had."""
     found: object
     shelf.file("kept", SAVED)
@@ -216,7 +217,7 @@ def failing(calls: str, error: str, words: Sequence[Given]) -> Tuple[int, bytes,
     return run.returncode, run.stdout, run.stderr.decode()
 
 
-def at_once(shelf: Shelf, both: Sequence[Given], kept: Path) -> Cases:
+def at_once(shelf: Shelf, both: Sequence[Given], kept: Path) -> Found:
     """Two programs at a time mint a coin each, ten times: what is acknowledged is stored."""
     shelf.file("kept", SAVED)
     acknowledged = 0
@@ -251,7 +252,7 @@ def saved_after(shelf: Shelf, records: Path) -> bytes:
     return alone.read_bytes()
 
 
-def slips(folder: str) -> Cases:
+def slips(folder: str) -> Found:
     """What comes of a ledger that is saved where something stands that wasn't loaded."""
     shelf = Shelf(folder)
     text = shelf.file("text", b"letters to the bank\n")
@@ -291,7 +292,7 @@ def said_before(words: Sequence[Given]) -> Tuple[bytes, bytes, Tuple[int, bytes,
     return said, run.sent(b"\4\0", 1), run.closed()
 
 
-def found_before(folder: str) -> Cases:
+def found_before(folder: str) -> Found:
     """That a ledger can't be saved is told before the first record is answered, and is the last fault."""
     shelf = Shelf(folder)
     text, long = shelf.file("text", b"text"), shelf.folder / (239 * "n")
@@ -327,7 +328,7 @@ def killed(path: Path) -> int:
     return run.returncode
 
 
-def leftovers(folder: str) -> Cases:
+def leftovers(folder: str) -> Found:
     """What killed programs leave, and what comes of it."""
     found: object
     shelf = Shelf(folder)
@@ -367,7 +368,7 @@ def leftovers(folder: str) -> Cases:
         yield from at_each_call(shelf)
 
 
-def at_each_call(shelf: Shelf) -> Cases:
+def at_each_call(shelf: Shelf) -> Found:
     """What stands there where calls fail, or the program is killed at one of them."""
     found: object
     last, name = shelf.file("last", OLD), shelf.folder / "last.unsaved"
@@ -399,7 +400,7 @@ def at_each_call(shelf: Shelf) -> Cases:
     yield "the program is killed at each of its calls", (lost, count > 10), ([], True)
 
 
-def migrated(folder: str) -> Cases:
+def migrated(folder: str) -> Found:
     """What comes of ledgers of the old form."""
     found: object
     shelf = Shelf(folder)
@@ -423,7 +424,7 @@ def migrated(folder: str) -> Cases:
     yield "the empty ledger is migrated", found, ((0, b"", b""), (OLD, []))
 
 
-def replaced(folder: str) -> Cases:
+def replaced(folder: str) -> Found:
     """What stands in the place of a file after a ledger was to be saved in it, and what stays of the file."""
     found: object
     shelf = Shelf(folder)
@@ -464,7 +465,7 @@ def replaced(folder: str) -> Cases:
     yield "a folder that isn't there", saved(f"{folder}/no/new"), NOT_KEPT
 
 
-def written_to(folder: str) -> Cases:
+def written_to(folder: str) -> Found:
     """What comes of files that aren't replaced."""
     found: object
     shelf = Shelf(folder)
@@ -492,7 +493,7 @@ def written_to(folder: str) -> Cases:
     yield "a file that has no name any more", found, (NOT_KEPT, b"old", (None, []))
 
 
-def named(folder: str) -> Cases:
+def named(folder: str) -> Found:
     """What comes of names of ledgers."""
     shelf = Shelf(folder)
     yield "a name alone", (saved("alone", cwd=folder), shelf.state("alone")), (KEPT, (SAVED, []))
@@ -510,7 +511,7 @@ def mounted(folder: Path, options: str) -> bool:
     return subprocess.run(["mount", "-t", "tmpfs", "-o", options, "tmpfs", folder], stderr=subprocess.DEVNULL).returncode == 0
 
 
-def full_disk(folder: str) -> Cases:
+def full_disk(folder: str) -> Found:
     """Disks that have no room for a ledger, and a ledger that is a mount."""
     found: object
     disk, few, bound = Path(folder, "disk"), Path(folder, "few"), Path(folder, "bound")
@@ -548,7 +549,7 @@ def full_disk(folder: str) -> Cases:
                 subprocess.run(["umount", "--lazy", place], stderr=subprocess.DEVNULL)
 
 
-def read_only(top: str) -> Cases:
+def read_only(top: str) -> Found:
     """Folders and files that one may not write to. The superuser may, so the program then runs as nobody."""
     room, copy, stream = Path(top, "room"), Path(top, "program"), Path(top, "stream")
     room.mkdir()
@@ -598,5 +599,5 @@ def read_only(top: str) -> Cases:
         yield "another's file in a sticky folder", sticky, ((NOT_KEPT, ["kept"]), OLD)
 
 
-SAVING: List[Callable[[str], Cases]] = [
+SAVING: List[Callable[[str], Found]] = [
     loaded_and_saved, in_use, slips, found_before, leftovers, migrated, replaced, written_to, named, full_disk, read_only]

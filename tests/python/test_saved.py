@@ -1,28 +1,21 @@
-#!/usr/bin/env python3
-"""Alters saved ledgers of both forms at random and has the built program load them: each is refused with its number, which is the one
-that the second implementation of the rules gives (`tools/movedis --explain`), or is loaded, as that loads it; then its audit balances,
-and it is saved as the very text, or, of the old form, as one that is loaded and saved as itself.
-The gate tries some, with the seed of the commit.
-usage: scripts/try-saved [--seed N] [--texts N] [--moveledger PROGRAM]"""
+"""Alters saved ledgers of both forms at random and has the program load them: each is refused with its number, which is the one that the
+second implementation of the rules gives (`tools/movedis --explain`), or is loaded, as that loads it; then its audit balances, and it is
+saved as the very text, or, of the old form, as one that is loaded and saved as itself."""
 
 import random
 import re
 import subprocess
-import sys
 import tempfile
 import time
 from concurrent.futures import ThreadPoolExecutor
 from pathlib import Path
 from typing import Counter, Dict, Iterator, List, NamedTuple, Optional, Sequence, Tuple
 
-import common
-from common import EXAMPLES, Word, add_seed, arguments, seed_of, use_tools
-
-use_tools()
-
-from movetext.explain.ledger import Ledger  # noqa: E402
-from movetext.ledgers import read_ledger  # noqa: E402
-from movetext.writer import write_ledger, write_number  # noqa: E402
+from cases import Cases, Given, Tally, program
+from common import EXAMPLES, Word
+from movetext.explain.ledger import Ledger
+from movetext.ledgers import read_ledger
+from movetext.writer import write_ledger, write_number
 
 AUDIT = b"\4\0"
 COUNT = re.compile(rb"1 count \S+ stored (\d+) packed (\d+) unpacked (\d+)")
@@ -38,6 +31,8 @@ WORKERS = 4
 # says so, and why a file's SHA-256 is to be kept beside it.
 BITS, LOADED = 1_104, 392
 
+
+IS_RANDOM = True
 
 # A ledger's name, and its text.
 Named = Tuple[str, bytes]
@@ -214,32 +209,39 @@ def single_bits(text: bytes) -> Iterator[Named]:
         yield f"bit {bit}", bytes(data)
 
 
-def main() -> int:
-    words = arguments(__doc__)
-    add_seed(words)
-    words.add_argument("--texts", type=int, default=10_000, metavar="N", help="how many are tried; by default %(default)s")
-    words.add_argument("--moveledger", type=Path, metavar="PROGRAM", help="the program to try, if not that of these sources")
-    given = words.parse_args()
-    seed, began = seed_of(given), time.monotonic()
-    rng = random.Random(seed)
-    with tempfile.TemporaryDirectory() as folder, ThreadPoolExecutor(WORKERS) as pool:
-        program = Program(given.moveledger or common.program() or "", folder)
-        whole = ledgers(program)
-        texts = list(whole.items())
-        while len(texts) < given.texts:
-            name = rng.choice(list(whole))
-            texts.append((name, altered(rng, whole[name], whole[rng.choice(list(whole))])))
-        counts, wrong = all_tried(program, pool, texts)
-        bits, bad = all_tried(program, pool, list(single_bits(whole["first-coin"])))
-        if (sum(bits.values()), bits["loaded"]) != (BITS, LOADED):
-            bad.append(Wrong("first-coin", f"wrong: {bits['loaded']} of {sum(bits.values())} changes of a bit are loaded", b""))
-        wrong += bad
-    for name, word, text in wrong[:10]:
-        print(f"{name}: {word}\n    {text.hex()}")
-    seconds = time.monotonic() - began
-    print(f"{len(texts)} texts with seed {seed} in {seconds:.0f} s: {dict(sorted(counts.items()))}")
-    return 1 if wrong else 0
+def summary() -> str:
+    return f"all {Tally.tried} as they should be"
 
 
-if __name__ == "__main__":
-    sys.exit(main())
+class Saved(Cases):
+    """How altered ledgers are loaded."""
+
+    def setUp(self) -> None:
+        self.began = time.monotonic()
+        folder, self.pool = tempfile.TemporaryDirectory(), ThreadPoolExecutor(WORKERS)
+        self.addCleanup(folder.cleanup)
+        self.addCleanup(self.pool.shutdown)
+        self.program = Program(program(), folder.name)
+        self.whole = ledgers(self.program)
+
+    def told(self, texts: Sequence[Named]) -> Counter[str]:
+        """What came of texts. Notes each that went wrong, up to ten, or all together."""
+        counts, wrong = all_tried(self.program, self.pool, texts)
+        for name, word, text in wrong[:10]:
+            self.note(name, f"{word}\n    {text.hex()}")
+        if not wrong:
+            self.note(f"{sum(counts.values())} texts in {time.monotonic() - self.began:.0f} s: {dict(sorted(counts.items()))}")
+        return counts
+
+    def test_altered(self) -> None:
+        rng, names = random.Random(Given.seed), list(self.whole)
+        texts = list(self.whole.items())
+        while len(texts) < Given.texts:
+            name = rng.choice(names)
+            texts.append((name, altered(rng, self.whole[name], self.whole[rng.choice(names)])))
+        self.told(texts)
+
+    def test_bits(self) -> None:
+        """Each ledger that differs in one bit from the first one."""
+        bits = self.told(list(single_bits(self.whole["first-coin"])))
+        self.same("changes of a bit, and how many of them are loaded", (sum(bits.values()), bits["loaded"]), (BITS, LOADED))

@@ -1,8 +1,5 @@
-#!/usr/bin/env python3
-"""Runs the built program once for each way in which it ends, and compares its exit status, its standard output and its
-standard error. In the gate. exits_saving.py has the cases of ledgers that are loaded, saved and migrated, exits_signals.py those of
-signals.
-usage: scripts/try-exits [--moveledger PROGRAM] [NAME..]    all cases, or of those files the ones of these functions, as slips"""
+"""Runs the program once for each way in which it ends, and compares its exit status, its standard output and its standard error.
+exits_saving.py has the cases of ledgers that are loaded, saved and migrated, exits_signals.py those of signals."""
 
 import os
 import pty
@@ -11,16 +8,15 @@ import select
 import signal
 import socket
 import subprocess
-import sys
-import tempfile
 import time
 import tty
 from pathlib import Path
 from typing import List, Optional, Sequence, Tuple, Union
 
-from common import Comparison, Word, arguments
+from cases import Cases, Found, add_tests
+from common import Word
 from exits_run import (
-    COUNTED, EMPTY, FIRST, GIVEN, MEGABYTE, MEMORY, PATIENCE, READ, REPORT, RUN, SAVED, SPIN, STREAM, WRITE, Cases, Given, Running,
+    COUNTED, EMPTY, FIRST, MEGABYTE, MEMORY, PATIENCE, READ, REPORT, RUN, SAVED, SPIN, STREAM, WRITE, Given, Running,
     broken_pipe, closes, ended, explained, fault_in, limits, line_from, program)
 from exits_saving import SAVING
 from exits_signals import SIGNALS
@@ -149,7 +145,7 @@ def shown_on_a_terminal(words: Sequence[Given], is_report_there: bool) -> Tuple[
     return run.wait(), shown
 
 
-def asked_step_by_step(folder: str) -> Cases:
+def asked_step_by_step(folder: str) -> Found:
     """What comes of records that are sent one by one."""
     example = STREAM.read_bytes()
     audit = b"\4\0"
@@ -176,9 +172,9 @@ def lasting(folder: str, count: int) -> Tuple[Path, int, bytes]:
     return file, len(SPIN) + count * len(RUN), report
 
 
-def watched(folder: str, whole: Sequence[Given]) -> Cases:
+def watched(folder: str) -> Found:
     """What a terminal shows of a run that takes some six seconds, and of a short one."""
-    began = time.monotonic()
+    whole, began = ["apply", STREAM], time.monotonic()
     ended(["apply", lasting(folder, 50)[0]])
     count = max(50, int(6 * 50 / (time.monotonic() - began)))
     long, size, report = lasting(folder, count)
@@ -213,7 +209,7 @@ def said_first(contents: bytes) -> Tuple[bytes, bytes]:
     return said, answer
 
 
-def told_of_files(folder: str) -> Cases:
+def told_of_files(folder: str) -> Found:
     """What is said of a fault behind its own line, and of a file that is plainly of another kind."""
     none = f"{folder}/none"
     module, ledger, text = (f"{folder}/told.{kind}" for kind in ("module", "ledger", "text"))
@@ -265,16 +261,8 @@ def told_of_files(folder: str) -> Cases:
     yield "the version", ended(["--version"]), (0, b"moveledger 1.0.0\n", b"")
 
 
-def of_files(names: Sequence[str]) -> Cases:
-    """The cases of the two other files, or of these functions in them."""
-    for cases_of in [*SAVING, *SIGNALS]:
-        if not names or cases_of.__name__ in names:
-            with tempfile.TemporaryDirectory() as own:
-                yield from cases_of(own)
-
-
-def cases(folder: str) -> Cases:
-    """All that is tried."""
+def answered(folder: str) -> Found:
+    """What comes of an input, of words, and of a standard output."""
 
     def stream(name: str, *parts: bytes) -> List[Given]:
         file = Path(folder, name)
@@ -315,26 +303,15 @@ def cases(folder: str) -> Cases:
     long = stream("long", example, LONG, bytes(32 * MEGABYTE))
     yield "a long payload that comes, and no memory for it", ended(long, preexec_fn=few), (1, REPORT, MEMORY)
     yield "a long payload that comes", ended(long), (0, REPORT + b"3 refused 1\n", b"")
-    yield from told_of_files(folder)
-    yield from asked_step_by_step(folder)
-    yield from watched(folder, whole)
-    yield from of_files([])
 
 
-def main() -> int:
-    words = arguments(__doc__)
-    words.add_argument("--moveledger", metavar="PROGRAM", help="the program, if not that of these sources")
-    words.add_argument("names", nargs="*", metavar="NAME", help="only the cases of these functions of the two other files")
-    given = words.parse_args()
-    GIVEN.extend([given.moveledger] if given.moveledger else [])
-    # What is mounted goes where the run is ended from outside, too.
-    signal.signal(signal.SIGTERM, lambda *_: sys.exit(143))
-    comparison = Comparison("try-exits")
-    with tempfile.TemporaryDirectory() as folder:
-        for shows, found, wanted in of_files(given.names) if given.names else cases(folder):
-            comparison.same(shows, found, wanted)
-    return comparison.end(f"all {comparison.tried} as they should be")
+def setUpModule() -> None:
+    """What is mounted goes where the run is ended from outside, too."""
+    signal.signal(signal.SIGTERM, signal.default_int_handler)
 
 
-if __name__ == "__main__":
-    sys.exit(main())
+class Exits(Cases):
+    """How the program ends."""
+
+
+add_tests(Exits, [answered, told_of_files, asked_step_by_step, watched, *SAVING, *SIGNALS])

@@ -1,43 +1,39 @@
-#!/usr/bin/env python3
-"""Tries the text of modules and streams both ways: what tools/movedis prints of bytes, tools/moveasm turns into the very
-bytes. Over the examples, the bytes that stand in hexadecimal in the tests and in FILEs, modules made at random, and altered
-ones. Then whether names are kept beside bytes, and whether the pictures in documents and the files of tools/editors are those
-of today.
-
-usage: scripts/try-text [--seed N] [--modules N] [--moveledger PROGRAM] [FILE ...]"""
+"""Tries the text of modules and streams both ways: what tools/movedis prints of bytes, tools/moveasm turns into the very bytes. Over the
+examples, the bytes that stand in hexadecimal in the tests and in FILEs, modules made at random, and altered ones. Then whether names are
+kept beside bytes, and whether the pictures in documents and the files of tools/editors are those of today. With a program that is named,
+it compares with that what is read as a module."""
 
 import builtins
 import random
 import re
 import subprocess
-import sys
 import tempfile
 import textwrap
 import time
 from collections import Counter
+from functools import lru_cache
 from pathlib import Path
 from typing import Dict, Iterable, List, Optional, Tuple
 
-from common import EXAMPLES, TESTS, TOP, add_seed, arguments, seed_of, use_tools
-
-use_tools()
-
-from movetext import disassembler, limits, model, random_modules  # noqa: E402
-from movetext.errors import Source, TextErrors  # noqa: E402
-from movetext.ledgers import read_ledger  # noqa: E402
-from movetext.opcodes import OPCODES  # noqa: E402
-from movetext.printer import OTHER_ORDER  # noqa: E402
-from movetext.reader import read_module  # noqa: E402
-from movetext.proving import Prover  # noqa: E402
-from movetext.samples import altered, given_bytes, modules_in  # noqa: E402
-from movetext.source_names import NameTable, read_names  # noqa: E402
-from movetext.streaming import TextAssembler  # noqa: E402
-from movetext.writer import write_ledger, write_module, write_numbers, write_stream  # noqa: E402
+from cases import Cases, Given, program
+from common import EXAMPLES, TESTS, TOP
+from movetext import disassembler, limits, model, random_modules
+from movetext.errors import Source, TextErrors
+from movetext.ledgers import read_ledger
+from movetext.opcodes import OPCODES
+from movetext.printer import OTHER_ORDER
+from movetext.reader import read_module
+from movetext.proving import Prover
+from movetext.samples import altered, given_bytes, modules_in
+from movetext.source_names import NameTable, read_names
+from movetext.streaming import TextAssembler
+from movetext.writer import write_ledger, write_module, write_numbers, write_stream
 
 # A module and its certificate.
-Given = Tuple[bytes, bytes]
+Offered = Tuple[bytes, bytes]
 # A text of a document that stands by itself.
 BLOCK = re.compile(r"(?:^ {4}.*\n(?:(?: {4}.*)?\n)*)", re.M)
+IS_RANDOM = True
 LARGE_BYTES = 60_000
 LARGE_SECONDS = 1.0
 # The first large module made at random that is large enough.
@@ -46,7 +42,7 @@ LARGE_NUMBER = 34
 ALTERED_BYTES = 4_000
 
 
-class Failed(Exception):
+class Failed(AssertionError):
     """What isn't as it has to be."""
 
 
@@ -68,7 +64,7 @@ class Trial:
         try:
             self.both_ways(data, kind)
         except Exception as error:
-            with tempfile.NamedTemporaryFile(prefix="try-text-", delete=False) as kept:
+            with tempfile.NamedTemporaryFile(prefix="test-text-", delete=False) as kept:
                 kept.write(data)
             raise Failed(f"{what[0]}, {what[1]}: {error!r} (the bytes are in {kept.name})") from error
 
@@ -102,7 +98,7 @@ def first_difference(one: bytes, other: bytes) -> int:
     return next((at for at, (a, b) in enumerate(zip(one, other)) if a != b), min(len(one), len(other)))
 
 
-def try_given(trial: Trial, paths: Iterable[Path]) -> List[Given]:
+def try_given(trial: Trial, paths: Iterable[Path]) -> List[Offered]:
     """Tries what stands in files, and answers the modules in it, each with its certificate."""
     modules = {}
     for what, data in given_bytes(paths):
@@ -115,7 +111,7 @@ def try_given(trial: Trial, paths: Iterable[Path]) -> List[Given]:
     return list(modules.items())
 
 
-def try_random(trial: Trial, count: int) -> List[Given]:
+def try_random(trial: Trial, count: int) -> List[Offered]:
     """Tries modules made at random, one half of them wild, and a tenth as many streams. Answers some of their bytes."""
     used, kept = set(), []
     for number in range(count):
@@ -161,7 +157,7 @@ def shuffled(draw: random.Random, data: bytes) -> bytes:
     return data[:9] + front + b"".join(tables[kind] for kind in contents) + data[end:]
 
 
-def try_shuffled(trial: Trial, bases: List[Given], count: int) -> None:
+def try_shuffled(trial: Trial, bases: List[Offered], count: int) -> None:
     """Tries modules whose tables stand in another order than a writer puts them in."""
     draw = random.Random(f"{trial.seed} shuffled")
     for number in range(count):
@@ -170,7 +166,7 @@ def try_shuffled(trial: Trial, bases: List[Given], count: int) -> None:
             trial.bytes(shuffled(draw, data), ("in another order of tables", number), disassembler.MODULE)
 
 
-def try_altered(trial: Trial, bases: List[Given], ledgers: List[bytes], count: int) -> None:
+def try_altered(trial: Trial, bases: List[Offered], ledgers: List[bytes], count: int) -> None:
     """Tries altered bytes of modules, of their certificates, and of streams and ledgers of them."""
     draw = random.Random(f"{trial.seed} altered")
     bases = [(module, certificate) for module, certificate in bases if len(module) <= ALTERED_BYTES]
@@ -190,7 +186,7 @@ def try_altered(trial: Trial, bases: List[Given], ledgers: List[bytes], count: i
         trial.bytes(data, ("altered", number), draw.choice((kind, None)))
 
 
-def try_agreement(trial: Trial, bases: List[Given], program: Path, count: int) -> None:
+def try_agreement(trial: Trial, bases: List[Offered], program: Path, count: int) -> None:
     """Tries whether the program refuses in phase 2 exactly the altered modules that aren't read as modules."""
     draw = random.Random(f"{trial.seed} agreement")
     with tempfile.TemporaryDirectory() as folder:
@@ -308,37 +304,61 @@ def try_editors() -> None:
         raise Failed("the files of tools/editors are stale")
 
 
-def main() -> int:
-    words = arguments(__doc__)
-    add_seed(words)
-    words.add_argument("--modules", type=int, default=1000, help="how many are made at random")
-    words.add_argument("--moveledger", type=Path, metavar="PROGRAM", help="the program to compare with, if any")
-    words.add_argument("files", nargs="*", type=Path, metavar="FILE", help="more files with bytes in hexadecimal")
-    given = words.parse_args()
-    seed = seed_of(given)
-    trial = Trial(seed)
-    examples = sorted(EXAMPLES.glob("*.stream"))
-    tests = sorted(TESTS.rglob("*.rt"))
-    try:
-        found = try_given(trial, [*examples, *tests, *given.files])
-        made = try_random(trial, given.modules)
-        try_shuffled(trial, made, given.modules // 5)
-        try_altered(trial, found + made, try_ledgers(trial, (given.modules + 9) // 10), 3 * given.modules)
-        if given.moveledger:
-            try_agreement(trial, made, given.moveledger, given.modules)
-        speed = try_speed(trial)
-        try_programs(examples)
+@lru_cache(maxsize=None)
+def trial() -> Trial:
+    return Trial(Given.seed)
+
+
+@lru_cache(maxsize=None)
+def in_files() -> List[Offered]:
+    files = [*sorted(EXAMPLES.glob("*.stream")), *sorted(TESTS.rglob("*.rt")), *map(Path, Given.files)]
+    return try_given(trial(), files)
+
+
+@lru_cache(maxsize=None)
+def at_random() -> List[Offered]:
+    return try_random(trial(), Given.modules)
+
+
+def summary() -> str:
+    return ", ".join(f"{count} {what}" for what, count in trial().counts.items()) or "as it should be"
+
+
+class Text(Cases):
+    """Bytes as text, and back."""
+
+    def test_given(self) -> None:
+        self.assertTrue(in_files())
+
+    def test_random(self) -> None:
+        self.assertEqual(len(at_random()), Given.modules)
+
+    def test_shuffled(self) -> None:
+        try_shuffled(trial(), at_random(), Given.modules // 5)
+
+    def test_altered(self) -> None:
+        """Ledgers made at random, and altered bytes of them and of modules."""
+        kept = try_ledgers(trial(), (Given.modules + 9) // 10)
+        try_altered(trial(), in_files() + at_random(), kept, 3 * Given.modules)
+
+    def test_agreement(self) -> None:
+        if not Given.program:
+            self.skipTest("it compares with a program that is named")
+        try_agreement(trial(), at_random(), Path(program()), Given.modules)
+
+    def test_speed(self) -> None:
+        self.note(f"a large module: {try_speed(trial())}")
+
+    def test_programs(self) -> None:
+        try_programs(sorted(EXAMPLES.glob("*.stream")))
+
+    def test_names(self) -> None:
         with tempfile.TemporaryDirectory() as folder:
             try_names(folder)
+
+    def test_documents(self) -> None:
+        with tempfile.TemporaryDirectory() as folder:
             try_documents(folder)
+
+    def test_editors(self) -> None:
         try_editors()
-    except Failed as failure:
-        print(f"failed: {failure}")
-        return 1
-    told = ", ".join(f"{count} {what}" for what, count in trial.counts.items())
-    print(f"passed: {told}; {speed}")
-    return 0
-
-
-if __name__ == "__main__":
-    sys.exit(main())

@@ -1,4 +1,4 @@
-"""What try-exits tries of signals: to the program that runs behind scripts/until-signal, and to that."""
+"""What test_exits.py tries of signals: to the program that runs behind scripts/until-signal, and to that."""
 
 import os
 import signal
@@ -9,9 +9,10 @@ import time
 from pathlib import Path
 from typing import Any, Callable, List, Sequence, Tuple
 
+from cases import Found
 from common import TOP
 from exits_run import (
-    FIRST, NOT_KEPT, OLD, PATIENCE, READ, REPORT, RUN, SAVED, SPIN, STREAM, WRITE, Cases, Given, Running, Shelf, fault_in, mint_by,
+    FIRST, NOT_KEPT, OLD, PATIENCE, READ, REPORT, RUN, SAVED, SPIN, STREAM, WRITE, Given, Running, Shelf, fault_in, mint_by,
     no_bytes, program)
 
 ENDS = signal.SIGTERM, signal.SIGINT, signal.SIGHUP
@@ -71,7 +72,7 @@ def heard_of(run: Running, number: int) -> bytes:
     return run.run.stderr.readline()
 
 
-def told_to_end(folder: str) -> Cases:
+def told_to_end(folder: str) -> Found:
     """One signal, to the wrapper alone and to all."""
     shelf = Shelf(folder)
     found: object
@@ -120,7 +121,7 @@ def told_to_end(folder: str) -> Cases:
     yield "the program is killed", found, (REPORT, (137, b"", b""), OLD)
 
 
-def twice(folder: str) -> Cases:
+def twice(folder: str) -> Found:
     """Two signals."""
     shelf = Shelf(folder)
     found: object
@@ -155,7 +156,7 @@ def twice(folder: str) -> Cases:
     yield "timeout, which sends two", found, (REPORT, (124, b"", told(signal.SIGTERM)), (SAVED, []))
 
 
-def early(folder: str) -> Cases:
+def early(folder: str) -> Found:
     """A signal in the first moments: what was answered is saved, and there is no traceback."""
     shelf = Shelf(folder)
     kept, wrong = shelf.folder / "early", []
@@ -175,7 +176,7 @@ def early(folder: str) -> Cases:
     yield "a signal in the first moments", wrong, []
 
 
-def ignored(folder: str) -> Cases:
+def ignored(folder: str) -> Found:
     """A signal that was ignored at the start is ignored."""
     shelf = Shelf(folder)
     kept = shelf.folder / "ignored"
@@ -185,7 +186,7 @@ def ignored(folder: str) -> Cases:
     yield "SIGHUP where it is ignored, as nohup does", (lines, run.closed(), shelf.state("ignored")), (REPORT, (0, b"", ""), (SAVED, []))
 
 
-def by_itself(folder: str) -> Cases:
+def by_itself(folder: str) -> Found:
     """Runs that end without a signal."""
     shelf = Shelf(folder)
     found: object
@@ -234,7 +235,7 @@ def reset() -> int:
         return given.detach()
 
 
-def others(folder: str) -> Cases:
+def others(folder: str) -> Found:
     """What the script does beside signals."""
     shelf = Shelf(folder)
     found: object
@@ -271,7 +272,7 @@ def busy(words: Sequence[Given], records: Path) -> float:
     return float(used.ru_utime + used.ru_stime)
 
 
-def costs(folder: str) -> Cases:
+def costs(folder: str) -> Found:
     """What handing records on takes: not much beside what the program takes."""
     shelf = Shelf(folder)
     records = shelf.file("many", STREAM.read_bytes()[:FIRST] + b"".join(mint_by(number) for number in range(2, 50_002)))
@@ -281,4 +282,4 @@ def costs(folder: str) -> Cases:
     yield "handing on 50,000 mints costs less than they do", "" if whole < 2 * bare + 0.1 else f"{whole:.2f} s, and {bare:.2f} without", ""
 
 
-SIGNALS: List[Callable[[str], Cases]] = [told_to_end, twice, early, ignored, by_itself, others, costs]
+SIGNALS: List[Callable[[str], Found]] = [told_to_end, twice, early, ignored, by_itself, others, costs]

@@ -1,8 +1,5 @@
-#!/usr/bin/env python3
-"""Runs the built program on the most of each thing that there may be, and on one more, and compares how it ends and what it
-prints. A case that takes much memory has no more of it than it needs, so that nothing large is held twice. In the gate.
-usage: scripts/try-limits            of the program that is built from these sources
-       scripts/try-limits PROGRAM    of another"""
+"""Runs the program on the most of each thing that there may be, and on one more, and compares how it ends and what it prints. A case that
+takes much memory has no more of it than it needs, so that nothing large is held twice."""
 
 import resource
 import subprocess
@@ -11,9 +8,9 @@ import tempfile
 from pathlib import Path
 from typing import Callable, Iterable, Iterator, List, Mapping, Optional, Sequence
 
-from common import EXAMPLES, TOP, Comparison, arguments, program, use_tools
+from cases import Cases, program
+from common import EXAMPLES, TOP
 
-use_tools()
 sys.path.insert(0, str(TOP / "bench"))
 
 from costs import copies_that_go  # noqa: E402
@@ -488,21 +485,21 @@ def deepest() -> Iterator[Case]:
     yield Case("2,000 mutable copies in one chain", ["apply", "{0}"], [stream], b"1 published 1\n", stack=WIDE_STACK)
 
 
-ALL: List[Callable[[], Iterator[Case]]] = [
-    payloads, sizes, ledgers, largest, budgets, chains, families, functions, shapes, runs, constants, structs, files, searches, stated, long_certificates, deepest]
+class Limits(Cases):
+    """The most of each thing, and one more."""
 
 
-def main() -> int:
-    words = arguments(__doc__)
-    words.add_argument("program", nargs="?", metavar="PROGRAM", help="the program to try, if not that of these sources")
-    given = words.parse_args()
-    path, comparison = str(Path(given.program or program() or "").resolve()), Comparison("try-limits")
-    with tempfile.TemporaryDirectory() as folder:
-        for cases in ALL:
-            for case in cases():
-                comparison.note(case.shows, case.fault(path, folder))
-    return comparison.end(f"all {comparison.tried} as they should be")
+def add_test(cases_of: Callable[[], Iterator[Case]]) -> None:
+    """Gives the class a test by a function's name."""
+    def tried(self: Limits) -> None:
+        with tempfile.TemporaryDirectory() as folder:
+            for case in cases_of():
+                self.note(case.shows, case.fault(program(), folder))
+
+    tried.__doc__ = cases_of.__doc__
+    setattr(Limits, f"test_{cases_of.__name__}", tried)
 
 
-if __name__ == "__main__":
-    sys.exit(main())
+for it in (payloads, sizes, ledgers, largest, budgets, chains, families, functions, shapes, runs, constants, structs, files, searches, stated,
+           long_certificates, deepest):
+    add_test(it)

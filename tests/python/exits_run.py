@@ -1,23 +1,20 @@
-"""How try-exits runs the program, and what it runs it on."""
+"""How the tests of exits run the program, and what they run it on."""
 
 import os
 import re
 import resource
 import select
 import subprocess
-from functools import lru_cache
 from pathlib import Path
-from typing import Any, Callable, Dict, Iterator, List, Optional, Sequence, Tuple, Union
+from typing import Any, Callable, Dict, List, Optional, Sequence, Tuple, Union
 
-import common
+from cases import program
 from common import EXAMPLES
 
 # A word of the command line, which may be no text.
 Given = Union[str, bytes, Path]
 # How a program ended: its status, its standard output where that was read, and what its standard error says of a fault.
 End = Tuple[int, Optional[bytes], bytes]
-# What each run shows, how it ended, and how it has to end.
-Cases = Iterator[Tuple[str, object, object]]
 
 STREAM = EXAMPLES / "first-coin.stream"
 REPORT = b"1 published 1\n2 returned 5\n"
@@ -47,16 +44,6 @@ KEPT, NOT_KEPT = (0, REPORT, b""), (1, REPORT, WRITE)
 # The ledger of nothing, as one that stands where another is saved.
 OLD = b"MVL2\0\0"
 COUNTED = b"3 count 00000000000000000000000000000001::M::Coin stored 1 packed 1 unpacked 0\n3 end 1\n"
-
-
-# The program that is tried, if not that of these sources.
-GIVEN: List[str] = []
-
-
-@lru_cache(maxsize=None)
-def program() -> str:
-    """The program that is tried: the one that was given, otherwise that of these sources, which is built where there is none."""
-    return GIVEN[0] if GIVEN else common.program() or ""
 
 
 def closes(number: int) -> Callable[[], None]:

@@ -1,4 +1,3 @@
-#!/usr/bin/env python3
 """Does what README.md and docs/TEXT.md tell a reader to do, in a fresh copy of the repository's files, and compares what comes of it
 with what the page says. An indented block is one of these:
 
@@ -8,19 +7,18 @@ with what the page says. An indented block is one of these:
 
 README.md has no other block; of docs/TEXT.md those are passed over that show what may stand in a text or in a command. The copy has nothing built. It
 uses the program of dist/ if that is of these sources, and the first answer then has to come within five seconds of a processor; otherwise it is given
-the program that was built here, or one that is named. No toolchain is on its PATH.
-usage: scripts/try-readme"""
+the program that was built here, or one that is named. No toolchain is on its PATH."""
 
 import os
 import re
 import shutil
 import subprocess
-import sys
 import tempfile
 from pathlib import Path
 from typing import Dict, Iterator, List, Optional, Tuple
 
-from common import BUILT, Comparison, arguments, copy_files, outcome, program
+from cases import Cases, Tally, program
+from common import BUILT, copy_files, outcome
 
 # The pages, and whether each of their blocks can be tried.
 PAGES = ("README.md", True), ("docs/TEXT.md", False)
@@ -63,14 +61,14 @@ def copied(folder: str) -> Tuple[Path, Dict[str, str]]:
     return clone, {**os.environ, "PATH": f"{hidden}{os.pathsep}{os.environ['PATH']}"}
 
 
-def has_release(clone: Path, environment: Dict[str, str], named: Optional[str]) -> bool:
+def has_release(clone: Path, environment: Dict[str, str]) -> bool:
     """Whether the copy has a program in dist/ that is of its sources; otherwise it gets one that is named, or that stands here."""
     found = outcome(["scripts/program", "--here"], folder=clone, environment=environment)
     shutil.rmtree(clone / "out", ignore_errors=True)
     if found.status == 0:
         return True
     (clone / BUILT).parent.mkdir(parents=True)
-    shutil.copy2(named or str(program()), clone / BUILT)
+    shutil.copy2(program(), clone / BUILT)
     subprocess.run(["scripts/build", "--built"], cwd=clone, check=True)
     return False
 
@@ -83,13 +81,13 @@ def seconds_used() -> float:
 class Reader:
     """Who does what a page says, step by step."""
 
-    def __init__(self, clone: Path, environment: Dict[str, str], comparison: Comparison):
-        self.clone, self.environment, self.comparison = clone, environment, comparison
+    def __init__(self, clone: Path, environment: Dict[str, str], test: Cases):
+        self.clone, self.environment, self.test = clone, environment, test
         self.printed: Optional[str] = None
         self.took: Optional[float] = None
 
     def tell(self, where: str, shows: str, fault: str) -> None:
-        self.comparison.note(f"{where} {shows}", fault)
+        self.test.note(f"{where} {shows}", fault)
 
     def run(self, where: str, commands: str) -> None:
         """Runs commands in turn; what they print is compared by the next block."""
@@ -123,33 +121,31 @@ class Reader:
 
 def read(page: str, is_whole: bool, reader: Reader) -> None:
     """Does what a page says."""
-    clone, before = reader.clone, reader.comparison.tried
+    clone, before = reader.clone, Tally.tried
     for line, paragraph, text in blocks((clone / page).read_text()):
         if not reader.block(f"{page}:{line}", paragraph, text) and is_whole:
             reader.tell(f"{page}:{line}", text.split("\n")[0], "what is to be done with this block?")
-    if reader.comparison.tried == before:
+    if Tally.tried == before:
         reader.tell(page, "no block", "nothing was tried")
 
 
-def main() -> int:
-    words = arguments(__doc__)
-    words.add_argument("--moveledger", metavar="PROGRAM", help="the program, if not that of these sources")
-    named = words.parse_args().moveledger
-    comparison = Comparison("try-readme")
-    with tempfile.TemporaryDirectory() as folder:
-        clone, environment = copied(folder)
-        is_released = has_release(clone, environment, named)
-        readers = [Reader(clone, environment, comparison) for _ in PAGES]
-        for reader, (page, is_whole) in zip(readers, PAGES):
-            read(page, is_whole, reader)
-    first = readers[0].took
-    if is_released and first is not None:
-        fault = "" if first < FIRST_WITHIN else f"not within {FIRST_WITHIN} s"
-        readers[0].tell(PAGES[0][0], f"the first answer, by dist/, in {first:.1f} s of a processor", fault)
-    else:
-        print("dist/ has no program of these sources: tried with another one")
-    return comparison.end(f"all {comparison.tried} as the pages say")
+def summary() -> str:
+    return f"all {Tally.tried} as the pages say"
 
 
-if __name__ == "__main__":
-    sys.exit(main())
+class Readme(Cases):
+    """What a reader is told to do."""
+
+    def test_pages(self) -> None:
+        with tempfile.TemporaryDirectory() as folder:
+            clone, environment = copied(folder)
+            is_released = has_release(clone, environment)
+            readers = [Reader(clone, environment, self) for _ in PAGES]
+            for reader, (page, is_whole) in zip(readers, PAGES):
+                read(page, is_whole, reader)
+        first = readers[0].took
+        if is_released and first is not None:
+            fault = "" if first < FIRST_WITHIN else f"not within {FIRST_WITHIN} s"
+            readers[0].tell(PAGES[0][0], f"the first answer, by dist/, in {first:.1f} s of a processor", fault)
+        else:
+            print("dist/ has no program of these sources: tried with another one")

@@ -1,12 +1,8 @@
-#!/usr/bin/env python3
-"""Makes each mistake of tests/mistakes as a new user would: writes the text, runs the commands, and wants the words and the
-status that stand there. Needs no program, the text tools alone, and takes some seconds.
+"""Makes each mistake of tests/mistakes as a new user would: writes the text, runs the commands, and wants the words and the status that
+stand there. Needs no program, the text tools alone.
 
-A file has mistakes one after the other: a line `== ` with what is wrong, a line `$ ` with the commands, the text, a line `-- `
-with the status of the last command that ran, and what the commands print.
-
-usage: scripts/try-mistakes
-       scripts/try-mistakes --make    writes what is printed today into the files"""
+A file has mistakes one after the other: a line `== ` with what is wrong, a line `$ ` with the commands, the text, a line `-- ` with the
+status of the last command that ran, and what the commands print. `scripts/test --make mistakes` writes what is printed today there."""
 
 import multiprocessing
 import os
@@ -15,9 +11,10 @@ import runpy
 import sys
 import tempfile
 from pathlib import Path
-from typing import List, NamedTuple
+from typing import Dict, List, NamedTuple
 
-from common import TOOLS, TOP, arguments
+from cases import Cases
+from common import TOOLS, TOP
 
 FOLDER = TOP / "tests/mistakes"
 LEAST_MISTAKES = 260
@@ -79,28 +76,30 @@ def ended(tool: str, *words: str) -> int:
     return status
 
 
-def main() -> int:
-    words = arguments(__doc__)
-    words.add_argument("--make", action="store_true", help="write what is printed today into the files")
-    given = words.parse_args()
-    files = {path: mistakes_in(path) for path in sorted(FOLDER.glob("*.txt"))}
-    every = [one for mistakes in files.values() for one in mistakes]
+def every_file() -> Dict[Path, List[Mistake]]:
+    return {path: mistakes_in(path) for path in sorted(FOLDER.glob("*.txt"))}
+
+
+def outcomes_of(mistakes: List[Mistake]) -> Dict[Mistake, Outcome]:
+    """What comes of mistakes, four at a time."""
     sys.stdout.flush()
     with multiprocessing.get_context("fork").Pool(4) as workers:
-        outcomes = dict(zip(every, workers.map(made, every)))
-    if given.make:
-        for path, mistakes in files.items():
-            path.write_text("".join(one.section(*outcomes[one]) for one in mistakes))
-        return 0
-    wrong = [one for one in every if outcomes[one] != (one.status, one.wanted)]
-    for one in wrong:
-        status, said = outcomes[one]
-        print(f"wrong: {one.shows}: status {status}, and not {one.status}; it says\n{said}and not\n{one.wanted}")
-    if len(every) < LEAST_MISTAKES:
-        print(f"only {len(every)} mistakes, fewer than {LEAST_MISTAKES}")
-    print(f"{len(wrong)} wrong" if wrong else f"passed: {len(every)} mistakes are told as they should be")
-    return 1 if wrong or len(every) < LEAST_MISTAKES else 0
+        return dict(zip(mistakes, workers.map(made, mistakes)))
 
 
-if __name__ == "__main__":
-    sys.exit(main())
+def make() -> None:
+    """Writes what is printed today into the files."""
+    for path, mistakes in every_file().items():
+        outcomes = outcomes_of(mistakes)
+        path.write_text("".join(one.section(*outcomes[one]) for one in mistakes))
+
+
+class Mistakes(Cases):
+    """What a new user is told."""
+
+    def test_told(self) -> None:
+        every = [one for mistakes in every_file().values() for one in mistakes]
+        for one, (status, said) in outcomes_of(every).items():
+            is_right = (status, said) == (one.status, one.wanted)
+            self.note(one.shows, "" if is_right else f"status {status}, and not {one.status}; it says\n{said}and not\n{one.wanted}")
+        self.assertGreaterEqual(len(every), LEAST_MISTAKES, "mistakes are missing")
