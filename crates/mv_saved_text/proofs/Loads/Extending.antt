@@ -1,5 +1,5 @@
 -- What is read at the front of a saved ledger's text is read there whatever follows.
-use Rattle.std.proofs.Common.{[], ◌++◌, ◌+◌, ◌-◌, ◌∙◌, ◌∷◌, Bool, List, None, Option, Some, ap, false}
+use Rattle.std.proofs.Common.{[], ◌++◌, ◌∙◌, ◌∷◌, Bool, List, None, Option, Some, ap, false}
 use Rattle.std.proofs.Common.{nat_lt, suc, true, zero, ℕ}
 use Rattle.std.specs.Bool.{then_some}
 use Rattle.std.proofs.lemmas.Option.{some_pair_parts, none-some}

@@ -1,5 +1,5 @@
 -- The pieces of a save are the saved text.
-use Rattle.mv_saved_text.proofs.Common.{[], ◌++◌, ◌∙◌, ◌∷◌, ◌≡◌, List, ap, flat_map, sym, subst, ℕ, LedgerState, IsSoundLedger, IsSavable, IsSavedText, Second}
+use Rattle.mv_saved_text.proofs.Common.{[], ◌++◌, ◌∙◌, ◌∷◌, ◌≡◌, List, ap, flat_map, subst, ℕ, LedgerState, IsSoundLedger, IsSavable, IsSavedText, Second}
 use Rattle.std.specs.Global.{Vec}
 use Rattle.mv_saved_text.specs.Flowing.{left_in, new_save, SavingView, AreGiven, EachSaveFlows}
 use Rattle.mv_saved_text.proofs.Saves.SavedLoads.{text-saves}
