@@ -22,9 +22,8 @@ from movetext.reader import read_module  # noqa: E402
 from movetext.writer import write_certificate  # noqa: E402
 
 MEGABYTE = 1 << 20
-# The address space of a case that says nothing of it, in megabytes, and its stack, in kilobytes; the stack of one with a block of
-# many ways.
-ROOM, STACK, WIDE_STACK = 12, 64, 160
+# The address space of a case that says nothing of it, in megabytes, and the stack of each, in kilobytes.
+ROOM, STACK = 12, 64
 DONE, REFUSED = 0, 3
 PAYLOAD, MODULE, CERTIFICATE = 33_554_432, 65_536, 1_048_576
 BLOCK = bytes([1, 0])
@@ -38,12 +37,12 @@ NOTHING: Mapping[str, str] = {}
 
 class Case:
     """Words, the files that they name as {0}, {1}, what is printed (None: whatever it is), how the program has to end with so many
-    megabytes of address space and so many kilobytes of stack, and what the last of these files has then, if it is a ledger that is saved."""
+    megabytes of address space, and what the last of these files has then, if it is a ledger that is saved."""
 
     def __init__(self, shows: str, words: Sequence[str], files: Sequence[bytes], wanted: Optional[bytes], status: int = DONE, room: int = ROOM,
-                 saved: Optional[bytes] = None, stack: int = STACK):
+                 saved: Optional[bytes] = None):
         self.shows, self.words, self.files = shows, words, files
-        self.wanted, self.status, self.room, self.saved, self.stack = wanted, status, room, saved, stack
+        self.wanted, self.status, self.room, self.saved = wanted, status, room, saved
         # What it printed once it was run, and what the last file had then.
         self.printed = self.kept = b""
 
@@ -62,7 +61,7 @@ class Case:
         return "" if is_right else f"status {ended.returncode}, {ended.stdout[-200:]!r}, {ended.stderr!r}"
 
     def limit(self) -> None:
-        for what, most in (resource.RLIMIT_AS, self.room * MEGABYTE), (resource.RLIMIT_STACK, self.stack * 1024):
+        for what, most in (resource.RLIMIT_AS, self.room * MEGABYTE), (resource.RLIMIT_STACK, STACK * 1024):
             resource.setrlimit(what, (most, most))
 
 
@@ -482,7 +481,7 @@ def deepest() -> Iterator[Case]:
     """The test whether edges are below those that are stated has tables for the most ways of a block: mutable copies in one chain, of which
     each is the last one's copy."""
     stream = record(1, publish(copies_that_go(2_000, 5)))
-    yield Case("2,000 mutable copies in one chain", ["apply", "{0}"], [stream], b"1 published 1\n", stack=WIDE_STACK)
+    yield Case("2,000 mutable copies in one chain", ["apply", "{0}"], [stream], b"1 published 1\n")
 
 
 class Limits(Cases):
