@@ -22,7 +22,7 @@ is-text : (took : List ℕ) (kind : ℕ) (items now : List ℕ) → now ≡ item
 is-text took kind items now same is = let P : List ℕ → Type 0 = λ l. IsText took kind l in subst P (sym same) is
 
 pub loop-n-init : goal.loop-n-init
-loop-n-init g c = (refl, Progress-start _ _ _ _, (0, omega arith, refl))
+loop-n-init g c = (refl, rw c.take_scratch-payload.ensures (Progress-start _ _ _ _), (0, omega arith, refl))
 
 pub returns-in_err-next_with_room-clause-err : goal.returns-in_err-next_with_room-clause-err
 returns-in_err-next_with_room-clause-err g c =
@@ -54,7 +54,7 @@ pub returns-in-End-clause-ok : goal.returns-in-End-clause-ok
 returns-in-End-clause-ok g c =
     let inv = moved c.in_ok-next_with_room.ensures.kept c.loop-n.invariant.1 in
     let e = rw c.in-End.is at c.in_ok-next_with_room.ensures.ok in
-    rw (c.loop-n.invariant.0) (Progress-ends inv _ e.0 e.1 e.2.0 e.2.1)
+    rw (c.loop-n.invariant.0, c.keep_scratch.ensures) (Progress-ends inv _ e.0 e.1 e.2.0 e.2.1)
 
 pub returns-in-End-clause-taken : goal.returns-in-End-clause-taken
 returns-in-End-clause-taken g c =
