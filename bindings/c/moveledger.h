@@ -22,7 +22,7 @@
 /* The version that this header is of. */
 #define MOVELEDGER_VERSION "1.0.0"
 /* How much stack any call may take, in bytes. */
-#define moveledger_stack_bytes ((size_t)1 << 20)
+#define moveledger_stack_bytes ((size_t)1 << 16)
 
 #ifdef __cplusplus
 extern "C" {
