@@ -37,10 +37,10 @@ def mints(n: int) -> List[bytes]:
     return made(1)[:1] + made(-(-n // beside.MINTS))[1 : n + 1]
 
 
-def spent(side: Side, stream: str) -> Tuple[Optional[int], float]:
-    """The machine instructions, or None, and the seconds, each less what an empty stream takes."""
-    counts = [side.instructions(name) for name in (stream, "nothing.stream")]
-    times = [side.seconds(name) for name in (stream, "nothing.stream")]
+def spent(side: Side, way: str, stream: str) -> Tuple[Optional[int], float]:
+    """The machine instructions of a way to answer a stream, or None, and the seconds, each less what an empty stream takes."""
+    counts = [side.instructions([way, name]) for name in (stream, "nothing.stream")]
+    times = [side.seconds([way, name]) for name in (stream, "nothing.stream")]
     return difference(*counts), times[0] - times[1]
 
 
@@ -49,13 +49,13 @@ def tell_mints(folder: Path, program: Path, measuring: Path) -> None:
     count = beside.MINTS * 2
     (folder / "mints.stream").write_bytes(b"".join(mints(count)))
     (folder / "nothing.stream").write_bytes(b"")
-    report = Side(folder, program, "apply").report("mints.stream")
-    of_program = spent(Side(folder, program, "apply"), "mints.stream")
+    report = Side(folder, program).printed(["apply", "mints.stream"])
+    of_program = spent(Side(folder, program), "apply", "mints.stream")
     for way, words in WAYS.items():
-        side = Side(folder, measuring, way)
-        told = side.report("mints.stream").split()
+        side = Side(folder, measuring)
+        told = side.printed([way, "mints.stream"]).split()
         assert told == [b"%d" % (count + 1), b"%d" % len(report)], f"{way}: {told}, not {count + 1} records and {len(report)} bytes"
-        of_library = spent(side, "mints.stream")
+        of_library = spent(side, way, "mints.stream")
         line = f"{of_library[1]:.3f} s by the clock, the program {of_program[1]:.3f} s"
         ours, wanted = of_library[0], of_program[0]
         if ours is not None and wanted is not None:
@@ -66,7 +66,7 @@ def tell_mints(folder: Path, program: Path, measuring: Path) -> None:
 def tell_kept(folder: Path, measuring: Path) -> None:
     """Prints how long a ledger takes to be saved and loaded."""
     (folder / "kept.stream").write_bytes(b"".join(mints(KEPT)))
-    tries = [[float(word) for word in Side(folder, measuring, "kept").report("kept.stream").split()] for _ in range(beside.TRIES)]
+    tries = [[float(word) for word in Side(folder, measuring).printed(["kept", "kept.stream"]).split()] for _ in range(beside.TRIES)]
     saving, loading, size = (min(column) for column in zip(*tries))
     print(f"embedding: {KEPT:,} coins: saved as {size / 1e6:.1f} MB in {saving:.3f} s of the processor, "
           f"loaded in {loading:.3f} s", flush=True)

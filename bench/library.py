@@ -89,7 +89,7 @@ def tell_asked(best: List[Asked], many: int) -> None:
 def tell_blocks(folder: Path, measuring: Path) -> None:
     """Prints how many times the machine instructions of 1,000 mints the same take in a block that is taken back."""
     (folder / "mints.stream").write_bytes(b"".join(mints(beside.MINTS * 2)))
-    half, parts, blocks = (Side(folder, measuring, way).instructions("mints.stream") for way in ("half", "parts", "blocks"))
+    half, parts, blocks = (Side(folder, measuring).instructions([way, "mints.stream"]) for way in ("half", "parts", "blocks"))
     taken_back, kept = difference(blocks, half), difference(parts, half)
     if taken_back is not None and kept is not None:
         print(f"library: a block of {IN_BLOCK:,} mints begun, answered and taken back: {taken_back / kept:.2f} times the machine instructions of "
@@ -99,7 +99,7 @@ def tell_blocks(folder: Path, measuring: Path) -> None:
 def tell_pieces(folder: Path, measuring: Path, many: int) -> None:
     """Prints what a save in pieces takes beside the ledger."""
     (folder / "many.stream").write_bytes(b"".join([record(1, publish(coins())), *runs("mint", many)]))
-    seconds, size, beside_it = Side(folder, measuring, "saved").report("many.stream").split()
+    seconds, size, beside_it = Side(folder, measuring).printed(["saved", "many.stream"]).split()
     print(f"library: {many:,} coins saved in pieces: {int(size) / 1e6:.1f} MB in {float(seconds):.2f} s of the processor, and {int(beside_it):,} KB "
           f"of memory beside the ledger (aim: {MOST_BESIDE:,} or less)", flush=True)
 
@@ -109,10 +109,10 @@ def tell_mints(folder: Path, measuring: Path) -> None:
     count = beside.MINTS * 2
     (folder / "mints.stream").write_bytes(b"".join(mints(count)))
     (folder / "nothing.stream").write_bytes(b"")
-    once, each = (embedding.spent(Side(folder, measuring, way), "mints.stream") for way in ("once", "each"))
-    going = Side(folder, measuring, "nothing").instructions("mints.stream")
+    once, each = (embedding.spent(Side(folder, measuring), way, "mints.stream") for way in ("once", "each"))
+    going = Side(folder, measuring).instructions(["nothing", "mints.stream"])
     line = f"{each[1] / count * 1e6:.2f} microseconds by the clock, in one call with the others {once[1] / count * 1e6:.2f}"
-    ours = difference(each[0], difference(going, Side(folder, measuring, "nothing").instructions("nothing.stream")))
+    ours = difference(each[0], difference(going, Side(folder, measuring).instructions(["nothing", "nothing.stream"])))
     if ours is not None and once[0] is not None:
         line += f"; {ours / count:,.0f} machine instructions and {once[0] / count:,.0f}, {ours / once[0]:.2f} times as many"
     print(f"library: a mint in a call of its own: {line} (aim: {MOST_OF_MINT} times or less)", flush=True)
