@@ -145,11 +145,22 @@ def shown_on_a_terminal(words: Sequence[Given], is_report_there: bool) -> Tuple[
     return run.wait(), shown
 
 
+def writes_of(count: int) -> int:
+    """How often the program writes if so many records come together."""
+    run = Running([program(), "apply", "-"])
+    run.write(b"\t\0" * count)
+    run.lines(count)
+    told = Path(f"/proc/{run.run.pid}/io").read_text(encoding="ascii")
+    run.closed()
+    return int(told.split("syscw: ")[1].split()[0])
+
+
 def asked_step_by_step(folder: str) -> Found:
     """What comes of records that are sent one by one."""
     example = STREAM.read_bytes()
     audit = b"\4\0"
-    steps = [(example[:FIRST], 1), (example[FIRST:], 1), (audit, 2), (b"\t\0" * 3, 3), (b"\1", 0)]
+    # The second record comes with the first byte of the third one, which may not hold its answer back.
+    steps = [(example[:FIRST], 1), (example[FIRST:] + audit[:1], 1), (audit[1:], 2), (b"\t\0" * 3, 3), (b"\1", 0)]
     told = [b"1 published 1\n", b"2 returned 5\n", COUNTED, b"4 refused 1\n5 refused 1\n6 refused 1\n", b""]
     wanted = (told, b"7 refused 1\n", 0, b"")
     yield "a pipe as standard input", answers(["apply", "-"], pipe_ends(), steps), wanted
@@ -158,6 +169,7 @@ def asked_step_by_step(folder: str) -> Found:
     fifo = Path(folder, "fifo")
     os.mkfifo(fifo)
     yield "a named pipe", answers(["apply", fifo], (fifo, None), steps), wanted
+    yield "many records that come together are answered by few writes", writes_of(400) < 100, True
     yield "a writer that fails while one waits", stops_at_writer(), (1, b"1 published 1\n", WRITE)
     with open(STREAM, "rb") as file:
         yield "a regular file as standard input", ended(["apply", "-"], stdin=file), (0, REPORT, b"")
