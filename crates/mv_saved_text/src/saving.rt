@@ -261,11 +261,18 @@ fn empty_rows(
     Ok(rows)
 }
 
+/// A struct as a number: by the place of its module, then by its index.
+fn number_of(d: Definition) -> u32
+    ensures { result ≡ d.place * 65536 + d.index }
+{
+    u32::from(d.place) * 65_536 + u32::from(d.index)
+}
+
 /// Whether a struct stands where another does or before it, by the place of its module and its index.
 fn is_by(d: Definition, e: Definition) -> bool
     ensures { result ≡ is_by d e }
 {
-    d.place < e.place || d.place == e.place && d.index <= e.index
+    number_of(d) <= number_of(e)
 }
 
 /// Whether a struct stands between two others, or where one of them does.
