@@ -3,7 +3,7 @@ use Rattle.mv_edges.proofs.Common.{[], ℕ, ◌++◌, ◌<◌, ◌∙◌, ◌∷
 use Rattle.mv_edges.proofs.Common.{Edge, Node, Glob, Own, Slot, Temp, are_ascending, bytes_eq, edge_before, edge_leq, label_leq, list_any, list_before, node_code, nodes_code}
 use Rattle.mv_edges.proofs.EdgeOrder.{edge_strict, not_later, same_start}
 use Rattle.mv_edges.proofs.Lexicographic.{before_cases, before_first, before_later, total}
-use Rattle.mv_edges.proofs.Ranges.{above_not_before, ascending_pairs, first_of, same_codes}
+use Rattle.mv_edges.proofs.Ranges.{ascending_pairs, first_of, same_codes}
 use Rattle.mv_edges.proofs.Related.{related_parts}
 use Rattle.mv_edges.proofs.Settled.{same_truth}
 use Rattle.mv_edges.specs.Ascending.{node_index, node_kind}
@@ -150,14 +150,10 @@ module _ (e : Edge) (es : List Edge) where
   abbrev IsNotAbove : Edge → Type 0
   IsNotAbove x = edge_leq e x ≡ false
 
-  -- none with earlier nodes is above an edge
-  pub none_before : (low : ℕ) → AllWithin (λ x. edge_before x (first_of e) ≡ true) es 0 low → AllWithin IsNotAbove es 0 low
-  none_before low h k d from below = false_from_ne_true (edge_leq e (get_or es k d)) (λ g. true≢false (sym (h k d from below) ∙ above_not_before e (get_or es k d) g))
-
   pub none_more : (i : ℕ) (x : Edge) → i < length es → IsNotAbove (get_or es i x) → AllWithin IsNotAbove es 0 i → AllWithin IsNotAbove es 0 (i + 1)
   none_more i x inside h first = AllWithin-more IsNotAbove es 0 i first (λ d. subst IsNotAbove (get_or_default es i x d inside) h)
 
-  -- nor is one from the first on that has later nodes
+  -- where one that isn't before an edge has other nodes, no later one is above the edge
   pub none_behind : are_ascending es ≡ true → (i : ℕ) (x : Edge) → i < length es → edge_before (get_or es i x) (first_of e) ≡ false
       → ¬ (nodes_number (get_or es i x).from (get_or es i x).to ≡ nodes_number e.from e.to) → AllWithin IsNotAbove es i (length es)
   none_behind up i x inside later other k d from below = false_from_ne_true (edge_leq e (get_or es k d)) (λ g.

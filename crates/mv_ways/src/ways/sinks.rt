@@ -125,13 +125,14 @@ impl<'a> Under<'a> {
 
 impl<'a> Sink for Under<'a> {
     ghost use Rattle.std.specs.Prelude.{◌≡◌, ◌&&◌};
-    ghost use Rattle.std.proofs.Common.{◌∙◌, refl};
+    ghost use Rattle.std.proofs.Common.{◌∙◌, refl, sym};
+    ghost use Rattle.std.proofs.Math.Bool.{and-true};
     ghost use Rattle.mv_edges.specs.Edges.{edges_leq};
-    ghost use Rattle.mv_ways.specs.Sinks.{under_alike, under_joined, under_none};
+    ghost use Rattle.mv_ways.specs.Sinks.{under_alike, under_joined};
 
     ghost after = { λ old es new. (new.others.now ≡ old.others.now) × (new.holds ≡ (old.holds && edges_leq es old.others.now)) };
 
-    ghost none = { λ s. (refl, under_none s.holds) };
+    ghost none = { λ s. (refl, sym (and-true s.holds)) };
 
     ghost joined = { λ r s t es fs first second. (second.0 ∙ first.0, under_joined r.holds s.holds t.holds r.others.now s.others.now es fs first.0 first.1 second.1) };
 
@@ -228,8 +229,9 @@ impl Sink for Listing {
     ghost use Rattle.std.specs.Prelude.{◌≡◌, ◌++◌, false};
     ghost use Rattle.std.proofs.Common.{◌∙◌};
     ghost use Rattle.mv_edges.specs.Sorted.{sorted};
+    ghost use Rattle.mv_edges.proofs.Settled.{sorted_behind_alike};
     ghost use Rattle.mv_ways.specs.Listing.{listed};
-    ghost use Rattle.mv_ways.specs.Sinks.{listed_alike, listed_joined, listed_none};
+    ghost use Rattle.mv_ways.specs.Sinks.{listed_joined, listed_none};
 
     ghost after = { λ old es new. new.has_failed ≡ false → (old.has_failed ≡ false) × (sorted (listed new) ≡ sorted (listed old ++ es)) };
 
@@ -237,7 +239,7 @@ impl Sink for Listing {
 
     ghost joined = { λ r s t es fs first second h. ((first (second h).0).0, listed_joined (listed r) (listed s) (listed t) es fs (first (second h).0).1 (second h).1) };
 
-    ghost alike = { λ s t es fs same it h. ((it h).0, (it h).1 ∙ listed_alike (listed s) es fs same) };
+    ghost alike = { λ s t es fs same it h. ((it h).0, (it h).1 ∙ sorted_behind_alike (listed s) es fs same) };
 
     fn tell(&mut self, e: &Told<'_>) -> bool {
         if self.push(e).is_err() {

@@ -58,13 +58,7 @@ fn is_noted(covered: &[Covered], number: usize, way: usize, lead: usize) -> bool
 
 impl WayGraph {
     /// Whether what begins with a lead, and has these positions and any more behind it, leads to a node by edges below the others.
-    fn is_lead_under(
-        &self,
-        lead: &Lead,
-        path: &[u8],
-        to: Node,
-        others: &Edges,
-    ) -> bool
+    fn is_lead_under(&self, lead: &Lead, path: &[u8], to: Node, others: &Edges) -> bool
         ensures { result ≡ edges_leq (tail_edges self.now.sources to lead.now (open_tail path.now)) others.now }
     {
         match self.source_at(lead.source()) {
