@@ -1,10 +1,9 @@
 -- What is known of a graph is a list in its order: what changes of the edges that its ways stand for make of it.
-use Rattle.mv_edges.proofs.Common.{[], ℕ, ◌&&◌, ◌++◌, ◌==◌, ◌∙◌, ◌∷◌, ◌≡◌, Bool, List, None, Option, Some, ap, false, flat_map, length, not, refl, sym, true, list_all, list_any, Node}
-use Rattle.mv_edges.proofs.Common.{agrees_if, are_ascending, Edge, agrees, an_edge, but_out_of, edges_leq, extended, here, inherited}
+use Rattle.mv_edges.proofs.Common.{[], ℕ, ◌&&◌, ◌++◌, ◌∙◌, ◌∷◌, ◌≡◌, Bool, List, Option, ap, flat_map, refl, sym, true, list_all, Node}
+use Rattle.mv_edges.proofs.Common.{agrees_if, are_ascending, Edge, an_edge, but_out_of, edges_leq, extended, here, inherited}
 use Rattle.mv_ways.specs.Between.{any_between}
-use Rattle.mv_edges.proofs.Common.{opened, out_of, renamed, same_node, without, without_each, sorted}
+use Rattle.mv_edges.proofs.Common.{opened, renamed, without, without_each, sorted}
 use Rattle.mv_ways.specs.Graph.{Heir, taken_over}
-use Rattle.mv_edges.proofs.Any.{any_at_all, list_any-alike, list_any-filter}
 use Rattle.mv_edges.proofs.Settled.{sorted-append, sorted-sorted, sorted-without, sorted-but_out_of, sorted-renamed, sorted-inherited, sorted-inherited_all, sorted-flat_map_alike}
 use Rattle.mv_edges.proofs.Sorting.{ascending-sorted}
 use Rattle.mv_edges.proofs.Settled.{all-sorted, any-sorted, leq-sorted}
@@ -77,17 +76,3 @@ module _ (es : List Edge) where
 
   pub held_passing : (test : Edge → Bool) → list_all test es ≡ list_all test (sorted es)
   held_passing test = sym (all-sorted test es)
-
--- what leads out of a node
-pub leads_out : (n : Node) (es : List Edge) → any_between (λ m. same_node m n) None (λ m. true) es ≡ not (length (out_of n es) == 0)
-leads_out n es = sym (list_any-filter (λ e. true) (λ e. same_node e.from n) es) ∙ sym (any_at_all (out_of n es))
-
-pub agrees_out : (n : Node) (f : ℕ) (es : List Edge) → any_between (λ m. same_node m n) (Some f) (λ m. true) es ≡ list_any (λ e. agrees f e.label) (out_of n es)
-agrees_out n f es =
-    list_any-alike (λ e. same_node e.from n && (agrees f e.label && true)) (λ e. same_node e.from n && agrees f e.label) (λ e. plain (same_node e.from n) (agrees f e.label)) es
-    ∙ sym (list_any-filter (λ e. agrees f e.label) (λ e. same_node e.from n) es)
-  where
-    plain : (x y : Bool) → (x && (y && true)) ≡ (x && y)
-    plain false y = refl
-    plain true false = refl
-    plain true true = refl

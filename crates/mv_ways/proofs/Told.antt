@@ -7,10 +7,7 @@ use Rattle.std.specs.Str.{bytes_eq}
 use Rattle.std.specs.Cmp.Lexicographic.{bytes_decides}
 use Rattle.mv_edges.proofs.Settled.{same_truth}
 use Rattle.mv_move_types.specs.Paths.{begins}
-use Rattle.std.specs.Prelude.{filter}
-use Rattle.std.specs.List.{list_any}
-use Rattle.mv_edges.proofs.Any.{list_any-alike, list_any-filter}
-use Rattle.mv_edges.specs.Edges.{edge_leq, label_leq, leads_between}
+use Rattle.mv_edges.specs.Edges.{edge_leq}
 use Rattle.mv_ways.specs.Told.{is_beside, same_position}
 
 -- one position more
@@ -98,18 +95,6 @@ module _ (a b : Edge) where
 
   pub below_exact : is_beside a b ≡ true → begins b.label.path a.label.path ≡ true → b.label.is_open ≡ false → a.label.is_open ≡ false → edge_leq a b ≡ (length a.label.path == length b.label.path)
   below_exact h g o p = begun h g ∙ ap (λ c. c || (not a.label.is_open && (length a.label.path == length b.label.path))) o ∙ ap (λ c. not c && (length a.label.path == length b.label.path)) p
-
--- ---- those between the same nodes
-
-twice : (x l : Bool) → (x && (x && l)) ≡ (x && l)
-twice true l = refl
-twice false l = refl
-
--- an edge is below one of a list's if it is below one of those between its nodes
-pub any_between : (e : Edge) (others : List Edge) → list_any (edge_leq e) (filter (leads_between e.from e.to) others) ≡ list_any (edge_leq e) others
-any_between e others =
-    list_any-filter (edge_leq e) (leads_between e.from e.to) others
-    ∙ list_any-alike (λ o. leads_between e.from e.to o && edge_leq e o) (edge_leq e) (λ o. twice (leads_between e.from e.to o) (label_leq e.label o.label)) others
 
 -- ---- positions that are copied
 

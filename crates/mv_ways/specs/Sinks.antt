@@ -1,22 +1,15 @@
 -- What sinks keep: no edges change nothing, edges are told one after the other, and their order doesn't matter.
-use Rattle.std.proofs.Common.{◌≡◌, ◌∙◌, sym, ap, append-nil, append_assoc, refl, Bool, true, false, ◌&&◌, List, [], ◌++◌}
+use Rattle.std.proofs.Common.{◌≡◌, ◌∙◌, sym, ap, append-nil, append_assoc, refl, Bool, ◌&&◌, List, [], ◌++◌}
+use Rattle.std.proofs.Math.Bool.{and_assoc}
 use Rattle.std.specs.List.{list_all, list_any}
 use Rattle.mv_edges.proofs.Common.{list_all-append}
-use Rattle.mv_edges.proofs.Settled.{all-sorted, leq-sorted, sorted-append, sorted_behind_alike}
+use Rattle.mv_edges.proofs.Settled.{all-sorted, leq-sorted, sorted-append}
 use Rattle.mv_edges.specs.Edges.{Edge, edge_leq, edges_leq}
 use Rattle.mv_edges.specs.Sorted.{sorted}
-
-pub under_none : (holds : Bool) → holds ≡ (holds && true)
-under_none true = refl
-under_none false = refl
 
 -- edges of two lists
 pub leq_append : (es fs others : List Edge) → edges_leq (es ++ fs) others ≡ (edges_leq es others && edges_leq fs others)
 leq_append es fs others = list_all-append (λ e. list_any (edge_leq e) others) es fs
-
-and_assoc : (a b c : Bool) → ((a && b) && c) ≡ (a && (b && c))
-and_assoc true b c = refl
-and_assoc false b c = refl
 
 pub under_joined : (r s t : Bool) (others its : List Edge) (es fs : List Edge) → its ≡ others → s ≡ (r && edges_leq es others) → t ≡ (s && edges_leq fs its) → t ≡ (r && edges_leq (es ++ fs) others)
 under_joined r s t others its es fs same first second =
@@ -33,9 +26,6 @@ listed_none items = ap sorted (sym (append-nil items))
 
 pub listed_joined : (r s t es fs : List Edge) → sorted s ≡ sorted (r ++ es) → sorted t ≡ sorted (s ++ fs) → sorted t ≡ sorted (r ++ (es ++ fs))
 listed_joined r s t es fs first second = second ∙ sorted-append s (r ++ es) fs fs first refl ∙ ap sorted (append_assoc r es fs)
-
-pub listed_alike : (items es fs : List Edge) → sorted es ≡ sorted fs → sorted (items ++ es) ≡ sorted (items ++ fs)
-listed_alike items es fs same = sorted_behind_alike items es fs same
 
 -- ---- a test that all edges pass
 

@@ -1,14 +1,14 @@
 // A borrow graph on its way through a block.
-ghost use Rattle.std.specs.Prelude.{◌≡◌, ◌==◌, ◌++◌, ◌∷◌, [], length, nat_le, not, IfOk, OnOk, IsTrue};
-ghost use Rattle.std.specs.List.{list_all, list_any};
+ghost use Rattle.std.specs.Prelude.{◌≡◌, ◌++◌, ◌∷◌, [], length, nat_le, IfOk, OnOk, IsTrue};
+ghost use Rattle.std.specs.List.{list_all};
 ghost use Rattle.mv_edges.specs.Ascending.{are_ascending};
-ghost use Rattle.mv_edges.specs.Edges.{agrees, an_edge, but_out_of, edges_leq, extended, here, inherited, out_of, renamed, without, without_each};
+ghost use Rattle.mv_edges.specs.Edges.{an_edge, but_out_of, edges_leq, extended, here, inherited, renamed, without, without_each};
 ghost use Rattle.mv_edges.specs.Sorted.{sorted};
 ghost use Rattle.mv_ways.specs.Between.{any_between};
 ghost use Rattle.mv_ways.specs.Counting.{is_short};
 ghost use Rattle.mv_ways.specs.Graph.{taken_over};
 
-use super::nodes::{All, NodeSet, One};
+use super::nodes::NodeSet;
 use super::ways::WayGraph;
 use super::ways::every::EdgeTest;
 use mv_edges::Edges;
@@ -181,20 +181,6 @@ impl Graph {
         ensures { OnOk result (self.new ≡ sorted (without_each taken.now self.old ++ taken_over heirs.now self.old)) }
     {
         self.ways.tie(alloc, taken, heirs)
-    }
-
-    /// Whether an edge leads out of a node.
-    pub fn has_out_of(&self, n: Node) -> bool
-        ensures { result ≡ not (length (out_of n self.now) == 0) }
-    {
-        self.any_between(&One(n), None, &All)
-    }
-
-    /// Whether an edge that leads out of a node agrees with a position.
-    pub fn has_agreeing_out_of(&self, n: Node, position: u8) -> bool
-        ensures { result ≡ list_any (λ e. agrees position e.label) (out_of n self.now) }
-    {
-        self.any_between(&One(n), Some(position), &All)
     }
 
     /// Whether an edge leads from some nodes to others, and agrees with a position, if one is asked for.

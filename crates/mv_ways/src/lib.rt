@@ -4,7 +4,7 @@
 //! ```
 //! use mv_edges::{Edge, Edges, Label};
 //! use mv_move_types::Node;
-//! use mv_ways::Graph;
+//! use mv_ways::{All, Graph, One};
 //! use std::alloc::{AllocError, Global};
 //!
 //! /// Local 1 is a reference, and the topmost operand one to the field 2 of what it leads to.
@@ -14,8 +14,8 @@
 //!     edges.insert(Edge::new(Node::Slot(1), field, Node::Temp(0)))?;
 //!     // While that operand is there, what stands in the field 2 isn't written through local 1; field 3 may be.
 //!     let graph = Graph::of_edges(alloc, &edges)?;
-//!     let agrees = graph.has_agreeing_out_of(Node::Slot(1), 2);
-//!     let other = graph.has_agreeing_out_of(Node::Slot(1), 3);
+//!     let agrees = graph.any_between(&One(Node::Slot(1)), Some(2), &All);
+//!     let other = graph.any_between(&One(Node::Slot(1)), Some(3), &All);
 //!     Ok(agrees && !other)
 //! }
 //! ```

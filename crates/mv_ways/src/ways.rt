@@ -1,7 +1,8 @@
 // A graph of ways: how the references of a block came about.
 ghost use Rattle.std.specs.Prelude.{◌≡◌, ◌≤◌, length, IsTrue};
 ghost use Rattle.std.specs.List.{list_all};
-ghost use Rattle.mv_ways.specs.Ways.{are_below, are_earlier, is_known, most_ways};
+ghost use Rattle.mv_edges.specs.Edges.{here};
+ghost use Rattle.mv_ways.specs.Ways.{a_lead, are_below, are_earlier, is_known, most_ways};
 
 pub(crate) mod along;
 mod counting;
@@ -50,6 +51,17 @@ impl Model for Lead {
 }
 
 impl Lead {
+    /// What a source lends, with no label.
+    pub(crate) fn lent(source: usize) -> Self
+        ensures { result ≡ a_lead source here }
+    {
+        Lead {
+            source,
+            label: Label::itself(),
+            number: usize::MAX,
+        }
+    }
+
     /// The source's number.
     pub(crate) fn source(&self) -> usize
         ensures { result ≡ self.now.source }

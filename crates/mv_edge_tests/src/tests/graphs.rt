@@ -258,7 +258,7 @@ fn has_between(edges: &Edges, from: Node, position: Option<u8>, to: Node) -> boo
     false
 }
 
-/// Whether a graph answers as its edges do about what leads from a node to others.
+/// Whether a graph answers as its edges do about what leads from a node, to each of some others and to any.
 fn answers_between(graph: &Graph, edges: &Edges, from: Node, position: Option<u8>) -> bool {
     for to in NODES {
         let answer = graph.any_between(&One(from), position, &One(to));
@@ -266,20 +266,17 @@ fn answers_between(graph: &Graph, edges: &Edges, from: Node, position: Option<u8
             return false;
         }
     }
-    true
+    graph.any_between(&One(from), position, &All) == leads_out_of(edges, from, position)
 }
 
 /// Whether a graph answers as its edges do about what leads out of a node.
 fn answers_out_of(graph: &Graph, edges: &Edges, n: Node) -> bool {
     for position in 0..9 {
-        if graph.has_agreeing_out_of(n, position) != leads_out_of(edges, n, Some(position)) {
-            return false;
-        }
         if !answers_between(graph, edges, n, Some(position)) {
             return false;
         }
     }
-    graph.has_out_of(n) == leads_out_of(edges, n, None) && answers_between(graph, edges, n, None)
+    answers_between(graph, edges, n, None)
 }
 
 /// Whether each part of the chain leaves a graph that answers as its edges do.
@@ -321,12 +318,8 @@ fn to_fields(alloc: Global) -> Result<Graph, AllocError> {
 #[test]
 fn the_first_position_decides(rt: HostRuntime) -> Result<(), Fail> {
     let graph = to_fields(rt.alloc())?;
-    assert!(rt;
-        graph.has_agreeing_out_of(Node::Own(8), 4) && !graph.has_agreeing_out_of(Node::Own(8), 6)
-    );
-    assert!(rt;
-        graph.has_agreeing_out_of(Node::Own(9), 6) && !graph.has_agreeing_out_of(Node::Own(9), 4)
-    );
+    assert!(rt; graph.any_between(&One(Node::Own(8)), Some(4), &All));
+    assert!(rt; !graph.any_between(&One(Node::Own(8)), Some(6), &All));
     assert!(rt; graph.any_between(&One(Node::Own(9)), Some(6), &All));
     assert!(rt; !graph.any_between(&One(Node::Own(9)), Some(4), &All));
     assert!(rt; graph.any_between(&One(Node::Glob(2)), None, &One(Node::Slot(4))));

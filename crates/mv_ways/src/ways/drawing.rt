@@ -4,12 +4,11 @@ ghost use Rattle.mv_ways.specs.Behind.{a_tail, begun_edges, edges_with, tail_edg
 ghost use Rattle.mv_ways.specs.Drawn.{all_drawn, path_before};
 ghost use Rattle.mv_ways.specs.Going.{original};
 ghost use Rattle.mv_ways.specs.Told.{IsTold};
-ghost use Rattle.mv_ways.specs.Ways.{a_lead, leads_at};
+ghost use Rattle.mv_ways.specs.Ways.{leads_at};
 
 use super::sink::Sink;
 use super::told::Told;
 use super::{Lead, Way, WayGraph};
-use mv_edges::Label;
 use mv_move_types::Node;
 
 /// The way that a copy or a field goes over.
@@ -50,20 +49,19 @@ pub(super) fn from_on(room: &[u8], at: usize) -> &[u8]
 }
 
 impl WayGraph {
-    /// Tells the edge from a source by a label and positions behind it, if the source is still there.
+    /// Tells the edge by a lead and positions behind it, if its source is still there.
     fn tell_lead<S: Sink>(
         &self,
-        source: usize,
-        label: &Label,
+        lead: &Lead,
         path: &[u8],
         is_open: bool,
         to: Node,
         sink: &mut S,
     ) -> bool
-        ensures { IsTold S.after sink.old (tail_edges self.now.sources to (a_lead source label.now) (a_tail (record { path = path.now; is_open = is_open }))) result sink.new }
+        ensures { IsTold S.after sink.old (tail_edges self.now.sources to lead.now (a_tail (record { path = path.now; is_open = is_open }))) result sink.new }
     {
-        match self.source_at(source) {
-            Some(from) => sink.tell(&Told::new(from, label, path, is_open, to)),
+        match self.source_at(lead.source()) {
+            Some(from) => sink.tell(&Told::new(from, lead, path, is_open, to)),
             None => true,
         }
     }
@@ -80,7 +78,7 @@ impl WayGraph {
         ensures { IsTold S.after sink.old (edges_with self.now.sources to leads.now (a_tail (record { path = path.now; is_open = is_open }) ∷ [])) result sink.new }
     {
         for lead in leads {
-            if !self.tell_lead(lead.source(), lead.label(), path, is_open, to, sink) {
+            if !self.tell_lead(lead, path, is_open, to, sink) {
                 return false;
             }
         }
@@ -101,7 +99,7 @@ impl WayGraph {
         match way {
             Way::Stated(leads) => self.tell_stated(leads, path, is_open, to, sink),
             Way::Lent { source, over: _ } => {
-                self.tell_lead(*source, &Label::itself(), path, is_open, to, sink)
+                self.tell_lead(&Lead::lent(*source), path, is_open, to, sink)
             }
             Way::Field { .. } | Way::Returned(_) => true,
         }

@@ -41,12 +41,13 @@ impl<'t, T> Every<'t, T> {
 impl<'t, T: EdgeTest> Sink for Every<'t, T> {
     ghost use Rattle.std.specs.Prelude.{◌≡◌, ◌&&◌};
     ghost use Rattle.std.specs.List.{list_all};
-    ghost use Rattle.std.proofs.Common.{◌∙◌, refl};
-    ghost use Rattle.mv_ways.specs.Sinks.{every_alike, every_joined, under_none};
+    ghost use Rattle.std.proofs.Common.{◌∙◌, refl, sym};
+    ghost use Rattle.std.proofs.Math.Bool.{and-true};
+    ghost use Rattle.mv_ways.specs.Sinks.{every_alike, every_joined};
 
     ghost after = { λ old es new. (new.test.now ≡ old.test.now) × (new.holds ≡ (old.holds && list_all (T.test old.test.now) es)) };
 
-    ghost none = { λ s. (refl, under_none s.holds) };
+    ghost none = { λ s. (refl, sym (and-true s.holds)) };
 
     ghost joined = { λ r s t es fs first second. (second.0 ∙ first.0, every_joined T.test r.test.now s.test.now r.holds s.holds t.holds es fs first.0 first.1 second.1) };
 

@@ -9,12 +9,9 @@ ghost use Rattle.mv_ways.specs.Ways.{source_at};
 ghost use Rattle.std.specs.Option.{option_map_or};
 
 use super::super::nodes::NodeSet;
-use super::{Lead, MOST_WAYS, Reference, Way, WayGraph};
+use super::{FEW_WAYS, Lead, MOST_WAYS, Reference, Way, WayGraph};
 use mv_move_types::Node;
 use std::mem::size_of;
-
-/// How many ways a small graph has at most.
-const FEW_WAYS: usize = 64;
 
 /// What leads to a way from the nodes that are asked for.
 #[derive(Clone, Copy, Debug)]

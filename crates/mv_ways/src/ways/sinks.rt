@@ -1,9 +1,11 @@
 // What is made of edges, and what is asked of them, while they are told.
-ghost use Rattle.std.specs.Prelude.{◌≡◌, ◌<◌, ◌++◌, ◌∷◌, [], false, true, IfOk, OnOk};
-ghost use Rattle.std.specs.List.{list_any};
-ghost use Rattle.mv_edges.specs.Edges.{edge_leq};
+ghost use Rattle.std.specs.Prelude.{◌≡◌, ◌<◌, ◌++◌, ◌∷◌, [], false, length, true, IfOk, IsTrue, OnOk};
+ghost use Rattle.std.specs.List.{AllWithin, list_any};
+ghost use Rattle.mv_edges.specs.Ascending.{are_ascending, edge_before, node_index};
+ghost use Rattle.mv_edges.specs.Edges.{an_edge, edge_leq, here};
 ghost use Rattle.mv_edges.specs.Sorted.{sorted};
 ghost use Rattle.mv_ways.specs.Listing.{listed};
+ghost use Rattle.mv_ways.specs.Numbers.{node_number, nodes_number};
 
 use super::sink::Sink;
 use super::told::Told;
@@ -12,16 +14,86 @@ use mv_move_types::Node;
 use std::alloc::{AllocError, Global};
 use std::mem::replace;
 
-/// Whether an edge is below one of a list's.
-pub(super) fn has_above(others: &Edges, e: &Told<'_>) -> bool
+/// A node as a number, by which nodes are ordered.
+fn node_number(node: Node) -> u64
+    ensures value { result ≡ node_number node }
+    ensures index { node_index node < 65536 }
+    ensures small { result < 262144 }
+{
+    match node {
+        Node::Slot(local) => u64::from(local),
+        Node::Own(local) => 65_536 + u64::from(local),
+        Node::Glob(definition) => 131_072 + u64::from(definition),
+        Node::Temp(place) => 196_608 + u64::from(place),
+    }
+}
+
+/// The nodes of an edge as a number, by which edges are ordered.
+fn nodes_number(from: Node, to: Node) -> u64
+    ensures value { result ≡ nodes_number from to }
+    ensures from { node_index from < 65536 }
+    ensures to { node_index to < 65536 }
+{
+    node_number(from) * 262_144 + node_number(to)
+}
+
+/// Whether the edge at a place, if there is one, is above another one.
+fn is_above_at(others: &[Edge], place: usize, e: &Told<'_>) -> bool
+    ensures { IsTrue result → IsTrue (list_any (edge_leq e.now) others.now) }
+{
+    match others.get(place) {
+        Some(other) => e.is_below(&Told::of(other)),
+        None => false,
+    }
+}
+
+/// The place of the first edge that doesn't come before all those from one node to another, whose number is given.
+fn first_from(others: &[Edge], from: Node, to: Node, number: u64) -> usize
+    requires ascending { IsTrue (are_ascending others.now) }
+    requires number { number ≡ nodes_number from to }
+    requires from { node_index from < 65536 }
+    requires to { node_index to < 65536 }
+    ensures before { AllWithin (λ x. edge_before x (an_edge from here to) ≡ true) others.now 0 result }
+    ensures behind { AllWithin (λ x. edge_before x (an_edge from here to) ≡ false) others.now result (length others.now) }
+{
+    let mut low = 0;
+    let mut high = others.len();
+    while low < high {
+        let middle = low + (high - low) / 2;
+        let other = &others[middle];
+        if nodes_number(other.from(), other.to()) < number {
+            low = middle + 1;
+        } else {
+            high = middle;
+        }
+    }
+    low
+}
+
+/// Whether an edge is below one of a list's, which is searched for by its nodes.
+fn is_above_from(others: &Edges, e: &Told<'_>) -> bool
     ensures { result ≡ list_any (edge_leq e.now) others.now }
 {
-    for other in others.between(e.from(), e.to()) {
+    let items = others.as_slice();
+    let number = nodes_number(e.from(), e.to());
+    let first = first_from(items, e.from(), e.to(), number);
+    for place in first..items.len() {
+        let other = &items[place];
         if e.is_below(&Told::of(other)) {
             return true;
         }
+        if nodes_number(other.from(), other.to()) != number {
+            return false;
+        }
     }
     false
+}
+
+/// Whether an edge is below one of a list's. It is looked for first where it is likely to be, since lists are often much the same.
+pub(super) fn has_above(others: &Edges, e: &Told<'_>) -> bool
+    ensures { result ≡ list_any (edge_leq e.now) others.now }
+{
+    is_above_at(others.as_slice(), e.guess(), e) || is_above_from(others, e)
 }
 
 /// Whether all that it is told lies below others.
@@ -53,13 +125,14 @@ impl<'a> Under<'a> {
 
 impl<'a> Sink for Under<'a> {
     ghost use Rattle.std.specs.Prelude.{◌≡◌, ◌&&◌};
-    ghost use Rattle.std.proofs.Common.{◌∙◌, refl};
+    ghost use Rattle.std.proofs.Common.{◌∙◌, refl, sym};
+    ghost use Rattle.std.proofs.Math.Bool.{and-true};
     ghost use Rattle.mv_edges.specs.Edges.{edges_leq};
-    ghost use Rattle.mv_ways.specs.Sinks.{under_alike, under_joined, under_none};
+    ghost use Rattle.mv_ways.specs.Sinks.{under_alike, under_joined};
 
     ghost after = { λ old es new. (new.others.now ≡ old.others.now) × (new.holds ≡ (old.holds && edges_leq es old.others.now)) };
 
-    ghost none = { λ s. (refl, under_none s.holds) };
+    ghost none = { λ s. (refl, sym (and-true s.holds)) };
 
     ghost joined = { λ r s t es fs first second. (second.0 ∙ first.0, under_joined r.holds s.holds t.holds r.others.now s.others.now es fs first.0 first.1 second.1) };
 
@@ -71,29 +144,12 @@ impl<'a> Sink for Under<'a> {
     }
 }
 
-/// A node as a number, by which nodes are ordered.
-fn node_number(node: Node) -> u64
-    ensures { result < 262144 }
-{
-    match node {
-        Node::Slot(local) => u64::from(local),
-        Node::Own(local) => 65_536 + u64::from(local),
-        Node::Glob(definition) => 131_072 + u64::from(definition),
-        Node::Temp(place) => 196_608 + u64::from(place),
-    }
-}
-
-/// The nodes of an edge as a number, by which edges are ordered.
-fn nodes_number(e: &Edge) -> u64 {
-    node_number(e.from()) * 262_144 + node_number(e.to())
-}
-
 /// The edges in order, each once. They are sorted by their nodes first, since most of them are in order then.
 #[tactic(auto, using(crate::proofs::Listed::sorted_permuted))]
 fn in_order(mut items: Vec<Edge>) -> Result<Edges, AllocError>
     ensures { IfOk result (λ es. es ≡ sorted items.items) }
 {
-    items.sort_by_cached_key(|e| nodes_number(e))?;
+    items.sort_by_cached_key(|e| nodes_number(e.from(), e.to()))?;
     Edges::of_unordered(items)
 }
 
@@ -173,8 +229,9 @@ impl Sink for Listing {
     ghost use Rattle.std.specs.Prelude.{◌≡◌, ◌++◌, false};
     ghost use Rattle.std.proofs.Common.{◌∙◌};
     ghost use Rattle.mv_edges.specs.Sorted.{sorted};
+    ghost use Rattle.mv_edges.proofs.Settled.{sorted_behind_alike};
     ghost use Rattle.mv_ways.specs.Listing.{listed};
-    ghost use Rattle.mv_ways.specs.Sinks.{listed_alike, listed_joined, listed_none};
+    ghost use Rattle.mv_ways.specs.Sinks.{listed_joined, listed_none};
 
     ghost after = { λ old es new. new.has_failed ≡ false → (old.has_failed ≡ false) × (sorted (listed new) ≡ sorted (listed old ++ es)) };
 
@@ -182,7 +239,7 @@ impl Sink for Listing {
 
     ghost joined = { λ r s t es fs first second h. ((first (second h).0).0, listed_joined (listed r) (listed s) (listed t) es fs (first (second h).0).1 (second h).1) };
 
-    ghost alike = { λ s t es fs same it h. ((it h).0, (it h).1 ∙ listed_alike (listed s) es fs same) };
+    ghost alike = { λ s t es fs same it h. ((it h).0, (it h).1 ∙ sorted_behind_alike (listed s) es fs same) };
 
     fn tell(&mut self, e: &Told<'_>) -> bool {
         if self.push(e).is_err() {

@@ -4,6 +4,7 @@ ghost use Rattle.mv_move_types.specs.Paths.{begins};
 ghost use Rattle.mv_edges.specs.Edges.{an_edge, composed, edge_leq, same_edge, same_label};
 ghost use Rattle.mv_ways.specs.Told.{is_beside, same_position};
 
+use super::Lead;
 use mv_edges::{Edge, Label, is_same};
 use mv_move_types::Node;
 use std::alloc::{AllocError, Global};
@@ -17,6 +18,8 @@ pub(crate) struct Told<'a> {
     behind: &'a [u8],
     is_open: bool,
     to: Node,
+    // The place where it is likely to be in a list. Nothing rests on it but the time that a search takes.
+    guess: usize,
 }
 
 impl<'a> Model for Told<'a> {
@@ -29,11 +32,13 @@ impl<'a> Model for Told<'a> {
 }
 
 impl<'a> Told<'a> {
-    /// The edge by a label and the positions behind it, of which none count if the label is open.
-    pub(crate) fn new(from: Node, label: &'a Label, path: &'a [u8], is_open: bool, to: Node) -> Self
-        ensures { result ≡ an_edge from (composed label.now (record { path = path.now; is_open = is_open })) to }
+    /// The edge by a lead's label and the positions behind it, of which none count if the label is open.
+    pub(crate) fn new(from: Node, lead: &'a Lead, path: &'a [u8], is_open: bool, to: Node) -> Self
+        ensures { result ≡ an_edge from (composed lead.now.label (record { path = path.now; is_open = is_open })) to }
     {
+        let label = lead.label();
         let first = label.path();
+        let guess = lead.number;
         if label.is_open() {
             return Told {
                 from,
@@ -41,6 +46,7 @@ impl<'a> Told<'a> {
                 behind: &[],
                 is_open: true,
                 to,
+                guess,
             };
         }
         Told {
@@ -49,6 +55,7 @@ impl<'a> Told<'a> {
             behind: path,
             is_open,
             to,
+            guess,
         }
     }
 
@@ -63,6 +70,7 @@ impl<'a> Told<'a> {
             behind: &[],
             is_open: label.is_open(),
             to: e.to(),
+            guess: usize::MAX,
         }
     }
 
@@ -108,6 +116,11 @@ impl<'a> Told<'a> {
         ensures { result ≡ self.now.to }
     {
         self.to
+    }
+
+    /// The place where it is likely to be in a list.
+    pub(super) fn guess(&self) -> usize {
+        self.guess
     }
 
     /// How many positions its label has.

@@ -4,7 +4,7 @@ ghost use Rattle.mv_edges.specs.Edges.{edges_leq};
 ghost use Rattle.mv_ways.specs.Behind.{begun_edges, edges_with, tail_edges};
 ghost use Rattle.mv_ways.specs.Covered.{AreCovered, IsNoted, open_tail, stated};
 ghost use Rattle.mv_ways.specs.Drawn.{is_passed};
-ghost use Rattle.mv_ways.specs.Ways.{a_lead, are_earlier};
+ghost use Rattle.mv_ways.specs.Ways.{are_earlier};
 ghost use Rattle.mv_ways.specs.declared.ways.Way.{Way as WayRecord};
 ghost use Rattle.mv_ways.specs.declared.ways.under.covered.Covered.{Covered as CoveredRecord};
 
@@ -12,7 +12,7 @@ use super::super::drawing::{drawn_from, from_on, put_before};
 use super::super::sinks::has_above;
 use super::super::told::Told;
 use super::super::{Lead, Way, WayGraph};
-use mv_edges::{Edges, Label};
+use mv_edges::Edges;
 use mv_move_types::Node;
 
 /// How many leads can be noted.
@@ -58,18 +58,11 @@ fn is_noted(covered: &[Covered], number: usize, way: usize, lead: usize) -> bool
 
 impl WayGraph {
     /// Whether what begins with a lead, and has these positions and any more behind it, leads to a node by edges below the others.
-    fn is_lead_under(
-        &self,
-        source: usize,
-        label: &Label,
-        path: &[u8],
-        to: Node,
-        others: &Edges,
-    ) -> bool
-        ensures { result ≡ edges_leq (tail_edges self.now.sources to (a_lead source label.now) (open_tail path.now)) others.now }
+    fn is_lead_under(&self, lead: &Lead, path: &[u8], to: Node, others: &Edges) -> bool
+        ensures { result ≡ edges_leq (tail_edges self.now.sources to lead.now (open_tail path.now)) others.now }
     {
-        match self.source_at(source) {
-            Some(from) => has_above(others, &Told::new(from, label, path, true, to)),
+        match self.source_at(lead.source()) {
+            Some(from) => has_above(others, &Told::new(from, lead, path, true, to)),
             None => true,
         }
     }
@@ -91,7 +84,7 @@ impl WayGraph {
         let mut all = true;
         for index in 0..leads.len() {
             let lead = &leads[index];
-            if self.is_lead_under(lead.source(), lead.label(), &[], to, others) {
+            if self.is_lead_under(lead, &[], to, others) {
                 note(covered, lead.number, place, index);
             } else {
                 all = false;
@@ -119,7 +112,7 @@ impl WayGraph {
         for index in 0..leads.len() {
             let lead = &leads[index];
             if !is_noted(covered, lead.number, place, index)
-                && !self.is_lead_under(lead.source(), lead.label(), path, to, others)
+                && !self.is_lead_under(lead, path, to, others)
             {
                 return false;
             }
@@ -143,7 +136,7 @@ impl WayGraph {
         match &self.ways()[place] {
             Way::Stated(leads) => self.are_leads_under(covered, place, leads, path, to, others),
             Way::Lent { source, over: _ } => {
-                self.is_lead_under(*source, &Label::itself(), path, to, others)
+                self.is_lead_under(&Lead::lent(*source), path, to, others)
             }
             Way::Field { .. } | Way::Returned(_) => true,
         }

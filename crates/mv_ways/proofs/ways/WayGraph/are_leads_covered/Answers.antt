@@ -2,7 +2,6 @@ use Rattle.mv_edges.proofs.Common.{◌≡◌, ◌&&◌, ◌<◌, ◌+◌, ◌∙
 use Rattle.std.proofs.Math.Bool.{and-true}
 use Rattle.mv_ways.specs.Behind.{led_edges, tail_edges}
 use Rattle.mv_ways.specs.Covered.{open_tail}
-use Rattle.mv_ways.specs.Ways.{a_lead}
 use Rattle.mv_ways.proofs.WayGraph.Covered.{all_and_not, lead_covered, leads_more, noted_more}
 use Rattle.mv_ways.proofs.ways.WayGraph.are_leads_covered.Goals as goal
 use Rattle.mv_ways.proofs.ways.WayGraph.are_leads_covered.Goals.{then-is_lead_under, else-is_lead_under}
@@ -19,9 +18,8 @@ loop-index-preserved c =
     let f = led_edges g.sources to (open_tail [] ∷ []) in
     let test = c.loop-index-test.true in
     let inside : i < length leads = omega (arith, test) in
-    let lead : a_lead c.source.result c.label.result.now ≡ d = λ k. a_lead (c.source.ensures k) (c.label.ensures k) in
     let there : slice_get leads i ≡ Some d = slice_get-get_or leads i d inside ∙ ap Some (sym c.index-leads-index.is) in
-    let own : edges_leq (tail_edges g.sources to d (open_tail [])) others ≡ c.is_lead_under.result = sym (c.is_lead_under.ensures ∙ ap (λ l. edges_leq (tail_edges g.sources to l (open_tail [])) others) lead) in
+    let own : edges_leq (tail_edges g.sources to d (open_tail [])) others ≡ c.is_lead_under.result = sym c.is_lead_under.ensures in
     let one : edges_leq (f d) others ≡ c.is_lead_under.result = ap (λ es. edges_leq es others) (append-nil (tail_edges g.sources to d (open_tail []))) ∙ own in
     let more : edges_leq (flat_map f (take (i + 1) leads)) others ≡ (all && c.is_lead_under.result) =
     leads_more f others leads i d inside ∙ ap (λ b. b && edges_leq (f (get_or leads i d)) others) (sym c.loop-index.invariant.all)

@@ -2,7 +2,6 @@ use Rattle.mv_edges.proofs.Common.{◌≡◌, ◌&&◌, ◌<◌, ◌∙◌, ◌�
 use Rattle.std.proofs.lemmas.List.Folds.{list_all_at}
 use Rattle.mv_ways.specs.Behind.{led_edges, tail_edges}
 use Rattle.mv_ways.specs.Covered.{open_tail, stated}
-use Rattle.mv_ways.specs.Ways.{a_lead}
 use Rattle.mv_ways.proofs.WayGraph.Covered.{leads_more, noted_covered}
 use Rattle.mv_ways.proofs.WayGraph.Under.{leq_each_of, some_way}
 use Rattle.mv_ways.proofs.ways.WayGraph.are_leads_under.Goals as goal
@@ -20,10 +19,9 @@ returns-then-not-is_lead_under c =
     let f = led_edges g.sources to (t ∷ []) in
     let test = c.loop-index-test.true in
     let inside : i < length leads = omega (arith, test) in
-    let lead : a_lead c.source.result c.label.result.now ≡ get_or leads i d = (λ k. a_lead (c.source.ensures k) (c.label.ensures k)) ∙ c.index-leads-index.is in
     let fails : edges_leq (f (get_or leads i d)) others ≡ false =
     ap (λ es. edges_leq es others) (append-nil (tail_edges g.sources to (get_or leads i d) t))
-    ∙ sym (c.is_lead_under.ensures ∙ ap (λ l. edges_leq (tail_edges g.sources to l t) others) lead) ∙ c.if-not-is_lead_under.true in
+    ∙ sym (c.is_lead_under.ensures ∙ ap (λ l. edges_leq (tail_edges g.sources to l t) others) c.index-leads-index.is) ∙ c.if-not-is_lead_under.true in
     sym (leq_each_of f others leads ∙ list_all_at (λ l. edges_leq (f l) others) leads i d inside fails)
 
 pub loop-index-preserved : goal.loop-index-preserved
@@ -41,9 +39,8 @@ loop-index-preserved c =
     let holds : edges_leq (f (get_or leads i d)) others ≡ true =
     elim c.else-not-is_noted.branch [
       | else-not-is_noted-via-then-not-is_noted+else-not-is_lead_under w ↦
-          let lead : a_lead w.source.result w.label.result.now ≡ get_or leads i d = (λ k. a_lead (w.source.ensures k) (w.label.ensures k)) ∙ c.index-leads-index.is in
           ap (λ es. edges_leq es others) (append-nil (tail_edges g.sources to (get_or leads i d) t))
-          ∙ sym (w.is_lead_under.ensures ∙ ap (λ l. edges_leq (tail_edges g.sources to l t) others) lead) ∙ w.if-not-is_lead_under.false
+          ∙ sym (w.is_lead_under.ensures ∙ ap (λ l. edges_leq (tail_edges g.sources to l t) others) c.index-leads-index.is) ∙ w.if-not-is_lead_under.false
       | else-not-is_noted-via-else-not-is_noted w ↦
           let way = get_or g.ways c.args.place some_way in
           let at : slice_get g.ways c.args.place ≡ Some way = slice_get-get_or g.ways c.args.place some_way c.requires.inside in

@@ -11,4 +11,4 @@ returns-in-Lent g c =
     let t = a_tail (record { path = c.args.path.now; is_open = c.args.is_open }) in
     let own = tail_edges sources c.args.to (a_lead c.in-Lent.source here) t in
     let same : own ≡ begun_edges sources c.args.to c.args.way.now (t ∷ []) = sym (append-nil (own ++ []) ∙ append-nil own) ∙ ap (λ w. begun_edges sources c.args.to w (t ∷ [])) (sym c.in-Lent.is) in
-    subst (λ es. IsTold g.S.Sink.after c.args.sink.now es c.tell_lead-in-Lent.result c.tell_lead-in-Lent.new.sink) same (rw c.itself.ensures at c.tell_lead-in-Lent.ensures)
+    subst (λ es. IsTold g.S.Sink.after c.args.sink.now es c.tell_lead-in-Lent.result c.tell_lead-in-Lent.new.sink) same (rw c.lent.ensures at c.tell_lead-in-Lent.ensures)
