@@ -85,11 +85,11 @@ impl<'t, 'm> BorrowDomain<'t, 'm> {
 
     /// The instruction at a place.
     #[inline(always)]
-    fn instruction(&self, at: usize) -> Instruction
+    fn instruction(&self, at: usize) -> &Instruction
         requires { at < length self.now.function.code }
-        ensures { slice_get self.now.function.code at ≡ Some result }
+        ensures { slice_get self.now.function.code at ≡ Some result.now }
     {
-        *instruction_in(self.code, at)
+        instruction_in(self.code, at)
     }
 
     /// Where the instruction at a place stands.
@@ -113,7 +113,7 @@ impl<'t, 'm> BorrowDomain<'t, 'm> {
     {
         // For the prover: the types before each instruction are known.
         let _site = self.site(at);
-        leaves_edges(&self.instruction(at))
+        leaves_edges(self.instruction(at))
     }
 
     /// Whether the instruction at a place needs nothing and leaves no edges, where there are none.
@@ -123,10 +123,12 @@ impl<'t, 'm> BorrowDomain<'t, 'm> {
         requires { at < length self.now.function.code }
         ensures { IsTrue result → edges_step self.now.home self.now.function at [] ≡ Option.Some [] }
     {
-        self.site(at).leaves_none(&self.instruction(at))
+        self.site(at).leaves_none(self.instruction(at))
     }
 
-    /// What the instruction at a place makes of the edges. `Memory` is answered only if no need fails.
+    /// What the instruction at a place makes of the edges. `Memory` is answered only if no need fails. It is inlined, so that `step`
+    /// makes room for an answer only where it comes to this.
+    #[inline(always)]
     #[tactic(auto, using(crate::proofs::Stacks::step_ok, crate::proofs::Stacks::step_need, crate::proofs::Stacks::step_meets))]
     fn changed(&self, alloc: Global, s: Borrows<'t>, at: usize) -> Result<Borrows<'t>, StepError>
         requires ascending { IsTrue (are_ascending s) }
@@ -136,22 +138,6 @@ impl<'t, 'm> BorrowDomain<'t, 'm> {
         ensures meets { IsErrOf result StepError.Memory → IsSome (edges_step self.now.home self.now.function at s.entry) }
     {
         self.site(at).step(alloc, self.instruction(at), s)
-    }
-
-    /// The same. Room for the answer is made here and not in `step`, which mostly needs none.
-    #[inline(always)]
-    fn changed_apart(
-        &self,
-        alloc: Global,
-        s: Borrows<'t>,
-        at: usize,
-    ) -> Result<Borrows<'t>, StepError>
-        requires ascending { IsTrue (are_ascending s) }
-        requires inside { at < length self.now.function.code }
-        ensures ok { IfOk result (λ t. edges_step self.now.home self.now.function at s.entry ≡ Option.Some t) }
-        ensures need { IsErrOf result StepError.Need → edges_step self.now.home self.now.function at s.entry ≡ Option.None }
-    {
-        self.changed(alloc, s, at)
     }
 
     /// What is known where the function begins: no edges.
@@ -196,7 +182,7 @@ impl<'t, 'm> Domain for BorrowDomain<'t, 'm> {
         if self.leaves_edges(at) || s.are_plainly_none() && self.leaves_none(at) {
             return Ok(s);
         }
-        self.changed_apart(alloc, s, at)
+        self.changed(alloc, s, at)
     }
 
     fn fits(&self, s: &Borrows<'t>) -> bool {

@@ -272,22 +272,22 @@ impl<'d, 'm> Site<'d, 'm> {
     pub fn step<'s>(
         &self,
         alloc: Global,
-        instruction: Instruction,
+        instruction: &Instruction,
         s: Borrows<'s>,
     ) -> Result<Borrows<'s>, StepError>
         requires { IsTrue (are_ascending s) }
-        ensures ok { IfOk result (λ t. ordered (edges_after self.now instruction s.entry) ≡ Some t) }
-        ensures need { IsErrOf result StepError.Need → ordered (edges_after self.now instruction s.entry) ≡ None }
-        ensures meets { IsErrOf result StepError.Memory → IsSome (ordered (edges_after self.now instruction s.entry)) }
+        ensures ok { IfOk result (λ t. ordered (edges_after self.now instruction.now s.entry) ≡ Some t) }
+        ensures need { IsErrOf result StepError.Need → ordered (edges_after self.now instruction.now s.entry) ≡ None }
+        ensures meets { IsErrOf result StepError.Memory → IsSome (ordered (edges_after self.now instruction.now s.entry)) }
     {
-        if !self.is_met(&instruction, &s) {
+        if !self.is_met(instruction, &s) {
             return Err(StepError::Need);
         }
-        if self.leaves(&instruction) {
+        if self.leaves(instruction) {
             return Ok(s);
         }
         let mut graph = s.grown(alloc)?;
-        self.change(alloc, instruction, &mut graph)?;
+        self.change(alloc, *instruction, &mut graph)?;
         Ok(Borrows::of_graph(graph))
     }
 }
