@@ -2,6 +2,7 @@
 use Rattle.std.proofs.Common.{◌≡◌, ℕ, Bool, true, false, not, List, [], ◌∷◌, ◌++◌, length, drop, get_or, slice_get, ◌+◌, ◌-◌, ◌<◌, ◌≤◌, Option}
 use Rattle.std.proofs.Common.{Some, None, Result, Ok, Err, refl, sym, ap, ◌∙◌, subst, arith, append_assoc, append-nil}
 use Rattle.std.specs.Bool.{then_some}
+use Rattle.std.specs.List.{list_any}
 use Rattle.std.specs.Option.{option_map_or}
 use Rattle.std.specs.Prelude.{if◌then◌else◌, is_some, IsSome, OnOk}
 use Rattle.std.proofs.lemmas.List.{drop_more, drop_all}
@@ -17,7 +18,7 @@ use Rattle.mv_type_rules.specs.TypesHold.{Point}
 use Rattle.mv_edges.specs.Ascending.{are_ascending}
 use Rattle.mv_edges.specs.Edges.{Edge, here, inherited, an_edge}
 use Rattle.mv_edges.specs.Sorted.{sorted}
-use Rattle.mv_certificate_rules.specs.BorrowRules.{next_temp, no_edge_out, copy_edges, opened_edges, result_edges, reference_nodes, call_edges}
+use Rattle.mv_certificate_rules.specs.BorrowRules.{next_temp, no_edge_out, copy_edges, is_mutable_token, opened_edges, result_edges, reference_nodes, call_edges}
 use Rattle.mv_borrow_graph.specs.Calls.{call_after, tied_edges}
 use Rattle.mv_borrow_graph.specs.Domain.{ordered}
 use Rattle.mv_borrow_graph.proofs.Free.{both_kinds}
@@ -94,6 +95,13 @@ pub result_edges-first : (m a : List Node) (k : ℕ) (t : Token) (ts : List Toke
 result_edges-first m a k (Plain t) ts s = refl
 result_edges-first m a k (Reference t) ts s = ap (λ x. x ++ result_edges m a (k + 1) ts s) (sym (append-nil (opened_edges a (Temp k) s)))
 result_edges-first m a k (MutableReference t) ts s = ap (λ x. x ++ result_edges m a (k + 1) ts s) (sym (append-nil (opened_edges m (Temp k) s)))
+
+-- where none is a mutable reference, none takes over from the mutable arguments
+pub result_edges-immutable : (m n a : List Node) (k : ℕ) (ts : List Token) (s : List Edge) → list_any is_mutable_token ts ≡ false → result_edges m a k ts s ≡ result_edges n a k ts s
+result_edges-immutable m n a k [] s none = refl
+result_edges-immutable m n a k (Plain t ∷ ts) s none = result_edges-immutable m n a (k + 1) ts s none
+result_edges-immutable m n a k (Reference t ∷ ts) s none = ap (λ x. opened_edges a (Temp k) s ++ x) (result_edges-immutable m n a (k + 1) ts s none)
+result_edges-immutable m n a k (MutableReference t ∷ ts) s none = cc
 
 -- a call, by what its handle names
 pub called : (p : Point) (i : ℕ) (h : FunctionHandle) (ps rs : List Token) (place : ℕ) → slice_get p.home.function_handles i ≡ Some h → slice_get p.home.signatures h.parameters ≡ Some ps

@@ -1,6 +1,6 @@
 -- How high a function's stack gets, and the step at a place.
-use Rattle.std.specs.Prelude.{◌==◌, is_some, IfOk, IsSome}
-use Rattle.std.proofs.Common.{◌≡◌, ◌≤◌, reverse, arith, ℕ, Bool, true, false, cond, List, [], ◌∷◌, length, slice_range, ◌+◌, nat_le, Option, Some}
+use Rattle.std.specs.Prelude.{◌==◌, IfOk, IsSome}
+use Rattle.std.proofs.Common.{◌≡◌, ◌≤◌, reverse, arith, ℕ, Bool, true, false, cond, List, [], ◌∷◌, ◌++◌, length, slice_range, ◌+◌, ◌-◌, nat_le, Option, Some, length-append}
 use Rattle.std.proofs.Common.{None, Result, IsErrOf, slice_get, option_map, refl, sym, ap, ◌∙◌, subst}
 use Rattle.std.specs.List.{list_all, flat_map}
 use Rattle.std.specs.Option.{option_map_or}
@@ -12,9 +12,11 @@ use Rattle.mv_move_types.specs.declared.instruction.Instruction.{Instruction}
 use Rattle.mv_move_types.specs.Options.{◌>>=◌}
 use Rattle.mv_move_types.specs.Module.{Module, FunctionDefinition}
 use Rattle.mv_cfg.specs.Blocks.{BasicBlock, blocks}
+use Rattle.mv_cfg.proofs.Tiling.{Tiles, blocks-tile}
 use Rattle.mv_type_rules.specs.TypeRules.{Types, types_after}
 use Rattle.mv_type_rules.specs.TypesHold.{Point, types_through, block_is_typed, function_is_typed, TypesHold, point_at}
-use Rattle.mv_type_rules.specs.Sound.{types_each, types_before}
+use Rattle.mv_type_rules.specs.Sound.{types_each, types_in, types_before}
+use Rattle.mv_borrow_graph.specs.Laws.Standing.{length-types_each, length-range, tiles_within, typed_some}
 use Rattle.mv_borrow_graph.specs.Domain.{is_low, ordered, edges_step}
 use Rattle.mv_certificate_rules.specs.BorrowRules.{edges_after}
 use Rattle.mv_edges.specs.Edges.{Edge}
@@ -70,45 +72,52 @@ low_stack all before at stack same low there =
     let long : length (reverse stack) ≡ length stack = length-reverse stack in
     omega (arith, high, long)
 
+module _ (m : Module) (d : FunctionDefinition) where
+  blocks_long : (bs : List BasicBlock) (at : ℕ) → Tiles at bs (length d.code) → list_all (block_is_typed m d) bs ≡ true → at + length (flat_map (types_in m d) bs) ≡ length d.code
+  blocks_long [] at t typed = let none : at + 0 ≡ at = omega arith in none ∙ t
+  blocks_long (b ∷ bs) at t typed =
+      let parts = and_parts (block_is_typed m d b) (list_all (block_is_typed m d) bs) typed in
+      let begins : b.first ≡ at = t.0 in
+      let order : b.first ≤ b.last = t.1.0 in
+      let within : b.last + 1 ≤ length d.code = tiles_within bs (b.last + 1) (length d.code) t.1.1 in
+      let one : length (types_in m d b) ≡ b.last + 1 - b.first =
+      length-types_each m d (slice_range d.code b.first (b.last + 1)) [] (typed_some m d b parts.0) ∙ length-range d.code b.first (b.last + 1) within in
+      let both : length (types_in m d b ++ flat_map (types_in m d) bs) ≡ length (types_in m d b) + length (flat_map (types_in m d) bs) = length-append (types_in m d b) (flat_map (types_in m d) bs) in
+      let others : b.last + 1 + length (flat_map (types_in m d) bs) ≡ length d.code = blocks_long bs (b.last + 1) t.1.1 parts.1 in
+      omega (arith, begins, order, one, both, others)
+
+-- in a typed function the types before each instruction are known
+pub types_long : (m : Module) (f : ℕ) (d : FunctionDefinition) → TypesHold m → slice_get m.functions f ≡ Some d → length (types_before m d) ≡ length d.code
+types_long m f d typed at =
+    let long : 0 + length (types_before m d) ≡ length d.code = blocks_long m d (blocks d.code) 0 (blocks-tile d.code) (all_at (function_is_typed m) m.functions f d typed at) in
+    omega (arith, long)
+
 module _ (m : Module) (d : FunctionDefinition) (at : ℕ) (s : List Edge) (i : Instruction) (code : slice_get d.code at ≡ Some i) where
   known : (p : Point) (o : Option Types) → Some p ≡ option_map (point_at m d) o → (o >>= λ types. ordered (edges_after (point_at m d types) i s)) ≡ ordered (edges_after p i s)
   known p None e = cc
   known p (Some types) e = let same : p ≡ point_at m d types = cc in ap (λ (q : Point). ordered (edges_after q i s)) (sym same)
 
-  unknown : (o : Option Types) → None ≡ option_map (point_at m d) o → (o >>= λ types. ordered (edges_after (point_at m d types) i s)) ≡ None
-  unknown None e = refl
-  unknown (Some types) e = cc
+  -- the step, by the types before the instruction
+  step_is : (p : Point) → Some p ≡ option_map (point_at m d) (slice_get (types_before m d) at) → edges_step m d at s ≡ ordered (edges_after p i s)
+  step_is p e = rw code (known p (slice_get (types_before m d) at) e)
 
-  -- the step, where the types before the instruction are known
-  step_is : (p : Point) (found : Option Point) → found ≡ Some p → found ≡ option_map (point_at m d) (slice_get (types_before m d) at) → edges_step m d at s ≡ ordered (edges_after p i s)
-  step_is p found was e = rw code (known p (slice_get (types_before m d) at) (sym was ∙ e))
+  module _ (p : Point) (r : Result (List Edge) StepError) where
+    pub step_ok : Some p ≡ option_map (point_at m d) (slice_get (types_before m d) at) → IfOk r (λ t. ordered (edges_after p i s) ≡ Some t) → IfOk r (λ t. edges_step m d at s ≡ Some t)
+    step_ok e = subst (λ (o : Option (List Edge)). IfOk r (λ t. o ≡ Some t)) (sym (step_is p e))
 
-  module _ (p : Point) (found : Option Point) (r : Result (List Edge) StepError) where
-    pub step_ok : found ≡ Some p → found ≡ option_map (point_at m d) (slice_get (types_before m d) at) → IfOk r (λ t. ordered (edges_after p i s) ≡ Some t)
-        → IfOk r (λ t. edges_step m d at s ≡ Some t)
-    step_ok was e = subst (λ (o : Option (List Edge)). IfOk r (λ t. o ≡ Some t)) (sym (step_is p found was e))
+    pub step_need : Some p ≡ option_map (point_at m d) (slice_get (types_before m d) at) → (IsErrOf r Need → ordered (edges_after p i s) ≡ None) → IsErrOf r Need → edges_step m d at s ≡ None
+    step_need e needs h = step_is p e ∙ needs h
 
-    pub step_need : found ≡ Some p → found ≡ option_map (point_at m d) (slice_get (types_before m d) at) → (IsErrOf r Need → ordered (edges_after p i s) ≡ None)
-        → IsErrOf r Need → edges_step m d at s ≡ None
-    step_need was e needs h = step_is p found was e ∙ needs h
-
-    pub step_meets : found ≡ Some p → found ≡ option_map (point_at m d) (slice_get (types_before m d) at) → (IsErrOf r Memory → IsSome (ordered (edges_after p i s)))
+    pub step_meets : Some p ≡ option_map (point_at m d) (slice_get (types_before m d) at) → (IsErrOf r Memory → IsSome (ordered (edges_after p i s)))
         → IsErrOf r Memory → IsSome (edges_step m d at s)
-    step_meets was e meets h = subst (λ (o : Option (List Edge)). IsSome o) (sym (step_is p found was e)) (meets h)
+    step_meets e meets h = subst (λ (o : Option (List Edge)). IsSome o) (sym (step_is p e)) (meets h)
 
-  -- an instruction that leaves all edges as they are, where types are known before it
-  pub step_left : ((p : Point) (es : List Edge) → edges_after p i es ≡ Some es) → is_some (slice_get (types_before m d) at) ≡ true → are_ascending s ≡ true → edges_step m d at s ≡ Some s
-  step_left leaves there ascend = rw code (by_types (slice_get (types_before m d) at) there)
-    where
-      by_types : (o : Option Types) → is_some o ≡ true → (o >>= λ types. ordered (edges_after (point_at m d types) i s)) ≡ Some s
-      by_types None h = cc
-      by_types (Some types) h = ap ordered (leaves (point_at m d types) s) ∙ ap Some (sorted-ascending s ascend)
-
-  -- where the types aren't known, a need fails
-  pub step_unknown : (found : Option Point) → found ≡ None → found ≡ option_map (point_at m d) (slice_get (types_before m d) at) → edges_step m d at s ≡ None
-  step_unknown found was e = rw code (unknown (slice_get (types_before m d) at) (sym was ∙ e))
+  -- an instruction that leaves all edges as they are
+  pub step_left : (p : Point) → Some p ≡ option_map (point_at m d) (slice_get (types_before m d) at) → ((q : Point) (es : List Edge) → edges_after q i es ≡ Some es) → are_ascending s ≡ true
+      → edges_step m d at s ≡ Some s
+  step_left p e leaves ascend = step_is p e ∙ ap ordered (leaves p s) ∙ ap Some (sorted-ascending s ascend)
 
 -- an instruction that leaves no edges where there are none
-pub step_of_none : (m : Module) (d : FunctionDefinition) (at : ℕ) (i : Instruction) (p : Point) (found : Option Point) → slice_get d.code at ≡ Some i → found ≡ Some p
-    → found ≡ option_map (point_at m d) (slice_get (types_before m d) at) → edges_after p i [] ≡ Some [] → edges_step m d at [] ≡ Some []
-step_of_none m d at i p found code was e leaves = step_is m d at [] i code p found was e ∙ ap ordered leaves
+pub step_of_none : (m : Module) (d : FunctionDefinition) (at : ℕ) (i : Instruction) (p : Point) → slice_get d.code at ≡ Some i
+    → Some p ≡ option_map (point_at m d) (slice_get (types_before m d) at) → edges_after p i [] ≡ Some [] → edges_step m d at [] ≡ Some []
+step_of_none m d at i p code e leaves = step_is m d at [] i code p e ∙ ap ordered leaves

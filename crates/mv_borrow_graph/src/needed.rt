@@ -6,7 +6,7 @@ ghost use Rattle.mv_edges.specs.Edges.{same_node};
 ghost use Rattle.mv_certificate_rules.specs.BorrowRules.{is_mutable_token, no_edge_out, reference_nodes};
 ghost use Rattle.mv_borrow_graph.specs.Calls.{AreMarks, is_marked, needed_free};
 
-use crate::nodes::is_mutable_reference;
+use crate::nodes::{has_mutable, is_mutable_reference};
 use mv_move_types::{Node, Token};
 use mv_ways::{All, Borrows, NodeSet};
 use std::marker::Model;
@@ -93,13 +93,6 @@ fn has_argument(first: usize, parameters: &[Token], place: usize) -> bool
         Some(token) => is_mutable_reference(token),
         None => false,
     }
-}
-
-/// Whether one of these types is a mutable reference.
-fn has_mutable(parameters: &[Token]) -> bool
-    ensures { result ≡ list_any is_mutable_token parameters.now }
-{
-    parameters.iter().any(|token| is_mutable_reference(*token))
 }
 
 /// Whether a global is one of those that are listed.

@@ -1,5 +1,6 @@
 // What types and nodes are, and which nodes the references among types have.
 ghost use Rattle.std.specs.Prelude.{◌≡◌, ◌+◌, ◌≤◌, ◌^◌, ◌++◌, ◌∷◌, [], length, slice_get, IfOk, OnOk, if◌then◌else◌};
+ghost use Rattle.std.specs.List.{list_any};
 ghost use Rattle.mv_move_types.specs.declared.borrow.Node.TheVariants.{Glob};
 ghost use Rattle.mv_certificate_rules.specs.BorrowRules.{is_mutable_token, is_reference_token, is_root_node, is_temp, no_edge_out, reference_nodes};
 ghost use Rattle.mv_borrow_graph.specs.Domain.{is_picked};
@@ -16,6 +17,13 @@ pub fn is_mutable_reference(token: Token) -> bool
         Token::MutableReference(_) => true,
         Token::Plain(_) | Token::Reference(_) => false,
     }
+}
+
+/// Whether one of these types is a mutable reference.
+pub fn has_mutable(types: &[Token]) -> bool
+    ensures { result ≡ list_any is_mutable_token types.now }
+{
+    types.iter().any(|token| is_mutable_reference(*token))
 }
 
 /// Whether a type is a reference.

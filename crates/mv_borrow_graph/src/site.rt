@@ -44,14 +44,19 @@ pub fn leaves_edges(instruction: &Instruction) -> bool
     }
 }
 
-/// An instruction's place in a function of a module, by the types of the function's locals, parameters first, and those on the stack
-/// before it, the last of them topmost.
+/// A function of a module, and the types of its locals: of its parameters, and of the others.
 #[derive(Drop)]
-pub struct Site<'d, 'm> {
+pub struct Scope<'d, 'm> {
     pub module: &'d Bounded<'m>,
     pub function: &'d FunctionDefinition<'m>,
     pub parameters: &'d [Token],
     pub others: &'d [Token],
+}
+
+/// An instruction's place in a function, by the types on the stack before it, the last of them topmost.
+#[derive(Drop)]
+pub struct Site<'d, 'm> {
+    pub scope: &'d Scope<'d, 'm>,
     pub stack: &'d [Token],
 }
 
@@ -62,9 +67,10 @@ impl<'d, 'm> Model for Site<'d, 'm> {
 
     ghost Value = { Point };
 
-    ghost view = { λ s. point_at s.module.now s.function.now (reverse s.stack.now) };
+    ghost view = { λ s. point_at s.scope.now.module.now s.scope.now.function.now (reverse s.stack.now) };
 
-    ghost invariant = { λ s. (local_tokens s.module.now s.function.now ≡ Some (s.parameters.now ++ s.others.now)) × (length s.stack.now ≤ 128) };
+    ghost invariant = { λ s. (local_tokens s.scope.now.module.now s.scope.now.function.now ≡ Some (s.scope.now.parameters.now ++ s.scope.now.others.now))
+        × (length s.stack.now ≤ 128) };
 }
 
 /// The nodes that are mutable references where an instruction stands.
@@ -96,7 +102,7 @@ impl<'d, 'm> Site<'d, 'm> {
     pub fn local(&self, local: u16) -> Option<Token>
         ensures { result ≡ type_of_local self.now.home self.now.function local }
     {
-        among(self.parameters, self.others, usize::from(local))
+        among(self.scope.parameters, self.scope.others, usize::from(local))
     }
 
     /// The type of an operand by its place from the bottom, if it is there.
@@ -266,22 +272,22 @@ impl<'d, 'm> Site<'d, 'm> {
     pub fn step<'s>(
         &self,
         alloc: Global,
-        instruction: Instruction,
+        instruction: &Instruction,
         s: Borrows<'s>,
     ) -> Result<Borrows<'s>, StepError>
         requires { IsTrue (are_ascending s) }
-        ensures ok { IfOk result (λ t. ordered (edges_after self.now instruction s.entry) ≡ Some t) }
-        ensures need { IsErrOf result StepError.Need → ordered (edges_after self.now instruction s.entry) ≡ None }
-        ensures meets { IsErrOf result StepError.Memory → IsSome (ordered (edges_after self.now instruction s.entry)) }
+        ensures ok { IfOk result (λ t. ordered (edges_after self.now instruction.now s.entry) ≡ Some t) }
+        ensures need { IsErrOf result StepError.Need → ordered (edges_after self.now instruction.now s.entry) ≡ None }
+        ensures meets { IsErrOf result StepError.Memory → IsSome (ordered (edges_after self.now instruction.now s.entry)) }
     {
-        if !self.is_met(&instruction, &s) {
+        if !self.is_met(instruction, &s) {
             return Err(StepError::Need);
         }
-        if self.leaves(&instruction) {
+        if self.leaves(instruction) {
             return Ok(s);
         }
         let mut graph = s.grown(alloc)?;
-        self.change(alloc, instruction, &mut graph)?;
+        self.change(alloc, *instruction, &mut graph)?;
         Ok(Borrows::of_graph(graph))
     }
 }

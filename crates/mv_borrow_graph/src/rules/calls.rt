@@ -1,16 +1,17 @@
 // Calls and returns.
-ghost use Rattle.std.specs.Prelude.{◌≡◌, List, ◌+◌, ◌++◌, ◌∷◌, [], ◌≤◌, ◌^◌, ◌&&◌, ◌||◌, ◌-◌, length, slice_get, option_map, Some, None, is_some, IfOk, IfNone, IfSome, IsSome, OnOk, IsTrue};
+ghost use Rattle.std.specs.Prelude.{◌≡◌, ℕ, List, ◌+◌, ◌++◌, ◌∷◌, [], ◌≤◌, ◌^◌, ◌&&◌, ◌||◌, ◌-◌, length, slice_get, option_map, Some, None, is_some, IfOk, IfNone, IfSome, IsSome, OnOk, IsTrue};
 ghost use Rattle.std.specs.List.{list_any};
 ghost use Rattle.mv_move_types.specs.Limits.{most_operands, most_types};
+ghost use Rattle.mv_move_types.specs.declared.borrow.Node.{Node as NodeRecord};
 ghost use Rattle.mv_edges.specs.Edges.{Edge as EdgeRecord};
 ghost use Rattle.mv_edges.specs.Sorted.{sorted};
 ghost use Rattle.mv_ways.specs.Graph.{taken_over};
-ghost use Rattle.mv_certificate_rules.specs.BorrowRules.{call_edges, is_mutable, is_root_node, is_temp, result_edges, return_edges};
+ghost use Rattle.mv_certificate_rules.specs.BorrowRules.{call_edges, is_mutable, is_mutable_token, is_root_node, is_temp, reference_nodes, result_edges, return_edges};
 ghost use Rattle.mv_borrow_graph.specs.Calls.{call_after, tied_edges};
 ghost use Rattle.mv_borrow_graph.specs.Domain.{ordered};
 
 use crate::needed::are_free;
-use crate::nodes::{is_operand, is_root, nodes_of};
+use crate::nodes::{has_mutable, is_operand, is_root, nodes_of};
 use crate::site::Site;
 use mv_move_types::{FunctionHandle, Node, Token};
 use mv_ways::{Borrows, Graph, Heir, NodeSet};
@@ -62,13 +63,26 @@ struct Call<'a> {
     results: &'a [Token],
 }
 
+/// The nodes of the mutable arguments, or none where no result is a mutable reference, which alone takes over from them.
+fn givers_of(alloc: Global, call: &Call<'_>) -> Result<Vec<Node>, AllocError>
+    requires { call.now.place + length call.now.parameters.now ≤ 2 ^ 16 }
+    ensures { IfOk result (λ nodes. let mutable = reference_nodes is_mutable_token call.now.place call.now.parameters.now in
+        (all : List NodeRecord) (k : ℕ) (es : List EdgeRecord) → result_edges nodes.items all k call.now.results.now es ≡ result_edges mutable all k call.now.results.now es) }
+{
+    if has_mutable(call.results) {
+        nodes_of(alloc, true, call.place, call.parameters)
+    } else {
+        Ok(Vec::new(alloc))
+    }
+}
+
 /// Ties a call's results to its arguments, which are taken.
 fn tie(alloc: Global, call: &Call<'_>, s: &mut Graph) -> Result<(), AllocError>
     requires taken { call.now.place + length call.now.parameters.now ≤ 2 ^ 16 }
     requires given { call.now.place + length call.now.results.now ≤ 2 ^ 16 }
     ensures { OnOk result (s.new ≡ sorted (tied_edges call.now.place call.now.parameters.now call.now.results.now s.old)) }
 {
-    let mutable = nodes_of(alloc, true, call.place, call.parameters)?;
+    let mutable = givers_of(alloc, call)?;
     let all = nodes_of(alloc, false, call.place, call.parameters)?;
     let heirs = heirs_of(alloc, &mutable, &all, call.place, call.results)?;
     s.tie(alloc, &all, &heirs)
@@ -118,7 +132,7 @@ impl<'d, 'm> Site<'d, 'm> {
     fn function_handle(&self, callee: u16) -> Option<FunctionHandle>
         ensures { result ≡ slice_get self.now.home.function_handles callee }
     {
-        let module = self.module.module();
+        let module = self.scope.module.module();
         module.function_handles().get(usize::from(callee)).copied()
     }
 
@@ -127,7 +141,7 @@ impl<'d, 'm> Site<'d, 'm> {
         ensures value { option_map (λ tokens. tokens.now) result ≡ slice_get self.now.home.signatures index }
         ensures short { IfSome result (λ tokens. length tokens.now ≤ most_types) }
     {
-        self.module.module().signature(usize::from(index))
+        self.scope.module.module().signature(usize::from(index))
     }
 
     /// The place of the first of the topmost operands, by how many they are.
@@ -163,7 +177,7 @@ impl<'d, 'm> Site<'d, 'm> {
     {
         match self.call_of(callee) {
             Some(call) => {
-                let acquired = self.module.own_acquires(callee);
+                let acquired = self.scope.module.own_acquires(callee);
                 are_free(call.place, call.parameters, acquired, s)
             }
             None => false,

@@ -16,7 +16,7 @@ impl<'d, 'm> Site<'d, 'm> {
     fn field_handle(&self, field: u16) -> Option<FieldHandle>
         ensures { result ≡ slice_get self.now.home.field_handles field }
     {
-        let module = self.module.module();
+        let module = self.scope.module.module();
         module.field_handles().get(usize::from(field)).copied()
     }
 
@@ -33,7 +33,7 @@ impl<'d, 'm> Site<'d, 'm> {
     fn position(&self, field: u16) -> Option<u8>
         ensures { result ≡ position_of self.now field }
     {
-        let module = self.module.module();
+        let module = self.scope.module.module();
         let _structs = module.structs();
         match self.field_handle(field) {
             Some(handle) => Some(handle.position as u8),
