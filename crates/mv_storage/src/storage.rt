@@ -1,8 +1,8 @@
 // Storage: values under keys, and what a run at work has made of them.
 ghost use Rattle.std.specs.BTreeMap.Range.{IsLeBy, IsLtBy, range_contains};
 ghost use Rattle.std.specs.List.{filter, AllByRecursion};
-ghost use Rattle.mv_machine.specs.State.{key_before, same_key};
-ghost use Rattle.std.specs.Prelude.{◌≡◌, ◌==◌, ◌<◌, ◌≤◌, ◌+◌, ◌^◌, ◌++◌, ◌∷◌, length, take, drop, [], not, None, is_some, IfOk, IfSome, IsOk, OnOk, OnErr, MatchOption, option_copied, option_and_then, option_map, slice_get};
+ghost use Rattle.mv_machine.specs.State.{same_key};
+ghost use Rattle.std.specs.Prelude.{◌≡◌, ◌==◌, ◌<◌, ◌≤◌, ◌+◌, ◌^◌, ◌++◌, ◌∷◌, length, take, drop, [], None, is_some, IfOk, IfSome, IsOk, OnOk, OnErr, MatchOption, option_copied, option_and_then, option_map, slice_get};
 ghost use Rattle.mv_storage.specs.WordLists.{piece};
 ghost use Rattle.mv_storage.specs.FlatStorage.{FlatStorage, words_under, with_words, without_words};
 ghost use Rattle.mv_storage.specs.Map.{Ascends};
@@ -184,7 +184,7 @@ impl Storage {
 
     // The committed values under keys of a range.
     #[inline]
-    fn entries<R: RangeBounds<Key> + Drop>(&self, keys: R) -> Entries<'_>
+    pub(crate) fn entries<R: RangeBounds<Key> + Drop>(&self, keys: R) -> Entries<'_>
         requires known { R.has_bounds keys }
         requires forward { R.is_forward keys (IsLeBy key_cmp) (IsLtBy key_cmp) }
         ensures value { result ≡ filter (λ e. range_contains key_cmp (R.start_bound keys) (R.end_bound keys) e.key) self.entry.now.committed }
@@ -202,14 +202,6 @@ impl Storage {
         ensures few { length self.entry.now.committed < 2 ^ 63 }
     {
         self.entries(..)
-    }
-
-    /// The committed values under this key and later ones, by ascending key.
-    pub fn iter_from(&self, key: Key) -> Entries<'_>
-        ensures value { result ≡ filter (λ e. not (key_before e.key key)) self.entry.now.committed }
-        ensures few { length result < 2 ^ 63 }
-    {
-        self.entries(key..)
     }
 
     /// The committed values at an address, by ascending key.
@@ -245,8 +237,8 @@ impl Storage {
         self.entries(key..=key)
     }
 
-    /// For the prover: the keys of the committed values ascend.
-    pub fn is_ascending(&self)
+    // For the prover: the keys of the committed values ascend.
+    pub(crate) fn is_ascending(&self)
         ensures { Ascends self.now.committed }
     {
         let _places = &self.places;
