@@ -15,26 +15,28 @@ use Rattle.mv_storage.proofs.storage.Storage.open.Goals as goal
 
 pub invariant_of-self-lent : goal.invariant_of-self-lent
 invariant_of-self-lent c = λ w.
-    let m = c.self.inside.places in
-    let had = c.self.invariant.0 in
+    let m = c.self.inside.work.places in
+    let had = c.self.invariant.0.tracked in
     let key = c.args.key.now in
     let p = c.in-Some.place in
     let there : true ≡ is_some (option_and_then (piece c.args.from c.args.width) (value_at Current m key)) = sym (c.in-Some.ensures.there refl) in
     let how : Found m key c.args.width (Some p) true (Ok (Some p)) = (c.in-Some.ensures.own, (refl, c.in-Some.ensures.some refl, refl)) in (
-      opened-tracked m m c.self.inside.touched.items had had.sound.ordered (λ layer q. refl) key c.args.from c.args.width (Ok (Some p)) there (Some p) true how w,
-      subst (λ (tree : BTreeMap Key ℕ). IsRemembered tree c.self.inside.known.lines)
-          (sym (opened-tree m m c.self.inside.touched.items had had.sound.ordered (λ layer q. refl) key c.args.from c.args.width (Ok (Some p)) there (Some p) w)) c.self.invariant.1,
+      record {
+        tracked = opened-tracked m m c.self.inside.work.touched.items had had.sound.ordered (λ layer q. refl) key c.args.from c.args.width (Ok (Some p)) there (Some p) true how w;
+        remembered = subst (λ (tree : BTreeMap Key ℕ). IsRemembered tree c.self.inside.work.known.lines)
+            (sym (opened-tree m m c.self.inside.work.touched.items had had.sound.ordered (λ layer q. refl) key c.args.from c.args.width (Ok (Some p)) there (Some p) w)) c.self.invariant.0.remembered;
+      },
       keeps-undoable m (written_at m (Some p) c.args.from w) c.self.inside.undo.items
-          (opened-pinned m m c.self.inside.touched.items had had.sound.ordered (λ layer q. refl) key c.args.from c.args.width (Ok (Some p)) there (Some p) true how w) c.self.invariant.2,
+          (opened-pinned m m c.self.inside.work.touched.items had had.sound.ordered (λ layer q. refl) key c.args.from c.args.width (Ok (Some p)) there (Some p) true how w) c.self.invariant.1,
+      c.self.invariant.2,
       c.self.invariant.3,
-      c.self.invariant.4,
     )
 
 pub returns-in-Some : goal.returns-in-Some
 returns-in-Some c =
-    let m = c.self.inside.places in
-    let touched = c.self.inside.touched.items in
-    let had = c.self.invariant.0 in
+    let m = c.self.inside.work.places in
+    let touched = c.self.inside.work.touched.items in
+    let had = c.self.invariant.0.tracked in
     let ordered = had.sound.ordered in
     let key = c.args.key.now in
     let p = c.in-Some.place in
@@ -59,46 +61,48 @@ returns-in-Some c =
 
 pub words_at-requires-in-None : goal.words_at-requires-in-None
 words_at-requires-in-None c =
-    can-lend c.self.inside.places c.own_in-own.new.places c.own_in-own.new.touched.items c.own_in-own.ensures.tracked c.self.invariant.0.sound.ordered c.own_in-own.ensures.same c.args.key.now c.args.from c.args.width c.own_in-own.result c.own_in-own.ensures.none
-    c.own_place-place.result c.own_place-place.new.lent (c.own_in-own.ensures.own, c.own_place-place.ensures.place)
+    can-lend c.self.inside.work.places c.own-found.new.self.places c.own-found.new.self.touched.items c.own-found.ensures.at_work.tracked c.self.invariant.0.tracked.sound.ordered c.own-found.ensures.same c.args.key.now c.args.from c.args.width c.own-found.result c.own-found.ensures.none
+    c.own_place-place.result c.own_place-place.new.lent (c.own-found.ensures.own, c.own_place-place.ensures.place)
 
 pub invariant_of-self-lent-in-None : goal.invariant_of-self-lent-in-None
 invariant_of-self-lent-in-None c = λ w. (
-  opened-tracked c.self.inside.places c.own_in-own.new.places c.own_in-own.new.touched.items c.own_in-own.ensures.tracked c.self.invariant.0.sound.ordered c.own_in-own.ensures.same c.args.key.now c.args.from c.args.width c.own_in-own.result c.own_in-own.ensures.none
-      c.own_place-place.result c.own_place-place.new.lent (c.own_in-own.ensures.own, c.own_place-place.ensures.place) w,
-  subst (λ (tree : BTreeMap Key ℕ). IsRemembered tree c.own_in-own.new.known.lines)
-      (sym (opened-tree c.self.inside.places c.own_in-own.new.places c.own_in-own.new.touched.items c.own_in-own.ensures.tracked c.self.invariant.0.sound.ordered c.own_in-own.ensures.same c.args.key.now c.args.from c.args.width c.own_in-own.result c.own_in-own.ensures.none c.own_place-place.result w))
-      c.own_in-own.ensures.remembered,
-  keeps-undoable c.self.inside.places (written_at c.own_in-own.new.places c.own_place-place.result c.args.from w) c.self.inside.undo.items
-      (λ q place h. opened-pinned c.self.inside.places c.own_in-own.new.places c.own_in-own.new.touched.items c.own_in-own.ensures.tracked c.self.invariant.0.sound.ordered c.own_in-own.ensures.same c.args.key.now c.args.from c.args.width c.own_in-own.result c.own_in-own.ensures.none
-      c.own_place-place.result c.own_place-place.new.lent (c.own_in-own.ensures.own, c.own_place-place.ensures.place) w q place (c.own_in-own.ensures.pinned q place h)) c.self.invariant.2,
+  record {
+    tracked = opened-tracked c.self.inside.work.places c.own-found.new.self.places c.own-found.new.self.touched.items c.own-found.ensures.at_work.tracked c.self.invariant.0.tracked.sound.ordered c.own-found.ensures.same c.args.key.now c.args.from c.args.width c.own-found.result c.own-found.ensures.none
+        c.own_place-place.result c.own_place-place.new.lent (c.own-found.ensures.own, c.own_place-place.ensures.place) w;
+    remembered = subst (λ (tree : BTreeMap Key ℕ). IsRemembered tree c.own-found.new.self.known.lines)
+        (sym (opened-tree c.self.inside.work.places c.own-found.new.self.places c.own-found.new.self.touched.items c.own-found.ensures.at_work.tracked c.self.invariant.0.tracked.sound.ordered c.own-found.ensures.same c.args.key.now c.args.from c.args.width c.own-found.result c.own-found.ensures.none c.own_place-place.result w))
+        c.own-found.ensures.at_work.remembered;
+  },
+  keeps-undoable c.self.inside.work.places (written_at c.own-found.new.self.places c.own_place-place.result c.args.from w) c.self.inside.undo.items
+      (λ q place h. opened-pinned c.self.inside.work.places c.own-found.new.self.places c.own-found.new.self.touched.items c.own-found.ensures.at_work.tracked c.self.invariant.0.tracked.sound.ordered c.own-found.ensures.same c.args.key.now c.args.from c.args.width c.own-found.result c.own-found.ensures.none
+      c.own_place-place.result c.own_place-place.new.lent (c.own-found.ensures.own, c.own_place-place.ensures.place) w q place (c.own-found.ensures.pinned q place h)) c.self.invariant.1,
+  c.self.invariant.2,
   c.self.invariant.3,
-  c.self.invariant.4,
 )
 
 pub returns-in-None : goal.returns-in-None
 returns-in-None c =
-    let m = c.self.inside.places in
-    let n = c.own_in-own.new.places in
-    let touched = c.own_in-own.new.touched.items in
-    let had = c.own_in-own.ensures.tracked in
-    let ordered = c.self.invariant.0.sound.ordered in
-    let same = c.own_in-own.ensures.same in
+    let m = c.self.inside.work.places in
+    let n = c.own-found.new.self.places in
+    let touched = c.own-found.new.self.touched.items in
+    let had = c.own-found.ensures.at_work.tracked in
+    let ordered = c.self.invariant.0.tracked.sound.ordered in
+    let same = c.own-found.ensures.same in
     let key = c.args.key.now in
     let place = c.own_place-place.result in
     let lent = c.own_place-place.new.lent in
-    let own = c.own_in-own.result in
-    let there = c.own_in-own.ensures.none in
+    let own = c.own-found.result in
+    let there = c.own-found.ensures.none in
     let how = c.own_place-place.ensures.place in (
       (
         refl,
-        λ w. ap (with_marks c.self.inside.undo.items c.self.inside.marks) (opened-layers m n touched had ordered same key c.args.from c.args.width own there place lent (c.own_in-own.ensures.own, how) w)
+        λ w. ap (with_marks c.self.inside.undo.items c.self.inside.marks) (opened-layers m n touched had ordered same key c.args.from c.args.width own there place lent (c.own-found.ensures.own, how) w)
             ∙ written-marks c.self.inside.undo.items c.self.inside.marks lent c.args.width (layers m) key c.args.from w
             ∙ ap (λ (l : Layers). written_if lent c.args.width l key c.args.from w) c.self.view_is,
       ),
       record {
         loan = tt;
-        words = λ is. opened-words m n touched had ordered same key c.args.from c.args.width own there place lent (c.own_in-own.ensures.own, how) c.words_at-in-None.result.now c.own_place-place.ensures.lent c.words_at-in-None.ensures.words c.words_at-in-None.ensures.none is
+        words = λ is. opened-words m n touched had ordered same key c.args.from c.args.width own there place lent (c.own-found.ensures.own, how) c.words_at-in-None.result.now c.own_place-place.ensures.lent c.words_at-in-None.ensures.words c.words_at-in-None.ensures.none is
             ∙ ap (λ (l : Layers). option_and_then (piece c.args.from c.args.width) (words_under l.current key)) c.self.view_is;
         there = λ is. ap (λ (l : Layers). option_and_then (piece c.args.from c.args.width) (words_under l.current key)) (sym c.self.view_is)
             ∙ none-there m key c.args.from c.args.width ordered own c.own_place-place.new.there there c.own_place-place.ensures.there c.own_place-place.ensures.refused is;
