@@ -212,9 +212,9 @@ contents-same m n us ms s t committed current =
     let same : shown_of Committed n ≡ shown_of Committed m = shown-same Committed Committed m n s.ordered t.ordered committed in
     layers-equal (contents n us ms) (contents m us ms) same (shown-same Current Current m n s.ordered t.ordered current) (ap (marks_of back us ms) same)
 
--- an overlay over storage that is as it was
-pub over-same : (o : Overlay) (l : Layers) → l ≡ o.storage.now → record o { storage = record (o.storage) { now = l } } ≡ o
-over-same o l e = ap (λ (x : Layers). record o { storage = record (o.storage) { now = x } }) e
+-- an overlay over storage that is seen so
+abbrev pub over : Overlay → Layers → Overlay
+over o l = record o { storage = record (o.storage) { now = l } }
 
 -- ---- keys that are left to take out
 

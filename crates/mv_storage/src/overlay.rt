@@ -4,7 +4,7 @@ ghost use Rattle.mv_move_types.specs.declared.tables.Key.{Key};
 ghost use Rattle.mv_storage.specs.WordLists.{piece};
 ghost use Rattle.mv_storage.specs.FlatStorage.{words_under, with_words, without_words};
 ghost use Rattle.mv_storage.specs.Map.{Ascends};
-ghost use Rattle.std.specs.Prelude.{true, false, Some, Ok, Err};
+ghost use Rattle.std.specs.Prelude.{ℕ, true, false, nat_lt, Some, Ok, Err};
 ghost use Rattle.std.specs.Borrow.{sem};
 ghost use Rattle.mv_storage.specs.Lending.{LendsLent, LendsWords, lent_words};
 
@@ -39,6 +39,36 @@ fn part(words: &[u128], from: usize, width: usize) -> &[u128]
     ensures { result.now ≡ take width (drop from words.now) }
 {
     &words[from..from + width]
+}
+
+// The place of words that the run has to itself, if any are wanted; and whether so many are there, and whether the run has them.
+#[inline(always)]
+fn own_place(
+    own: Result<Option<usize>, AllocError>,
+    width: usize,
+    there: &mut bool,
+    lent: &mut bool,
+) -> Option<usize>
+    ensures there { IfOk own (λ found. there.new ≡ is_some found) }
+    ensures refused { OnErr own (there.new ≡ true) }
+    ensures lent { lent.new ≡ true → (p : ℕ) × (own ≡ Ok (Some p)) }
+    ensures place { MatchOption result (nat_lt 0 width ≡ true → lent.new ≡ false) (λ p. (own ≡ Ok (Some p)) × (1 ≤ width) × (lent.new ≡ true)) }
+{
+    let found = match own {
+        Ok(found) => {
+            *there = found.is_some();
+            found
+        }
+        Err(_) => {
+            *there = true;
+            None
+        }
+    };
+    *lent = found.is_some();
+    if width == 0 {
+        return None;
+    }
+    found
 }
 
 // The answer where words are lent.
@@ -195,7 +225,8 @@ impl Overlay<'_> {
         }
     }
 
-    // So many words from a place on, lent; and whether so many are there, and whether they are lent.
+    // So many words from a place on, lent; and whether so many are there, and whether they are lent. No words are lent where fewer
+    // are there, or where memory runs out; nothing changes then.
     #[inline(always)]
     fn open(
         &mut self,
@@ -211,7 +242,20 @@ impl Overlay<'_> {
         ensures ascends { Ascends self.old.storage.now.current }
     {
         let storage = &mut *self.storage;
-        storage.open(key, from, width, there, lent)
+        match storage.work.ready(key, from, width) {
+            Some(place) => {
+                *there = true;
+                *lent = true;
+                storage.work.places.words_at(Some(place), from, width)
+            }
+            None => {
+                let found = storage
+                    .work
+                    .own(key.address, key.place, key.index, from, width, storage.alloc);
+                let place = own_place(found, width, there, lent);
+                storage.work.places.words_at(place, from, width)
+            }
+        }
     }
 
     /// Lends `width` words from `offset` on, of those that the run sees under a key, to be read and written in place; None if

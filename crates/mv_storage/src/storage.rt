@@ -2,14 +2,10 @@
 ghost use Rattle.std.specs.BTreeMap.Range.{IsLeBy, IsLtBy, range_contains};
 ghost use Rattle.std.specs.List.{filter, AllByRecursion};
 ghost use Rattle.mv_machine.specs.State.{same_key};
-ghost use Rattle.std.specs.Prelude.{◌≡◌, ◌==◌, ◌<◌, ◌≤◌, ◌+◌, ◌^◌, ◌++◌, ◌∷◌, length, take, drop, [], None, is_some, IfOk, IfSome, IsOk, OnOk, OnErr, MatchOption, option_copied, option_and_then, option_map, slice_get};
-ghost use Rattle.mv_storage.specs.WordLists.{piece};
-ghost use Rattle.mv_storage.specs.FlatStorage.{FlatStorage, words_under, with_words, without_words};
+ghost use Rattle.std.specs.Prelude.{◌≡◌, ◌==◌, ◌<◌, ◌^◌, ◌++◌, ◌∷◌, length, [], List, true, false, IfOk, OnOk, OnErr, option_copied};
+ghost use Rattle.mv_storage.specs.FlatStorage.{FlatStorage, words_under};
 ghost use Rattle.mv_storage.specs.Map.{Ascends};
 ghost use Rattle.mv_storage.specs.Slots.{key_cmp, layers, IsSound, AreKept};
-ghost use Rattle.std.specs.Prelude.{ℕ, List, true, false, nat_lt, Some, Ok};
-ghost use Rattle.std.specs.Borrow.{sem};
-ghost use Rattle.mv_storage.specs.Lending.{LendsIn};
 ghost use Rattle.mv_storage.specs.Difference.{IsDifference};
 
 use crate::blocks::{Undone, close, take_back};
@@ -71,36 +67,6 @@ fn has_128_bits(address: Address)
     ensures { address < 2 ^ 128 }
 {
     let _address = address;
-}
-
-// The place of words that the run has to itself, if any are wanted; and whether so many are there, and whether the run has them.
-#[inline(always)]
-fn own_place(
-    own: Result<Option<usize>, AllocError>,
-    width: usize,
-    there: &mut bool,
-    lent: &mut bool,
-) -> Option<usize>
-    ensures there { IfOk own (λ found. there.new ≡ is_some found) }
-    ensures refused { OnErr own (there.new ≡ true) }
-    ensures lent { lent.new ≡ true → (p : ℕ) × (own ≡ Ok (Some p)) }
-    ensures place { MatchOption result (nat_lt 0 width ≡ true → lent.new ≡ false) (λ p. (own ≡ Ok (Some p)) × (1 ≤ width) × (lent.new ≡ true)) }
-{
-    let found = match own {
-        Ok(found) => {
-            *there = found.is_some();
-            found
-        }
-        Err(_) => {
-            *there = true;
-            None
-        }
-    };
-    *lent = found.is_some();
-    if width == 0 {
-        return None;
-    }
-    found
 }
 
 impl Storage {
@@ -225,38 +191,6 @@ impl Storage {
     {
         self.give_up();
         Overlay { storage: self }
-    }
-
-    // So many words from a place on, of those that the run sees under a key, lent; and whether so many are there, and whether
-    // they are lent. No words are lent where fewer are there, or where memory runs out; nothing changes then.
-    #[inline(always)]
-    pub(crate) fn open(
-        &mut self,
-        key: &Key,
-        from: usize,
-        width: usize,
-        there: &mut bool,
-        lent: &mut bool,
-    ) -> &mut [u128]
-        ensures* loan { sem 𝓛 (LendsIn self.entry key.now from width lent.new result) }
-        ensures words { lent.new ≡ true → Some result.now ≡ option_and_then (piece from width) (words_under self.old.current key.now) }
-        ensures there { there.new ≡ false → option_and_then (piece from width) (words_under self.old.current key.now) ≡ None }
-        ensures ascends { Ascends self.old.current }
-    {
-        match self.work.ready(key, from, width) {
-            Some(place) => {
-                *there = true;
-                *lent = true;
-                self.work.places.words_at(Some(place), from, width)
-            }
-            None => {
-                let found = self
-                    .work
-                    .own(key.address, key.place, key.index, from, width, self.alloc);
-                let place = own_place(found, width, there, lent);
-                self.work.places.words_at(place, from, width)
-            }
-        }
     }
 
     // Gives up what the run has made. It takes no memory.

@@ -1,7 +1,7 @@
 use Rattle.mv_storage.proofs.Common.{◌∙◌, ◌≡◌, Some, ap, is_some, layer_at, refl, sym, slot_at, Committed, Current}
 use Rattle.mv_storage.proofs.SlotReads.{place-within}
 use Rattle.mv_storage.proofs.Steps.{reads, slot-read}
-use Rattle.mv_storage.proofs.Undoing.{contents-same, keeps-undoable, over-same}
+use Rattle.mv_storage.proofs.Undoing.{contents-same, keeps-undoable, over}
 use Rattle.mv_storage.proofs.overlay.Overlay.claim.Goals as goal
 
 pub returns-clause-found : goal.returns-clause-found
@@ -17,7 +17,7 @@ returns-clause-found c =
 
 pub returns-clause-same : goal.returns-clause-same
 returns-clause-same c =
-    over-same c.args.self.now _ (contents-same c.storage.inside.work.places c.place_for.new.self.places c.storage.inside.undo.items c.storage.inside.marks c.storage.invariant.0.tracked.sound c.place_for.ensures.at_work.tracked.sound
+    ap (over c.args.self.now) (contents-same c.storage.inside.work.places c.place_for.new.self.places c.storage.inside.undo.items c.storage.inside.marks c.storage.invariant.0.tracked.sound c.place_for.ensures.at_work.tracked.sound
     (c.place_for.ensures.same Committed) (c.place_for.ensures.same Current) ∙ c.storage.view_is)
 
 pub invariant_of-storage-2 : goal.invariant_of-storage-2
@@ -35,7 +35,7 @@ index-requires c = place-within c.place_for.new.self.places c.args.key.now c.in_
 -- no memory
 pub returns-in_err-place-clause-same : goal.returns-in_err-place-clause-same
 returns-in_err-place-clause-same c =
-    over-same c.args.self.now _ (contents-same c.storage.inside.work.places c.place_for.new.self.places c.storage.inside.undo.items c.storage.inside.marks c.storage.invariant.0.tracked.sound c.place_for.ensures.at_work.tracked.sound
+    ap (over c.args.self.now) (contents-same c.storage.inside.work.places c.place_for.new.self.places c.storage.inside.undo.items c.storage.inside.marks c.storage.invariant.0.tracked.sound c.place_for.ensures.at_work.tracked.sound
     (c.place_for.ensures.same Committed) (c.place_for.ensures.same Current) ∙ c.storage.view_is)
 
 pub invariant_of-storage : goal.invariant_of-storage
