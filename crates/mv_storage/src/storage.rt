@@ -189,8 +189,9 @@ impl Storage {
         ensures current { result.storage.now.current ≡ self.old.committed }
         ensures marks { result.storage.now.marks ≡ self.old.marks }
     {
-        self.give_up();
-        Overlay { storage: self }
+        let storage = self;
+        storage.give_up();
+        Overlay { storage }
     }
 
     // Gives up what the run has made. It takes no memory.
