@@ -57,12 +57,6 @@ keeps-removed m n k loose has gets q place h =
     ))
     (cases_Bool (same_key k q))
 
--- what the code has read twice at a key's place is one slot
-pub read-twice : (m : Places) (k : Key) (p : ℕ) (r s : Slot) → IsSound m → get key_cmp m.tree k ≡ Some p → r ≡ slice_index_or m.slots.items p r → s ≡ slice_index_or m.slots.items p s → r ≡ s
-read-twice m k p r s sound at one two =
-    let same : Some r ≡ Some s = sym (place-read m k p r sound (inl at) one) ∙ place-read m k p s sound (inl at) two in
-    cc
-
 -- a key that gets the place that it has leaves all places as they are
 pub same-places : (m n : Places) (k : Key) (p : ℕ) → get key_cmp m.tree k ≡ Some p → HasPlace m n k (Some p) → (q : Key) → get key_cmp n.tree q ≡ get key_cmp m.tree q
 same-places m n k p at gets q =

@@ -194,10 +194,6 @@ tracked-added m n k p t touched had none put gets = record {
   placed = placed-added m n k p touched none gets had.placed;
 }
 
-pub placed-entries : (a b : BTreeMap Key ℕ) (touched : List (Key × ℕ)) → b.entries ≡ a.entries → ArePlaced a touched → ArePlaced b touched
-placed-entries a b touched same placed =
-    placed-kept a b touched (λ q place e. ap (λ (es : List (Key × ℕ)). lookup (is_at (key_cmp q)) es) same ∙ e) placed
-
 -- from slots that are the same
 pub put-from : (m v n : Places) (k : Key) (t : Slot) → ((q : Key) → slot_at v q ≡ slot_at m q) → Put v n k t → Put m n k t
 put-from m v n k t same put = record { sound = put.sound; has = λ q. put.has q ∙ ap (cond (same_key k q) (Some t)) (same q) }

@@ -10,13 +10,17 @@ use Rattle.std.proofs.lemmas.Bool.{cases_Bool}
 use Rattle.mv_undo.specs.Undo.{undone, marks_of, AreMarks}
 use Rattle.mv_undo.proofs.Lasts.{last-same, last-some}
 use Rattle.mv_undo.proofs.Undoing.{marks-noted, marks-append-of, marks-same, undone-none, back-same, AreMarks-back, AreMarks-more, all-append, all-before, all-behind}
-use Rattle.mv_storage.specs.Slots.{keeps_place, ArePlaced, AreKept, IsPinned, KeepsPinned, IsSettled, ShowsAt}
-use Rattle.mv_storage.specs.Blocks.{value_before, is_absent, with_value, back, AreFresh, AreClearing, IsUndoable, IsNoted}
+use Rattle.mv_storage.specs.Slots.{keeps_place, ArePlaced, AreKept, IsForgotten, IsPinned, KeepsPinned, IsSettled, ShowsAt}
+use Rattle.mv_storage.specs.Work.{IsAtWork}
+use Rattle.mv_storage.specs.declared.slots.Work.{Work}
+use Rattle.mv_storage.specs.declared.overlay.Overlay.{Overlay}
+use Rattle.mv_storage.specs.Blocks.{value_before, is_absent, with_value, back, contents, AreFresh, AreClearing, IsUndoable, IsNoted}
 use Rattle.mv_storage.specs.declared.blocks.Undone.{Undone}
 use Rattle.mv_storage.proofs.Keys.{same_key-to}
 use Rattle.mv_storage.proofs.Maps.{words_under-with_words, words_under-without_words, Ascends-with_words, Ascends-without_words, entries_from_words}
 use Rattle.mv_storage.proofs.PlaceLemmas.{HasAt}
 use Rattle.mv_storage.proofs.Shown.{shown_of, words_under-shown, shown-same, shown-with, shown-without, layers-same, Ascends-shown}
+use Rattle.mv_storage.proofs.Steps.{layers-equal}
 
 -- ---- a value under one key, or none
 
@@ -196,8 +200,21 @@ settled-tracked n touched s = record {
   placed = subst (ArePlaced n.tree) (sym s.none) tt;
 }
 
-pub kept-tracked : (n : Places) (touched : List (Key × ℕ)) → IsSound n → AreKept n → touched ≡ [] → IsTracked n touched
-kept-tracked n touched sound kept none = settled-tracked n touched (record { sound = sound; kept = kept; none = none })
+pub settled-at_work : (w : Work) → IsSettled w.places w.touched.items → IsForgotten w.known.lines → IsAtWork w
+settled-at_work w s forgotten = record { tracked = settled-tracked w.places w.touched.items s; remembered = forgotten w.places.tree }
+
+pub kept-at_work : (w : Work) → IsSound w.places → AreKept w.places → w.touched.items ≡ [] → IsForgotten w.known.lines → IsAtWork w
+kept-at_work w sound kept none forgotten = settled-at_work w (record { sound = sound; kept = kept; none = none }) forgotten
+
+-- what places show stays, and so does what was committed at the marks
+pub contents-same : (m n : Places) (us : List Undone) (ms : List ℕ) → IsSound m → IsSound n → ShowsSame Committed m n → ShowsSame Current m n → contents n us ms ≡ contents m us ms
+contents-same m n us ms s t committed current =
+    let same : shown_of Committed n ≡ shown_of Committed m = shown-same Committed Committed m n s.ordered t.ordered committed in
+    layers-equal (contents n us ms) (contents m us ms) same (shown-same Current Current m n s.ordered t.ordered current) (ap (marks_of back us ms) same)
+
+-- an overlay over storage that is seen so
+abbrev pub over : Overlay → Layers → Overlay
+over o l = record o { storage = record (o.storage) { now = l } }
 
 -- ---- keys that are left to take out
 

@@ -16,7 +16,6 @@ use Rattle.mv_storage.specs.contracts.value.Value as value
 use Rattle.mv_storage.specs.contracts.slot.Versions as versions
 use Rattle.mv_storage.specs.contracts.slot.Slot as slot
 use Rattle.mv_storage.specs.contracts.places.Places as places
-use Rattle.mv_storage.specs.contracts.storage.Storage as storage
 use Rattle.mv_storage.specs.contracts.overlay.Overlay as overlay
 
 abbrev pub LendsValue : MutBor (List ℕ) → ℕ → MutBor (List ℕ) → Fml
@@ -30,9 +29,6 @@ LendsSlot s from r = Lends slot.the_row (Array u128 0) s r (written_slot s.now f
 
 abbrev pub LendsAt : MutBor Places → Option ℕ → ℕ → MutBor (List ℕ) → Fml
 LendsAt s place from r = Lends places.the_row (Array u128 0) s r (written_at s.now place from)
-
-abbrev pub LendsIn : MutBor Layers → Key → ℕ → ℕ → Bool → MutBor (List ℕ) → Fml
-LendsIn s key from width lent r = Lends storage.the_row (Array u128 0) s r (written_if lent width s.now key from)
 
 -- an overlay over storage with these words
 abbrev pub over_written : Bool → ℕ → Overlay → Key → ℕ → List ℕ → Overlay

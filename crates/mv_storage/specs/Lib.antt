@@ -3,6 +3,7 @@ pub mod WordLists
 pub mod FlatStorage
 pub mod Map
 pub mod Slots
+pub mod Work
 pub mod Blocks
 pub mod Difference
 pub mod Lending

@@ -40,8 +40,8 @@ impl<'a> Entries<'a> {
         None
     }
 
-    /// The same values once more.
-    pub fn copied(&self) -> Self
+    // The same values once more.
+    pub(crate) fn copied(&self) -> Self
         ensures { result ≡ self.now }
     {
         match self.places.clone() {

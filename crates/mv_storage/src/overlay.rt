@@ -4,13 +4,16 @@ ghost use Rattle.mv_move_types.specs.declared.tables.Key.{Key};
 ghost use Rattle.mv_storage.specs.WordLists.{piece};
 ghost use Rattle.mv_storage.specs.FlatStorage.{words_under, with_words, without_words};
 ghost use Rattle.mv_storage.specs.Map.{Ascends};
-ghost use Rattle.std.specs.Prelude.{true, false, Some, Ok, Err};
+ghost use Rattle.std.specs.Prelude.{ℕ, true, false, nat_lt, Some, Ok, Err};
 ghost use Rattle.std.specs.Borrow.{sem};
 ghost use Rattle.mv_storage.specs.Lending.{LendsLent, LendsWords, lent_words};
 
+use crate::blocks::note_all;
+use crate::slot::Layer;
 use crate::{Room, Storage, Value};
 use mv_move_types::Key;
 use std::alloc::{AllocError, Global};
+use std::mem::replace;
 
 /// Storage that is lent to a run, which changes it. A contract sees `storage.now.committed`, which the storage holds once the
 /// overlay is gone, and `storage.now.current`, what the run has made of it so far. The cost of a call grows with the storage
@@ -27,6 +30,45 @@ impl Drop for Overlay<'_> {
         let Self { storage } = self;
         storage.give_up();
     }
+}
+
+// The words so far after a place, so many.
+#[inline]
+fn part(words: &[u128], from: usize, width: usize) -> &[u128]
+    requires { from + width ≤ length words.now }
+    ensures { result.now ≡ take width (drop from words.now) }
+{
+    &words[from..from + width]
+}
+
+// The place of words that the run has to itself, if any are wanted; and whether so many are there, and whether the run has them.
+#[inline(always)]
+fn own_place(
+    own: Result<Option<usize>, AllocError>,
+    width: usize,
+    there: &mut bool,
+    lent: &mut bool,
+) -> Option<usize>
+    ensures there { IfOk own (λ found. there.new ≡ is_some found) }
+    ensures refused { OnErr own (there.new ≡ true) }
+    ensures lent { lent.new ≡ true → (p : ℕ) × (own ≡ Ok (Some p)) }
+    ensures place { MatchOption result (nat_lt 0 width ≡ true → lent.new ≡ false) (λ p. (own ≡ Ok (Some p)) × (1 ≤ width) × (lent.new ≡ true)) }
+{
+    let found = match own {
+        Ok(found) => {
+            *there = found.is_some();
+            found
+        }
+        Err(_) => {
+            *there = true;
+            None
+        }
+    };
+    *lent = found.is_some();
+    if width == 0 {
+        return None;
+    }
+    found
 }
 
 // The answer where words are lent.
@@ -51,21 +93,24 @@ fn refused<'a>(there: bool) -> Result<Option<&'a mut [u128]>, AllocError>
 impl Overlay<'_> {
     /// The allocator that it takes memory from.
     pub fn allocator(&self) -> Global {
-        self.storage.allocator()
+        let storage = &*self.storage;
+        storage.alloc
     }
 
     /// Takes out the memory that is kept for the words of a run. Nothing else changes.
     pub fn take_room(&mut self) -> Room
         ensures same { self.new ≡ self.old }
     {
-        self.storage.take_room()
+        let storage = &mut *self.storage;
+        replace(&mut storage.room, Room::new(storage.alloc))
     }
 
     /// Keeps memory for the words of the next run: 64 MiB for locals and 1 MiB for operands at most. Nothing else changes.
     pub fn keep_room(&mut self, room: Room)
         ensures same { self.new ≡ self.old }
     {
-        self.storage.keep_room(room)
+        let storage = &mut *self.storage;
+        storage.room = room.kept(storage.alloc);
     }
 
     /// Whether the run sees a value under a key. The overlay remembers where it is, so that the next call with this key needs no
@@ -75,7 +120,11 @@ impl Overlay<'_> {
         ensures found { result ≡ is_some (words_under self.old.storage.now.current key.now) }
         ensures same { self.new ≡ self.old }
     {
-        self.storage.recall(key)
+        let storage = &mut *self.storage;
+        match storage.work.places.recall(&mut storage.work.known, key) {
+            Some(place) => storage.work.places.slots[place].is_seen(),
+            None => false,
+        }
     }
 
     /// Whether the run sees a value under a key. Where it sees none, the key has its place from then on, so that a `put` under it
@@ -85,7 +134,9 @@ impl Overlay<'_> {
         ensures found { IfOk result (λ found. found ≡ is_some (words_under self.old.storage.now.current key.now)) }
         ensures same { self.new ≡ self.old }
     {
-        self.storage.claim(key)
+        let storage = &mut *self.storage;
+        let place = storage.work.place_for(key)?;
+        Ok(storage.work.places.slots[place].is_seen())
     }
 
     /// The word at a place among those that the run sees under a key, if there is one. The overlay remembers where the value is,
@@ -95,7 +146,11 @@ impl Overlay<'_> {
         ensures word { result ≡ option_and_then (λ words. slice_get words at) (words_under self.old.storage.now.current key.now) }
         ensures same { self.new ≡ self.old }
     {
-        self.storage.word(key, at)
+        let storage = &mut *self.storage;
+        match storage.work.places.recall(&mut storage.work.known, key) {
+            Some(place) => storage.work.places.slots[place].word(at),
+            None => None,
+        }
     }
 
     /// The word at a place among those that the run sees under a key, where that is known with no search: such a key was looked up
@@ -104,7 +159,20 @@ impl Overlay<'_> {
     pub fn known_word(&self, key: &Key, at: usize) -> Option<u128>
         ensures { MatchOption result (Unit {0}) (λ word. option_and_then (λ words. slice_get words at) (words_under self.now.storage.now.current key.now) ≡ Some word) }
     {
-        self.storage.known_word(key, at)
+        let storage = &*self.storage;
+        storage.work.places.known_word(&storage.work.known, key, at)
+    }
+
+    // The words that the run sees under a key.
+    #[inline]
+    fn find(&self, key: &Key) -> Option<&[u128]>
+        ensures { option_copied result ≡ words_under self.now.storage.now.current key.now }
+    {
+        let storage = &*self.storage;
+        match storage.work.places.find_known(&storage.work.known, key) {
+            Some(slot) => slot.current(),
+            None => None,
+        }
     }
 
     /// Whether the run sees a value under a key.
@@ -112,7 +180,7 @@ impl Overlay<'_> {
     pub fn exists(&self, key: &Key) -> bool
         ensures { result ≡ is_some (words_under self.now.storage.now.current key.now) }
     {
-        self.storage.exists(key)
+        self.find(key).is_some()
     }
 
     /// How many words the run sees under a key; None where nothing is stored there.
@@ -120,7 +188,10 @@ impl Overlay<'_> {
     pub fn len(&self, key: &Key) -> Option<usize>
         ensures { result ≡ option_map length (words_under self.now.storage.now.current key.now) }
     {
-        self.storage.len(key)
+        match self.find(key) {
+            Some(words) => Some(words.len()),
+            None => None,
+        }
     }
 
     /// The key of an address, a module's place and a definition's index, if it can be the key of a stored value.
@@ -130,7 +201,16 @@ impl Overlay<'_> {
             (words_under self.now.storage.now.current (record { address = address; place = place; index = index }) ≡ None)
             (λ k. k ≡ record { address = address; place = place; index = index }) }
     {
-        self.storage.key_at(address, place, index)
+        let storage = &*self.storage;
+        let _work = &storage.work;
+        if place > u16::MAX as u128 {
+            return None;
+        }
+        Some(Key {
+            address,
+            place: place as u16,
+            index,
+        })
     }
 
     /// So many words from a place on, of those that the run sees under a key; None where nothing is stored there.
@@ -139,10 +219,14 @@ impl Overlay<'_> {
         requires fits { IfSome (words_under self.now.storage.now.current key.now) (λ words. offset + width ≤ length words) }
         ensures { option_copied result ≡ option_map (λ words. take width (drop offset words)) (words_under self.now.storage.now.current key.now) }
     {
-        self.storage.view(key, offset, width)
+        match self.find(key) {
+            Some(words) => Some(part(words, offset, width)),
+            None => None,
+        }
     }
 
-    // So many words from a place on, lent; and whether so many are there, and whether they are lent.
+    // So many words from a place on, lent; and whether so many are there, and whether they are lent. No words are lent where fewer
+    // are there, or where memory runs out; nothing changes then.
     #[inline(always)]
     fn open(
         &mut self,
@@ -158,7 +242,20 @@ impl Overlay<'_> {
         ensures ascends { Ascends self.old.storage.now.current }
     {
         let storage = &mut *self.storage;
-        storage.open(key, from, width, there, lent)
+        match storage.work.ready(key, from, width) {
+            Some(place) => {
+                *there = true;
+                *lent = true;
+                storage.work.places.words_at(Some(place), from, width)
+            }
+            None => {
+                let found = storage
+                    .work
+                    .own(key.address, key.place, key.index, from, width, storage.alloc);
+                let place = own_place(found, width, there, lent);
+                storage.work.places.words_at(place, from, width)
+            }
+        }
     }
 
     /// Lends `width` words from `offset` on, of those that the run sees under a key, to be read and written in place; None if
@@ -196,7 +293,8 @@ impl Overlay<'_> {
         ensures loan { self.new.storage.ghost_name ≡ self.old.storage.ghost_name }
         ensures err { OnErr result (self.new.storage.now ≡ self.old.storage.now) }
     {
-        self.storage.take(key)
+        let storage = &mut *self.storage;
+        storage.work.take(key, storage.alloc)
     }
 
     /// Puts a value under a key where the run sees none. It fails only where memory runs out, and nothing changes then.
@@ -208,7 +306,8 @@ impl Overlay<'_> {
         ensures loan { self.new.storage.ghost_name ≡ self.old.storage.ghost_name }
         ensures err { OnErr result (self.new.storage.now ≡ self.old.storage.now) }
     {
-        self.storage.put(key, value)
+        let storage = &mut *self.storage;
+        storage.work.put(key, value, storage.alloc)
     }
 
     /// Commits what the run has made so far; the run goes on from there.
@@ -225,7 +324,16 @@ impl Overlay<'_> {
         ensures loan { self.new.storage.ghost_name ≡ self.old.storage.ghost_name }
         ensures err { OnErr result (self.new.storage.now ≡ self.old.storage.now) }
     {
-        self.storage.commit()
+        let storage = &mut *self.storage;
+        if storage.marks.is_empty() {
+            storage.work.settle(Layer::Current);
+            return Ok(());
+        }
+        let work = &mut storage.work;
+        work.known.forget();
+        storage.undo.reserve(work.touched.len())?;
+        note_all(&mut work.places, &mut work.touched, &mut storage.undo);
+        Ok(())
     }
 
     /// Gives up what the run has made since the last commit. It takes no memory.

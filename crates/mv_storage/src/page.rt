@@ -90,7 +90,7 @@ impl Storage {
         };
         Page {
             definition,
-            entries: self.iter_from(first),
+            entries: self.entries(first..),
             most,
         }
     }

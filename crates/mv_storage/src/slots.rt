@@ -6,7 +6,8 @@ ghost use Rattle.std.specs.BTreeMap.{BTreeMap, get};
 ghost use Rattle.mv_move_types.specs.declared.tables.Key.{Key};
 ghost use Rattle.mv_machine.specs.State.{same_key};
 ghost use Rattle.mv_storage.specs.WordLists.{piece};
-ghost use Rattle.mv_storage.specs.Slots.{key_cmp, value_at, ShowsSame, ShowsAt, is_change, is_gone, KeepsPinned, IsSound, ArePlaced, IsRemembered, IsSettling, IsSettledAt, IsTracked, IsSettled, IsOwnAt};
+ghost use Rattle.mv_storage.specs.Slots.{key_cmp, value_at, ShowsSame, ShowsAt, is_change, KeepsPinned, IsForgotten, IsSound, ArePlaced, IsSettling, IsSettledAt, IsTracked, IsSettled, IsOwnAt};
+ghost use Rattle.mv_storage.specs.Work.{IsAtWork};
 ghost use Rattle.std.specs.Prelude.{◌≤◌, IfSome};
 ghost use Rattle.mv_storage.specs.declared.slot.Layer.{Layer};
 ghost use Rattle.mv_storage.specs.declared.slot.Layer.TheVariants.{Committed, Current};
@@ -17,6 +18,15 @@ use crate::places::{Places, enter_noted};
 use crate::slot::{Layer, Slot};
 use mv_move_types::Key;
 use std::alloc::{AllocError, Global};
+
+// What a run changes: the slots of keys, and the keys of those that it has changed. The keys that were looked up last are
+// remembered.
+#[derive(Drop)]
+pub(crate) struct Work {
+    pub(crate) places: Places,
+    pub(crate) touched: Vec<(Key, usize)>,
+    pub(crate) known: Known,
+}
 
 // Makes sure that the key of a slot that is about to be changed is among the keys touched.
 #[inline]
@@ -36,198 +46,142 @@ fn note(
     Ok(())
 }
 
-// The same where only a key without a value, which has kept its place, is about to be changed.
-#[inline(always)]
-fn note_gone(
-    slot: &Slot,
-    touched: &mut Vec<(Key, usize)>,
-    key: Key,
-    place: usize,
-) -> Result<(), AllocError>
-    ensures noted { OnOk result (is_gone slot.now ≡ true → list_any (λ t. same_key key t.0) touched.new.items ≡ true) }
-    ensures kept { (q : Key) → list_any (λ t. same_key q t.0) touched.old.items ≡ true → list_any (λ t. same_key q t.0) touched.new.items ≡ true }
-    ensures placed { (tree : BTreeMap Key ℕ) → get key_cmp tree key ≡ Some place → ArePlaced tree touched.old.items → ArePlaced tree touched.new.items }
-{
-    if slot.is_gone() {
-        touched.push((key, place))?;
+impl Work {
+    // Takes out what the run sees under a key.
+    pub(crate) fn take(&mut self, key: &Key, alloc: Global) -> Result<Option<Value>, AllocError>
+        requires { IsAtWork self.old }
+        ensures at_work { IsAtWork self.new }
+        ensures pinned { KeepsPinned self.old.places self.new.places }
+        ensures value { IfOk result (λ v. v ≡ value_at Current self.old.places key.now) }
+        ensures current { OnOk result (ShowsAt Current key.now None self.old.places self.new.places) }
+        ensures committed { ShowsSame Committed self.old.places self.new.places }
+        ensures err { OnErr result (ShowsSame Current self.old.places self.new.places) }
+    {
+        let Some(place) = self.places.recall(&mut self.known, key) else {
+            return Ok(None);
+        };
+        note(&self.places.slots[place], &mut self.touched, *key, place)?;
+        self.places.slots[place].take(alloc)
     }
-    Ok(())
-}
 
-// Takes out what the run sees under a key.
-pub(crate) fn take_from(
-    places: &mut Places,
-    touched: &mut Vec<(Key, usize)>,
-    known: &mut Known,
-    key: &Key,
-    alloc: Global,
-) -> Result<Option<Value>, AllocError>
-    requires tracked { IsTracked places.old touched.old.items }
-    requires remembered { IsRemembered places.old.tree known.old.lines }
-    ensures tracked { IsTracked places.new touched.new.items }
-    ensures remembered { IsRemembered places.new.tree known.new.lines }
-    ensures pinned { KeepsPinned places.old places.new }
-    ensures value { IfOk result (λ v. v ≡ value_at Current places.old key.now) }
-    ensures current { OnOk result (ShowsAt Current key.now None places.old places.new) }
-    ensures committed { ShowsSame Committed places.old places.new }
-    ensures err { OnErr result (ShowsSame Current places.old places.new) }
-{
-    let Some(place) = places.recall(known, key) else {
-        return Ok(None);
-    };
-    note(&places.slots[place], touched, *key, place)?;
-    places.slots[place].take(alloc)
-}
-
-// The place of a key that is remembered, where the run has a value to itself already, and so many words are there from a place
-// on, one at least.
-#[inline(always)]
-pub(crate) fn ready_in(
-    places: &Places,
-    known: &Known,
-    key: &Key,
-    from: usize,
-    width: usize,
-) -> Option<usize>
-    requires sound { IsSound places.now }
-    requires remembered { IsRemembered places.now.tree known.now.lines }
-    ensures own { IfSome result (IsOwnAt places.now key.now) }
-    ensures there { is_some result ≡ true → is_some (option_and_then (piece from width) (value_at Current places.now key.now)) ≡ true }
-    ensures some { is_some result ≡ true → 1 ≤ width }
-{
-    let place = known.recalled(&places.tree, key)?;
-    if width > 0 && places.slots[place].is_ready(from, width) {
-        return Some(place);
-    }
-    None
-}
-
-// Makes sure that the run has what it sees under a key to itself, and gives its place, if so many words are there from a place
-// on. The key is passed in its parts, since a whole one would be spilled to memory where the run has the value already.
-#[cold]
-#[inline(never)]
-pub(crate) fn own_in(
-    places: &mut Places,
-    touched: &mut Vec<(Key, usize)>,
-    known: &mut Known,
-    address: u128,
-    place: u16,
-    index: u16,
-    from: usize,
-    width: usize,
-    alloc: Global,
-) -> Result<Option<usize>, AllocError>
-    requires tracked { IsTracked places.old touched.old.items }
-    requires remembered { IsRemembered places.old.tree known.old.lines }
-    ensures tracked { IsTracked places.new touched.new.items }
-    ensures remembered { IsRemembered places.new.tree known.new.lines }
-    ensures pinned { KeepsPinned places.old places.new }
-    ensures same { (layer : Layer) → ShowsSame layer places.old places.new }
-    ensures none { IfOk result (λ found. is_some found ≡ is_some (option_and_then (piece from width) (value_at Current places.old (record { address = address; place = place; index = index })))) }
-    ensures own { IfOk result (λ found. IfSome found (IsOwnAt places.new (record { address = address; place = place; index = index }))) }
-{
-    let key = Key {
-        address,
-        place,
-        index,
-    };
-    let Some(at) = places.recall(known, &key) else {
-        return Ok(None);
-    };
-    note(&places.slots[at], touched, key, at)?;
-    places.slots[at].own_place(at, from, width, alloc)
-}
-
-// The place of a key, which it has from then on.
-#[inline(always)]
-pub(crate) fn place_for(
-    places: &mut Places,
-    touched: &mut Vec<(Key, usize)>,
-    known: &mut Known,
-    key: &Key,
-) -> Result<usize, AllocError>
-    requires tracked { IsTracked places.old touched.old.items }
-    requires remembered { IsRemembered places.old.tree known.old.lines }
-    ensures tracked { IsTracked places.new touched.new.items }
-    ensures remembered { IsRemembered places.new.tree known.new.lines }
-    ensures pinned { KeepsPinned places.old places.new }
-    ensures same { (layer : Layer) → ShowsSame layer places.old places.new }
-    ensures at { IfOk result (λ place. get key_cmp places.new.tree key.now ≡ Some place) }
-{
-    match known.recalled(&places.tree, key) {
-        Some(place) => Ok(place),
-        None => place_found(places, touched, known, *key),
-    }
-}
-
-// The same for a key that isn't remembered. Where it has no place, all that may fail is done first.
-#[inline]
-fn place_found(
-    places: &mut Places,
-    touched: &mut Vec<(Key, usize)>,
-    known: &mut Known,
-    key: Key,
-) -> Result<usize, AllocError>
-    requires tracked { IsTracked places.old touched.old.items }
-    requires remembered { IsRemembered places.old.tree known.old.lines }
-    ensures tracked { IsTracked places.new touched.new.items }
-    ensures remembered { IsRemembered places.new.tree known.new.lines }
-    ensures pinned { KeepsPinned places.old places.new }
-    ensures same { (layer : Layer) → ShowsSame layer places.old places.new }
-    ensures at { IfOk result (λ place. get key_cmp places.new.tree key ≡ Some place) }
-{
-    let _place = key.place;
-    let fresh = places.vacancy()?;
-    let had = enter_noted(&mut places.tree, touched, key, fresh)?;
-    match had {
-        None => {
-            places.fill(fresh, Slot::Empty);
-            known.note(key, fresh);
-            Ok(fresh)
+    // The place of a key that is remembered, where the run has a value to itself already, and so many words are there from a
+    // place on, one at least.
+    #[inline(always)]
+    pub(crate) fn ready(&self, key: &Key, from: usize, width: usize) -> Option<usize>
+        requires { IsAtWork self.now }
+        ensures own { IfSome result (IsOwnAt self.now.places key.now) }
+        ensures there { is_some result ≡ true → is_some (option_and_then (piece from width) (value_at Current self.now.places key.now)) ≡ true }
+        ensures some { is_some result ≡ true → 1 ≤ width }
+    {
+        let place = self.known.recalled(&self.places.tree, key)?;
+        if width > 0 && self.places.slots[place].is_ready(from, width) {
+            return Some(place);
         }
-        Some(place) => {
-            known.note(key, place);
-            Ok(place)
+        None
+    }
+
+    // Makes sure that the run has what it sees under a key to itself, and gives its place, if so many words are there from a place
+    // on. The key is passed in its parts, since a whole one would be spilled to memory where the run has the value already.
+    #[cold]
+    #[inline(never)]
+    pub(crate) fn own(
+        &mut self,
+        address: u128,
+        place: u16,
+        index: u16,
+        from: usize,
+        width: usize,
+        alloc: Global,
+    ) -> Result<Option<usize>, AllocError>
+        requires { IsAtWork self.old }
+        ensures at_work { IsAtWork self.new }
+        ensures pinned { KeepsPinned self.old.places self.new.places }
+        ensures same { (layer : Layer) → ShowsSame layer self.old.places self.new.places }
+        ensures none { IfOk result (λ found. is_some found ≡ is_some (option_and_then (piece from width) (value_at Current self.old.places (record { address = address; place = place; index = index })))) }
+        ensures own { IfOk result (λ found. IfSome found (IsOwnAt self.new.places (record { address = address; place = place; index = index }))) }
+    {
+        let key = Key {
+            address,
+            place,
+            index,
+        };
+        let Some(at) = self.places.recall(&mut self.known, &key) else {
+            return Ok(None);
+        };
+        note(&self.places.slots[at], &mut self.touched, key, at)?;
+        self.places.slots[at].own_place(at, from, width, alloc)
+    }
+
+    // The place of a key, which it has from then on.
+    #[inline(always)]
+    pub(crate) fn place_for(&mut self, key: &Key) -> Result<usize, AllocError>
+        requires { IsAtWork self.old }
+        ensures at_work { IsAtWork self.new }
+        ensures pinned { KeepsPinned self.old.places self.new.places }
+        ensures same { (layer : Layer) → ShowsSame layer self.old.places self.new.places }
+        ensures at { IfOk result (λ place. get key_cmp self.new.places.tree key.now ≡ Some place) }
+    {
+        match self.known.recalled(&self.places.tree, key) {
+            Some(place) => Ok(place),
+            None => self.place_found(*key),
         }
     }
-}
 
-// Puts a value under a key where the run sees none.
-#[inline]
-pub(crate) fn put_into(
-    places: &mut Places,
-    touched: &mut Vec<(Key, usize)>,
-    known: &mut Known,
-    key: Key,
-    value: Value,
-    alloc: Global,
-) -> Result<(), AllocError>
-    requires tracked { IsTracked places.old touched.old.items }
-    requires remembered { IsRemembered places.old.tree known.old.lines }
-    requires absent { value_at Current places.old key ≡ None }
-    ensures tracked { IsTracked places.new touched.new.items }
-    ensures remembered { IsRemembered places.new.tree known.new.lines }
-    ensures pinned { KeepsPinned places.old places.new }
-    ensures current { OnOk result (ShowsAt Current key (Some value) places.old places.new) }
-    ensures committed { ShowsSame Committed places.old places.new }
-    ensures err { OnErr result (ShowsSame Current places.old places.new) }
-{
-    let place = place_for(places, touched, known, &key)?;
-    note_gone(&places.slots[place], touched, key, place)?;
-    places.slots[place].put(value, alloc)
-}
+    // The same for a key that isn't remembered. Where it has no place, all that may fail is done first.
+    #[inline]
+    fn place_found(&mut self, key: Key) -> Result<usize, AllocError>
+        requires { IsAtWork self.old }
+        ensures at_work { IsAtWork self.new }
+        ensures pinned { KeepsPinned self.old.places self.new.places }
+        ensures same { (layer : Layer) → ShowsSame layer self.old.places self.new.places }
+        ensures at { IfOk result (λ place. get key_cmp self.new.places.tree key ≡ Some place) }
+    {
+        let _place = key.place;
+        let fresh = self.places.vacancy()?;
+        let had = enter_noted(&mut self.places.tree, &mut self.touched, key, fresh)?;
+        match had {
+            None => {
+                self.places.fill(fresh, Slot::Empty);
+                self.known.note(key, fresh);
+                Ok(fresh)
+            }
+            Some(place) => {
+                self.known.note(key, place);
+                Ok(place)
+            }
+        }
+    }
 
-// Makes one layer of the touched slots the committed one, and takes out those that are then empty, unless an open block needs
-// their places. Where none is touched it costs nothing.
-#[inline(always)]
-pub(crate) fn settle(places: &mut Places, touched: &mut Vec<(Key, usize)>, layer: Layer)
-    requires { IsTracked places.old touched.old.items }
-    ensures settled { IsSettled places.new touched.new.items }
-    ensures same { ShowsSame layer places.old places.new }
-    ensures pinned { layer ≡ Committed → KeepsPinned places.old places.new }
-{
-    if !touched.is_empty() {
-        settle_all(places, touched, layer);
+    // Puts a value under a key where the run sees none.
+    #[inline]
+    pub(crate) fn put(&mut self, key: Key, value: Value, alloc: Global) -> Result<(), AllocError>
+        requires at_work { IsAtWork self.old }
+        requires absent { value_at Current self.old.places key ≡ None }
+        ensures at_work { IsAtWork self.new }
+        ensures pinned { KeepsPinned self.old.places self.new.places }
+        ensures current { OnOk result (ShowsAt Current key (Some value) self.old.places self.new.places) }
+        ensures committed { ShowsSame Committed self.old.places self.new.places }
+        ensures err { OnErr result (ShowsSame Current self.old.places self.new.places) }
+    {
+        let place = self.place_for(&key)?;
+        note(&self.places.slots[place], &mut self.touched, key, place)?;
+        self.places.slots[place].put(value, alloc)
+    }
+
+    // Makes one layer of the touched slots the committed one, takes out those that are then empty, unless an open block needs
+    // their places, and forgets which keys were looked up. Where none is touched it costs nothing.
+    #[inline(always)]
+    pub(crate) fn settle(&mut self, layer: Layer)
+        requires { IsTracked self.old.places self.old.touched.items }
+        ensures settled { IsSettled self.new.places self.new.touched.items }
+        ensures forgotten { IsForgotten self.new.known.lines }
+        ensures same { ShowsSame layer self.old.places self.new.places }
+        ensures pinned { layer ≡ Committed → KeepsPinned self.old.places self.new.places }
+    {
+        self.known.forget();
+        if !self.touched.is_empty() {
+            settle_all(&mut self.places, &mut self.touched, layer);
+        }
     }
 }
 

@@ -9,7 +9,7 @@ use Rattle.mv_storage.proofs.storage.Storage.has_addresses.Goals as goal
 
 pub returns-in-Some : goal.returns-in-Some
 returns-in-Some c =
-    let entries = c.self.inside.places.tree.entries in
+    let entries = c.self.inside.work.places.tree.entries in
     subst (λ (l : Layers). AllByRecursion (λ (e : FlatEntry). e.key.address < 2 ^ 128) l.committed) c.self.view_is
-    (all-shown (λ (k : Key). k.address < 2 ^ 128) Committed c.self.inside.places.slots.items entries
+    (all-shown (λ (k : Key). k.address < 2 ^ 128) Committed c.self.inside.work.places.slots.items entries
     (below-last c.in-Some.last.now (keys_of entries) c.has_128_bits.ensures (recursion_from_All (λ (q : Key). is_lt (key_cmp c.in-Some.last.now q) ≡ false) (keys_of entries) c.in-Some.ensures.all_up_to)))
