@@ -249,9 +249,14 @@ impl Overlay<'_> {
                 storage.work.places.words_at(Some(place), from, width)
             }
             None => {
-                let found = storage
-                    .work
-                    .own(key.address, key.place, key.index, from, width, storage.alloc);
+                let found = storage.work.own(
+                    key.address,
+                    key.place,
+                    key.index,
+                    from,
+                    width,
+                    storage.alloc,
+                );
                 let place = own_place(found, width, there, lent);
                 storage.work.places.words_at(place, from, width)
             }
