@@ -3,6 +3,8 @@ use Rattle.std.proofs.Common.{◌≡◌, ◌≢◌, ◌⊎◌, ℕ, ◌+◌, Lis
 use Rattle.std.proofs.Common.{length-append, take_all, le_refl, Option, Some, None, Result, Err, inl, inr, flat_map}
 use Rattle.std.specs.Io.{StartsWith}
 use Rattle.std.specs.Io.KnownBytes.{Consumes, Appends}
+use Rattle.std.proofs.Transfers.{starts_with_of_append}
+use Rattle.std.proofs.lemmas.Grind.{flat_map-append}
 use Rattle.std.proofs.KnownBytes.{Consumes-nil, Appends-nil, Consumes-trans, Appends-trans}
 use Rattle.mv_ledger_state.specs.View.{LedgerView}
 use Rattle.mv_machine.specs.Lines.{Refused, reply_lines, numbered}
@@ -11,8 +13,11 @@ use Rattle.moveledger.specs.Headline.{Step, Reports, Tells}
 use Rattle.moveledger.specs.Reading.{IsCutAt}
 use Rattle.moveledger.specs.Outcome.{left_of, Begun, BegunByLines, EndsReading, GoesOn, ReadsOn, StopsAfter, StopsAt, being_answered, read_and_nothing_done}
 use Rattle.moveledger.specs.Progress.{Progress}
-use Rattle.moveledger.specs.Answered.{MayBeAnswered, MayBeAnsweredByLines}
-use Rattle.moveledger.proofs.Taken.{Tells-taken}
+use Rattle.moveledger.specs.Answered.{FailsReply, FailsToAnswer, MayBeAnsweredByLines}
+use Rattle.moveledger.specs.Writing.{IsByLines}
+use Rattle.moveledger.specs.declared.streaming.EngineError.{EngineError}
+use Rattle.moveledger.specs.declared.streaming.EngineError.TheVariants.{Read, Write, Memory}
+use Rattle.moveledger.proofs.Taken.{Appends-same, Tells-taken}
 use Rattle.moveledger.proofs.Unfinished.{NoWhole-cut, some-cut}
 
 -- one more record after others
@@ -46,6 +51,13 @@ Tells-trans (Some xs) (Some ys) took tail p q = p ∙ ap (λ l. took ++ l) q
 nonempty : (xs ys : List ℕ) → (xs ≢ []) → xs ++ ys ≢ []
 nonempty [] ys h e = h refl
 nonempty (x ∷ xs) ys h e = cc
+
+-- whole lines are a prefix of all, as is one of a line of JSON
+IsByLines-begun : (r : Record) (n : ℕ) (lines : List (List ℕ)) (part : List ℕ) → IsByLines r n lines part → StartsWith (flat_map (numbered n) lines) part
+IsByLines-begun r n lines part (inl h) =
+    let rest : List ℕ = flat_map (numbered n) h.1 in
+    starts_with_of_append (flat_map (numbered n) lines) part rest (ap (flat_map (numbered n)) h.2 ∙ flat_map-append (numbered n) h.0 h.1 ∙ ap (λ l. l ++ rest) (sym h.3))
+IsByLines-begun r n lines part (inr h) = h.1
 
 -- the run
 
@@ -140,11 +152,21 @@ module _ {before : ℕ} {given gives held holds : Option (List ℕ)} {old new : 
     }
 
     -- they are a record, whose answer may have been begun
-    pub Stops-answered : (holds2 : Option (List ℕ)) (new2 : LedgerView) (kind : ℕ) (items : List ℕ) → IsText took kind items
-        → MayBeAnswered (n + 1) kind items new new2 holds holds2 → StopsAfter (StopsAt Begun) before given gives2 held holds2 old new2 n
-    Stops-answered holds2 new2 kind items is (inl h) = Stops-with (StopsAt Begun) holds2 new2 [] (read_and_nothing_done (Whole kind items) is h.0 refl) h.1
-    Stops-answered holds2 new2 kind items is (inr h) =
-        Stops-with (StopsAt Begun) holds2 new2 h.1.1.0 (being_answered (Whole kind items, h.0, is, h.1.0, h.1.1.1)) h.1.1.2
+    pub Stops-answered : (holds2 : Option (List ℕ)) (new2 : LedgerView) (kind : ℕ) (items : List ℕ) (e : EngineError) → IsText took kind items
+        → FailsToAnswer e (n + 1) kind items new new2 holds holds2 → StopsAfter (StopsAt Begun) before given gives2 held holds2 old new2 n
+    Stops-answered holds2 new2 kind items Read is h = absurd h
+    Stops-answered holds2 new2 kind items Write is h =
+        Stops-with (StopsAt Begun) holds2 new2 h.1.1.0 (being_answered (Whole kind items, h.0, is, h.1.0, h.1.1.1)) h.1.1.3
+    Stops-answered holds2 new2 kind items Memory is (inl h) = Stops-with (StopsAt Begun) holds2 new2 [] (read_and_nothing_done (Whole kind items) is h.0 refl) h.1
+    Stops-answered holds2 new2 kind items Memory is (inr h) =
+        Stops-with (StopsAt Begun) holds2 new2 h.1 (being_answered (Whole kind items, h.0, is, h.2, IsByLines-begun (Whole kind items) (n + 1) h.0 h.1 h.3)) h.4
+
+    -- or a cut one, likewise
+    pub Stops-cut : (holds2 : Option (List ℕ)) (e : EngineError) → IsCutAt took (left_of gives2)
+        → FailsReply e (n + 1) (Some (Refused 1)) holds holds2 → StopsAfter (StopsAt Begun) before given gives2 held holds2 old new n
+    Stops-cut holds2 Read cut h = absurd h
+    Stops-cut holds2 Write cut h = Stops-with (StopsAt Begun) holds2 new h.0 (being_answered (Cut, reply_lines (Refused 1), cut, (refl, refl), h.1)) h.3
+    Stops-cut holds2 Memory cut h = Stops-with (StopsAt Begun) holds2 new [] (read_and_nothing_done Cut cut refl refl) (Appends-same holds holds2 h)
 
     -- or whole lines of it were written, if it doesn't ask for JSON
     pub Stops-by_lines : (holds2 : Option (List ℕ)) (new2 : LedgerView) (kind : ℕ) (items : List ℕ) → IsText took kind items

@@ -1,5 +1,5 @@
 -- Lines that are written piece by piece.
-use Rattle.std.proofs.Common.{◌≡◌, ◌≢◌, ◌⊎◌, ◌<◌, ℕ, List, [], ◌∷◌, ◌++◌, length, drop, refl, sym, ap, ◌∙◌, subst, append_assoc, Bool, true, false, codes, decimal, Option, flat_map}
+use Rattle.std.proofs.Common.{◌≡◌, ◌⊎◌, ◌<◌, ℕ, List, [], ◌∷◌, ◌++◌, length, drop, refl, sym, ap, ◌∙◌, subst, append_assoc, Bool, true, false, codes, decimal, Option, flat_map}
 use Rattle.std.proofs.Common.{arith, length-append, length-drop, inl, inr}
 use Rattle.std.specs.Prelude.{not}
 use Rattle.std.specs.Io.KnownBytes.{Appends}
@@ -8,10 +8,11 @@ use Rattle.std.proofs.lemmas.List.{flat_map_more}
 use Rattle.mv_machine.specs.Lines.{numbered}
 use Rattle.mv_lines.specs.LinesView.{ended}
 use Rattle.mv_lines.specs.Pieces.{TakesPiece, piece_text}
-use Rattle.moveledger.specs.Answered.{WritesPart, WritesWholeLines, number_at}
+use Rattle.mv_machine.specs.Ledger.{Format, AsText, AsJson}
+use Rattle.moveledger.specs.Answered.{FailsLines, WritesPart, WritesSome, WritesWholeLines, number_at}
 use Rattle.moveledger.specs.Writing.{BreaksOff}
 use Rattle.moveledger.specs.declared.streaming.EngineError.{EngineError}
-use Rattle.moveledger.specs.declared.streaming.EngineError.TheVariants.{Read, Write, Memory}
+use Rattle.moveledger.specs.declared.streaming.EngineError.TheVariants.{Write, Memory}
 use Rattle.std.proofs.Transfers.{starts_with_of_append}
 
 -- what is to be written of lines, of which the first may be begun
@@ -104,23 +105,6 @@ HasWritten-broken n begun last piece all old new a b c h takes broken =
       Appends-trans a b c h.0 part h.1.1 broken.3,
     )
 
--- a part of the text was written then
-pub BreaksOff-part : (n : ℕ) (all : List (List ℕ)) (a b : Option (List ℕ)) → BreaksOff (flat_map (numbered n) all) a b → WritesPart n all a b
-BreaksOff-part n all a b broken = (broken.0, broken.1, broken.3)
-
--- memory ran out before a piece was written
-pub HasWritten-kept : (n : ℕ) (begun : Bool) (all left : List (List ℕ)) (a b c : Option (List ℕ)) → HasWritten n begun all left a b → c ≡ b → WritesPart n all a c
-HasWritten-kept n begun all left a b c h same = subst (WritesPart n all a) (sym same) (HasWritten-part n begun all left a b h)
-
--- a piece failed in one of the two ways
-pub HasWritten-failed : (n : ℕ) (begun last : Bool) (piece : List ℕ) (all old new : List (List ℕ)) (a b c : Option (List ℕ)) (e : EngineError) → HasWritten n begun all old a b
-    → TakesPiece last piece old new → (e ≡ Write) ⊎ (e ≡ Memory) → (e ≡ Write → BreaksOff (written_piece n begun last piece) b c) → (e ≡ Memory → c ≡ b)
-    → (e ≢ Read) × WritesPart n all a c
-HasWritten-failed n begun last piece all old new a b c e h takes (inl is) write memory =
-    ((λ same. cc), BreaksOff-part n all a c (HasWritten-broken n begun last piece all old new a b c h takes (write is)))
-HasWritten-failed n begun last piece all old new a b c e h takes (inr is) write memory =
-    ((λ same. cc), HasWritten-kept n begun all old a b c h (memory is))
-
 -- ---- whole lines
 
 -- a writer took the first of all these lines, whole, and the others are left
@@ -145,3 +129,22 @@ HasWrittenLines-next n false true piece all old new a b c h takes whole w =
 pub HasWrittenLines-whole : (n : ℕ) (begun : Bool) (all left : List (List ℕ)) (a b c : Option (List ℕ)) → HasWrittenLines n begun all left a b → c ≡ b → WritesWholeLines n all a c
 HasWrittenLines-whole n begun all left a b c h same =
     subst (WritesWholeLines n all a) (sym same) (flat_map (numbered n) h.1, (h.1, left, h.2, refl), h.3)
+
+-- ---- where it ended
+
+-- memory ran out before a piece was written
+pub HasWritten-stopped : (format : Format) (n : ℕ) (begun : Bool) (all left : List (List ℕ)) (a b c : Option (List ℕ)) → HasWritten n begun all left a b
+    → (format ≡ AsText → HasWrittenLines n begun all left a b) → c ≡ b → WritesSome format n all a c
+HasWritten-stopped AsText n begun all left a b c h whole same = HasWrittenLines-whole n begun all left a b c (whole refl) same
+HasWritten-stopped AsJson n begun all left a b c h whole same = subst (WritesPart n all a) (sym same) (HasWritten-part n begun all left a b h)
+
+-- a piece failed in one of the two ways
+pub HasWritten-failed : (format : Format) (n : ℕ) (begun last : Bool) (piece : List ℕ) (all old new : List (List ℕ)) (a b c : Option (List ℕ)) (e : EngineError) → HasWritten n begun all old a b
+    → (format ≡ AsText → HasWrittenLines n begun all old a b) → TakesPiece last piece old new → (e ≡ Write) ⊎ (e ≡ Memory)
+    → (e ≡ Write → BreaksOff (written_piece n begun last piece) b c) → (e ≡ Memory → c ≡ b) → FailsLines e format n all a c
+HasWritten-failed format n begun last piece all old new a b c e h whole takes (inl is) write memory =
+    let E : EngineError → Type 0 = λ z. FailsLines z format n all a c in
+    subst E (sym is) (HasWritten-broken n begun last piece all old new a b c h takes (write is))
+HasWritten-failed format n begun last piece all old new a b c e h whole takes (inr is) write memory =
+    let E : EngineError → Type 0 = λ z. FailsLines z format n all a c in
+    subst E (sym is) (HasWritten-stopped format n begun all old a b c h whole (memory is))

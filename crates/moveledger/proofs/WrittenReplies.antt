@@ -1,11 +1,10 @@
 -- What a reply that was written answers.
 use Rattle.std.proofs.Common.{◌≡◌, ◌≢◌, ℕ, List, [], ◌∷◌, refl, sym, ap, ◌∙◌, subst, append-nil, Option, Some, None, inl, inr, flat_map}
+use Rattle.std.proofs.lemmas.Result.{IfErr-weaker}
 use Rattle.std.specs.Prelude.{Result, Ok, Err, IfErr, IfOk, OnOk}
-use Rattle.std.specs.Io.{StartsWith}
-use Rattle.std.specs.Io.KnownBytes.{Appends}
 use Rattle.mv_machine.specs.declared.Ending.{Ending}
 use Rattle.mv_machine.specs.declared.Ending.TheVariants.{Returned as HasReturned, Aborted as HasAborted, Exhausted as HasExhausted}
-use Rattle.mv_machine.specs.Lines.{Reply as Told, Refused as ToldRefused, reply_lines, numbered}
+use Rattle.mv_machine.specs.Lines.{Reply as Told, Refused as ToldRefused, Told as ToldLines, reply_lines, numbered}
 use Rattle.mv_machine.specs.Ledger.{Publish, Run, Show, Audit, BadRun, Bad, Format, AsText, AsJson}
 use Rattle.mv_move_types.specs.declared.refusal.Refusal.{Refusal as ReportRefusal}
 use Rattle.mv_lines.specs.LinesView.{LinesView}
@@ -16,7 +15,9 @@ use Rattle.mv_ledger_state.specs.Accepted.SoundLedger.{IsSoundLedger}
 use Rattle.mv_ledger.specs.declared.Reply.{Reply}
 use Rattle.mv_ledger.specs.declared.Reply.TheVariants.{Published, Refused, Rejected, Ran, Memory}
 use Rattle.moveledger.proofs.HeadlineLemmas.{answers_whole}
-use Rattle.moveledger.specs.Answered.{BreaksOffReply, IsAnswered, IsBrokenOff, MayBeAnswered, MayBeAnsweredByLines, WritesReply, WritesReplyWholeLines, WritesReplyPart, line_of}
+use Rattle.moveledger.specs.Answered.{BreaksOffReply, FailsLines, FailsReply, FailsReport, FailsToAnswer, IsAnswered, IsBrokenOff, MayBeAnsweredByLines, WritesReply, WritesSome, WritesWholeLines, line_of}
+use Rattle.moveledger.specs.declared.streaming.EngineError.{EngineError}
+use Rattle.moveledger.specs.declared.streaming.EngineError.TheVariants.{Read as NotRead, Write as NotWritten, Memory as NoMemory}
 use Rattle.moveledger.specs.Records.{Whole}
 use Rattle.moveledger.specs.Writing.{AsksJson, BreaksOff}
 use Rattle.moveledger.proofs.Taken.{Appends-same}
@@ -45,22 +46,14 @@ one_line Memory t is = cc
 lines_text : (n : ℕ) (reply : Reply) (t : Told) (text : List ℕ) → told reply ≡ Some t → text ≡ line_of t → numbered n text ≡ flat_map (numbered n) (reply_lines t)
 lines_text n reply t text is line = ap (numbered n) line ∙ sym (ap (flat_map (numbered n)) (one_line reply t is) ∙ append-nil (numbered n (line_of t)))
 
--- a prefix of it was
-pub reply_is_begun : (n : ℕ) (reply : Reply) (held holds : Option (List ℕ)) (text part : List ℕ) → ((t : Told) × ((told reply ≡ Some t) × (text ≡ line_of t))) → StartsWith (numbered n text) part
-    → Appends held holds part
-    → WritesReplyPart n (told reply) held holds
-reply_is_begun n reply held holds text part h front w =
-    let P : Option Told → Type 0 = λ o. WritesReplyPart n o held holds in
-    let Q : List ℕ → Type 0 = λ l. StartsWith l part in
-    subst P (sym h.1.0) (part, subst Q (lines_text n reply h.0 text h.1.0 h.1.1) front, w)
-
 -- writing it broke off
-pub reply_breaks_off : (n : ℕ) (reply : Reply) (held holds : Option (List ℕ)) (text : List ℕ) → ((t : Told) × ((told reply ≡ Some t) × (text ≡ line_of t))) → BreaksOff (numbered n text) held holds
-    → BreaksOffReply n (told reply) held holds
-reply_breaks_off n reply held holds text h broken =
+pub reply_fails : (n : ℕ) (reply : Reply) (held holds : Option (List ℕ)) (text : List ℕ) (e : EngineError) → ((t : Told) × ((told reply ≡ Some t) × (text ≡ line_of t))) → e ≡ NotWritten
+    → BreaksOff (numbered n text) held holds → FailsReply e n (told reply) held holds
+reply_fails n reply held holds text e h is broken =
     let P : Option Told → Type 0 = λ o. BreaksOffReply n o held holds in
     let Q : List ℕ → Type 0 = λ l. BreaksOff l held holds in
-    subst P (sym h.1.0) (subst Q (lines_text n reply h.0 text h.1.0 h.1.1) broken)
+    let E : EngineError → Type 0 = λ z. FailsReply z n (told reply) held holds in
+    subst E (sym is) (subst P (sym h.1.0) (subst Q (lines_text n reply h.0 text h.1.0 h.1.1) broken))
 
 -- ---- it answers its record
 
@@ -69,56 +62,46 @@ answered : (n kind : ℕ) (payload : List ℕ) (reply : Option Told) (old new : 
 answered n kind payload None old new held holds replies written = absurd written
 answered n kind payload (Some t) old new held holds replies written = (reply_lines t, ((t, (answers_whole kind payload t old new replies, refl)), written))
 
-may_be_answered : (n kind : ℕ) (payload : List ℕ) (reply : Option Told) (old new : LedgerView) (held holds : Option (List ℕ)) → Replies kind payload reply old new → WritesReplyPart n reply held holds
-    → MayBeAnswered n kind payload old new held holds
-may_be_answered n kind payload None old new held holds replies written = inl (replies, written)
-may_be_answered n kind payload (Some t) old new held holds replies written = inr (reply_lines t, ((t, (answers_whole kind payload t old new replies, refl)), written))
-
--- whole lines of what is told were written
-answered_by_lines : (n kind : ℕ) (payload : List ℕ) (reply : Option Told) (old new : LedgerView) (held holds : Option (List ℕ)) → Replies kind payload reply old new
-    → WritesReplyWholeLines n reply held holds → MayBeAnsweredByLines n kind payload old new held holds
-answered_by_lines n kind payload None old new held holds replies written = inl (replies, written)
-answered_by_lines n kind payload (Some t) old new held holds replies written =
+-- whole lines of it were written
+told_by_lines : (n kind : ℕ) (payload : List ℕ) (t : Told) (old new : LedgerView) (held holds : Option (List ℕ)) → Replies kind payload (Some t) old new
+    → WritesWholeLines n (reply_lines t) held holds → MayBeAnsweredByLines n kind payload old new held holds
+told_by_lines n kind payload t old new held holds replies written =
     inr (reply_lines t, written.0, (t, (answers_whole kind payload t old new replies, refl)), inl written.1, written.2)
 
--- or a prefix of them, and JSON is asked for
-answered_in_json : (n kind : ℕ) (payload : List ℕ) (reply : Option Told) (old new : LedgerView) (held holds : Option (List ℕ)) → AsksJson (Whole kind payload) → Replies kind payload reply old new
-    → WritesReplyPart n reply held holds → MayBeAnsweredByLines n kind payload old new held holds
-answered_in_json n kind payload None old new held holds json replies written = inl (replies, written)
-answered_in_json n kind payload (Some t) old new held holds json replies written =
-    inr (reply_lines t, written.0, (t, (answers_whole kind payload t old new replies, refl)), inr (json, written.1), written.2)
+-- or of a show or an audit a prefix, if JSON is asked for
+lines_told : (n kind : ℕ) (payload : List ℕ) (format : Format) (left : List (List ℕ)) (v : LedgerView) (held holds : Option (List ℕ)) → (payload ≡ format_text AsJson → AsksJson (Whole kind payload))
+    → payload ≡ format_text format → Replies kind payload (Some (ToldLines left)) v v → WritesSome format n left held holds → MayBeAnsweredByLines n kind payload v v held holds
+lines_told n kind payload AsText left v held holds json asked replies written = told_by_lines n kind payload (ToldLines left) v v held holds replies written
+lines_told n kind payload AsJson left v held holds json asked replies written =
+    inr (left, written.0, (ToldLines left, (answers_whole kind payload (ToldLines left) v v replies, refl)), inr (json asked, written.1), written.2)
 
--- nothing is as many lines as none
-pub no_lines : (n : ℕ) (reply : Option Told) (held holds : Option (List ℕ)) → holds ≡ held → WritesReplyWholeLines n reply held holds
-no_lines n None held holds same = Appends-same held holds same
-no_lines n (Some t) held holds same = ([], ([], reply_lines t, refl, refl), Appends-same held holds same)
-
--- where memory ran out, nothing was written of a reply
-pub unwritten_answers : (n kind same : ℕ) (payload : List ℕ) (reply : Option Told) (old new : LedgerView) (held holds : Option (List ℕ)) → kind ≡ same → Replies same payload reply old new → holds ≡ held
+-- or nothing, where memory ran out before
+unwritten : (n kind : ℕ) (payload : List ℕ) (reply : Option Told) (old new : LedgerView) (held holds : Option (List ℕ)) → Replies kind payload reply old new → holds ≡ held
     → MayBeAnsweredByLines n kind payload old new held holds
-unwritten_answers n kind same payload reply old new held holds is replies none =
-    let P : ℕ → Type 0 = λ k. Replies k payload reply old new in
-    answered_by_lines n kind payload reply old new held holds (subst P (sym is) replies) (no_lines n reply held holds none)
+unwritten n kind payload None old new held holds replies same = inl (replies, Appends-same held holds same)
+unwritten n kind payload (Some t) old new held holds replies same =
+    told_by_lines n kind payload t old new held holds replies ([], ([], reply_lines t, refl, refl), Appends-same held holds same)
 
--- and whole lines of a show or an audit, unless it is told as JSON
-module _ (n kind same : ℕ) (payload : List ℕ) (v : LedgerView) (held holds : Option (List ℕ)) (is : kind ≡ same) (json : payload ≡ format_text AsJson → AsksJson (Whole same payload)) where
-  report_so : (reply : Option Told) → Replies same payload reply v v → WritesReplyPart n reply held holds → (f : Format) → payload ≡ format_text f
-      → (f ≡ AsText → WritesReplyWholeLines n reply held holds) → MayBeAnsweredByLines n kind payload v v held holds
-  report_so reply replies part AsText asked whole =
-      let P : ℕ → Type 0 = λ k. Replies k payload reply v v in
-      answered_by_lines n kind payload reply v v held holds (subst P (sym is) replies) (whole refl)
-  report_so reply replies part AsJson asked whole =
-      let P : ℕ → Type 0 = λ k. Replies k payload reply v v in
-      let Q : ℕ → Type 0 = λ k. AsksJson (Whole k payload) in
-      answered_in_json n kind payload reply v v held holds (subst Q (sym is) (json asked)) (subst P (sym is) replies) part
+-- a write fails only where something is told, and not all of it is written then
+broken_off : (n kind : ℕ) (payload : List ℕ) (reply : Option Told) (old new : LedgerView) (held holds : Option (List ℕ)) → Replies kind payload reply old new → BreaksOffReply n reply held holds
+    → IsBrokenOff n kind payload old new held holds
+broken_off n kind payload None old new held holds replies broken = absurd broken
+broken_off n kind payload (Some t) old new held holds replies broken = (reply_lines t, ((t, (answers_whole kind payload t old new replies, refl)), broken))
 
-  pub report_answers : (report : Result LinesView ReportRefusal) → Replies same payload (told_lines report) v v → IfOk report (λ lines. payload ≡ format_text lines.format)
-      → (IfOk report (λ lines. lines.format ≡ AsText) → WritesReplyWholeLines n (told_lines report) held holds) → WritesReplyPart n (told_lines report) held holds
-      → MayBeAnsweredByLines n kind payload v v held holds
-  report_answers (Ok lines) replies asked whole part = report_so (told_lines (Ok lines)) replies part lines.format asked whole
-  report_answers (Err e) replies asked whole part =
-      let P : ℕ → Type 0 = λ k. Replies k payload (told_lines (Err e)) v v in
-      answered_by_lines n kind payload (told_lines (Err e)) v v held holds (subst P (sym is) replies) (whole tt)
+-- the same by the error
+reply_unanswered : (n kind : ℕ) (payload : List ℕ) (reply : Option Told) (old new : LedgerView) (held holds : Option (List ℕ)) (e : EngineError) → Replies kind payload reply old new
+    → FailsReply e n reply held holds → FailsToAnswer e n kind payload old new held holds
+reply_unanswered n kind payload reply old new held holds NotRead replies fails = fails
+reply_unanswered n kind payload reply old new held holds NotWritten replies fails = broken_off n kind payload reply old new held holds replies fails
+reply_unanswered n kind payload reply old new held holds NoMemory replies fails = unwritten n kind payload reply old new held holds replies fails
+
+lines_unanswered : (n kind : ℕ) (payload : List ℕ) (lines : LinesView) (v : LedgerView) (held holds : Option (List ℕ)) (e : EngineError) → (payload ≡ format_text AsJson → AsksJson (Whole kind payload))
+    → payload ≡ format_text lines.format → Replies kind payload (Some (ToldLines lines.left)) v v → FailsLines e lines.format n lines.left held holds → FailsToAnswer e n kind payload v v held holds
+lines_unanswered n kind payload lines v held holds NotRead json asked replies fails = fails
+lines_unanswered n kind payload lines v held holds NotWritten json asked replies fails = broken_off n kind payload (Some (ToldLines lines.left)) v v held holds replies fails
+lines_unanswered n kind payload lines v held holds NoMemory json asked replies fails = lines_told n kind payload lines.format lines.left v held holds json asked replies fails
+
+-- ---- what is written answers a record of this kind, or fails to
 
 pub written_answers : {T E : Type 0} (n kind same : ℕ) (payload : List ℕ) (reply : Option Told) (old new : LedgerView) (held holds : Option (List ℕ)) (r : Result T E) → kind ≡ same
     → Replies same payload reply old new
@@ -128,21 +111,22 @@ written_answers n kind same payload reply old new held holds (Ok v) is replies w
     answered n kind payload reply old new held holds (subst P (sym is) replies) written
 written_answers n kind same payload reply old new held holds (Err e) is replies written = tt
 
-pub begun_answers : {T E : Type 0} (read : E) (n kind same : ℕ) (payload : List ℕ) (reply : Option Told) (old new : LedgerView) (held holds : Option (List ℕ)) (r : Result T E) → kind ≡ same
+pub reply_fails_to_answer : {T : Type 0} (n kind same : ℕ) (payload : List ℕ) (reply : Option Told) (old new : LedgerView) (held holds : Option (List ℕ)) (r : Result T EngineError) → kind ≡ same
     → Replies same payload reply old new
-    → IfErr r (λ e. (e ≢ read) × WritesReplyPart n reply held holds) → IfErr r (λ e. (e ≢ read) × MayBeAnswered n kind payload old new held holds)
-begun_answers read n kind same payload reply old new held holds (Ok v) is replies written = tt
-begun_answers read n kind same payload reply old new held holds (Err e) is replies written =
+    → IfErr r (λ e. FailsReply e n reply held holds) → IfErr r (λ e. FailsToAnswer e n kind payload old new held holds)
+reply_fails_to_answer n kind same payload reply old new held holds r is replies =
     let P : ℕ → Type 0 = λ k. Replies k payload reply old new in
-    (written.0, may_be_answered n kind payload reply old new held holds (subst P (sym is) replies) written.1)
+    IfErr-weaker r _ _ (λ e. reply_unanswered n kind payload reply old new held holds e (subst P (sym is) replies))
 
--- a write fails only where something is told, and not all of it is written then
-pub breaks_off : (n kind same : ℕ) (payload : List ℕ) (reply : Option Told) (old new : LedgerView) (held holds : Option (List ℕ)) → kind ≡ same → Replies same payload reply old new
-    → BreaksOffReply n reply held holds → IsBrokenOff n kind payload old new held holds
-breaks_off n kind same payload None old new held holds is replies broken = absurd broken
-breaks_off n kind same payload (Some t) old new held holds is replies broken =
-    let P : ℕ → Type 0 = λ k. Replies k payload (Some t) old new in
-    (reply_lines t, ((t, (answers_whole kind payload t old new (subst P (sym is) replies), refl)), broken))
+pub report_fails_to_answer : {T : Type 0} (n kind same : ℕ) (payload : List ℕ) (v : LedgerView) (held holds : Option (List ℕ)) (r : Result T EngineError) → kind ≡ same
+    → (payload ≡ format_text AsJson → AsksJson (Whole kind payload)) → (report : Result LinesView ReportRefusal) → Replies same payload (told_lines report) v v
+    → IfOk report (λ lines. payload ≡ format_text lines.format)
+    → IfErr r (λ e. FailsReport e n report held holds) → IfErr r (λ e. FailsToAnswer e n kind payload v v held holds)
+report_fails_to_answer n kind same payload v held holds r is json (Ok lines) replies asked =
+    let P : ℕ → Type 0 = λ k. Replies k payload (told_lines (Ok lines)) v v in
+    IfErr-weaker r _ _ (λ e. lines_unanswered n kind payload lines v held holds e json asked (subst P (sym is) replies))
+report_fails_to_answer n kind same payload v held holds r is json (Err refusal) replies asked =
+    reply_fails_to_answer n kind same payload (told_lines (Err refusal)) v v held holds r is replies
 
 -- a payload of a kind of no record has no shape
 shapeless : (kind : ℕ) (payload : List ℕ) → (kind ≢ 1) → (kind ≢ 2) → (kind ≢ 3) → (kind ≢ 4) → IsShapeless kind payload

@@ -1,12 +1,10 @@
 // What is written for a record.
-ghost use Rattle.std.specs.Prelude.{◌≡◌, ◌≢◌, ◌⊎◌, ◌++◌, ◌∷◌, [], Some, Err, IfOk, IfErr, OnOk, codes, decimal, flat_map};
+ghost use Rattle.std.specs.Prelude.{◌≡◌, ◌≢◌, ◌⊎◌, ◌++◌, ◌∷◌, [], Some, Err, IfErr, OnOk, codes, decimal};
 ghost use Rattle.std.specs.Io.KnownBytes.{Appends};
-ghost use Rattle.mv_machine.specs.Ledger.{AsText};
 ghost use Rattle.mv_machine.specs.Lines.{Reply as Told, numbered, kind_text, stop_text};
 ghost use Rattle.mv_ledger.specs.Answering.{told, told_ending, told_lines};
 ghost use Rattle.mv_lines.specs.Pieces.{piece_text};
-ghost use Rattle.moveledger.specs.Answered.{BreaksOffReply, IsAnswered, IsBrokenOff, MayBeAnswered, MayBeAnsweredByLines, Writes, WritesPart, WritesWholeLines};
-ghost use Rattle.moveledger.specs.Answered.{WritesReply, WritesReplyWholeLines, WritesReplyPart, line_of, number_at};
+ghost use Rattle.moveledger.specs.Answered.{FailsLines, FailsReply, FailsReport, FailsToAnswer, IsAnswered, Writes, WritesReply, line_of, number_at};
 ghost use Rattle.moveledger.specs.Writing.{BreaksOff};
 
 use crate::streaming::EngineError;
@@ -169,13 +167,9 @@ fn write_lines<W: Write>(
     mut lines: Lines<'_>,
 ) -> Result<(), EngineError>
     ensures ok { OnOk result (Writes number lines.entry.left (W.contents writer.old) (W.contents writer.new)) }
-    ensures err { IfErr result (λ e. (e ≢ EngineError.Read)
-        × WritesPart number lines.entry.left (W.contents writer.old) (W.contents writer.new)) }
-    ensures write { result ≡ Err EngineError.Write → BreaksOff (flat_map (numbered number) lines.entry.left)
-        (W.contents writer.old) (W.contents writer.new) }
-    // Memory runs out between two lines of text, and not within one.
-    ensures memory { result ≡ Err EngineError.Memory → lines.entry.format ≡ AsText → WritesWholeLines number lines.entry.left
-        (W.contents writer.old) (W.contents writer.new) }
+    // A failed write is one within the lines. Memory runs out between two lines of text, and not within one.
+    ensures err { IfErr result (λ e. FailsLines e lines.entry.format number lines.entry.left
+        (W.contents writer.old) (W.contents writer.new)) }
 {
     let mut line = Vec::new(alloc);
     let mut is_begun = false;
@@ -194,11 +188,7 @@ pub fn write_reply<W: Write>(
     line: &mut Vec<u8>,
 ) -> Result<(), EngineError>
     ensures ok { OnOk result (WritesReply number (told reply) (W.contents writer.old) (W.contents writer.new)) }
-    ensures err { IfErr result (λ e. (e ≢ EngineError.Read)
-        × WritesReplyPart number (told reply) (W.contents writer.old) (W.contents writer.new)) }
-    ensures write { result ≡ Err EngineError.Write → BreaksOffReply number (told reply)
-        (W.contents writer.old) (W.contents writer.new) }
-    ensures memory { result ≡ Err EngineError.Memory → W.contents writer.new ≡ W.contents writer.old }
+    ensures err { IfErr result (λ e. FailsReply e number (told reply) (W.contents writer.old) (W.contents writer.new)) }
 {
     line.clear();
     put_reply(line, number, reply)?;
@@ -214,13 +204,7 @@ fn write_report<W: Write>(
     line: &mut Vec<u8>,
 ) -> Result<(), EngineError>
     ensures ok { OnOk result (WritesReply number (told_lines report.entry) (W.contents writer.old) (W.contents writer.new)) }
-    ensures err { IfErr result (λ e. (e ≢ EngineError.Read)
-        × WritesReplyPart number (told_lines report.entry) (W.contents writer.old) (W.contents writer.new)) }
-    ensures write { result ≡ Err EngineError.Write → BreaksOffReply number (told_lines report.entry)
-        (W.contents writer.old) (W.contents writer.new) }
-    // Memory runs out between two lines, unless the report is a line of JSON.
-    ensures memory { result ≡ Err EngineError.Memory → IfOk report.entry (λ lines. lines.format ≡ AsText)
-        → WritesReplyWholeLines number (told_lines report.entry) (W.contents writer.old) (W.contents writer.new) }
+    ensures err { IfErr result (λ e. FailsReport e number report.entry (W.contents writer.old) (W.contents writer.new)) }
 {
     match report {
         Ok(lines) => write_lines(alloc, writer, number, lines),
@@ -257,12 +241,8 @@ fn answer_unchanged<W: Write>(
     requires run { kind ≢ 2 }
     ensures ok { OnOk result (IsAnswered number kind payload.now ledger.now ledger.now
         (W.contents writer.old) (W.contents writer.new)) }
-    ensures err { IfErr result (λ e. (e ≢ EngineError.Read) × MayBeAnswered number kind payload.now ledger.now ledger.now
+    ensures err { IfErr result (λ e. FailsToAnswer e number kind payload.now ledger.now ledger.now
         (W.contents writer.old) (W.contents writer.new)) }
-    ensures write { result ≡ Err EngineError.Write → IsBrokenOff number kind payload.now ledger.now ledger.now
-        (W.contents writer.old) (W.contents writer.new) }
-    ensures memory { result ≡ Err EngineError.Memory → MayBeAnsweredByLines number kind payload.now ledger.now ledger.now
-        (W.contents writer.old) (W.contents writer.new) }
 {
     if kind == SHOW {
         return write_report(alloc, writer, number, ledger.show_lines(payload), line);
@@ -288,14 +268,10 @@ pub fn answer<W: Write>(
 ) -> Result<(), EngineError>
     ensures ok { OnOk result (IsAnswered number kind payload.now ledger.old ledger.new
         (W.contents writer.old) (W.contents writer.new)) }
-    ensures err { IfErr result (λ e. (e ≢ EngineError.Read) × MayBeAnswered number kind payload.now ledger.old ledger.new
-        (W.contents writer.old) (W.contents writer.new)) }
     // A write fails only where there is something to write: the ledger is as after the record then, and not all is written.
-    ensures write { result ≡ Err EngineError.Write → IsBrokenOff number kind payload.now ledger.old ledger.new
-        (W.contents writer.old) (W.contents writer.new) }
     // Memory runs out between two lines, unless the record asks for JSON.
-    ensures memory { result ≡ Err EngineError.Memory → MayBeAnsweredByLines number kind payload.now ledger.old ledger.new
-        (W.contents writer.old) (W.contents writer.new) }
+    ensures err { IfErr result (λ e. FailsToAnswer e number kind payload.now ledger.old ledger.new
+        (W.contents writer.old) (W.contents writer.new)) }
 {
     if kind == PUBLISH {
         return write_reply(writer, number, ledger.publish(payload), line);

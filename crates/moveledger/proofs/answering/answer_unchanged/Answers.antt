@@ -1,8 +1,7 @@
 use Rattle.std.proofs.Common.{Some, inl, inr, refl}
 use Rattle.mv_machine.specs.Lines.{Refused}
 use Rattle.mv_ledger.specs.Answering.{told_lines}
-use Rattle.moveledger.specs.declared.streaming.EngineError.TheVariants.{Read}
-use Rattle.moveledger.proofs.WrittenReplies.{written_answers, begun_answers, breaks_off, other_replied, report_answers, unwritten_answers}
+use Rattle.moveledger.proofs.WrittenReplies.{written_answers, other_replied, reply_fails_to_answer, report_fails_to_answer}
 use Rattle.moveledger.proofs.answering.answer_unchanged.Goals as goal
 
 pub returns-then-kind-eq-SHOW-clause-ok : goal.returns-then-kind-eq-SHOW-clause-ok
@@ -12,18 +11,8 @@ returns-then-kind-eq-SHOW-clause-ok g c =
 
 pub returns-then-kind-eq-SHOW-clause-err : goal.returns-then-kind-eq-SHOW-clause-err
 returns-then-kind-eq-SHOW-clause-err g c =
-    begun_answers Read c.args.number c.args.kind 3 c.args.payload.now (told_lines c.show_lines.result) c.args.ledger.now c.args.ledger.now (g.W.Write.contents c.args.writer.now) (g.W.Write.contents c.write_report.new.writer)
-    c.write_report.result c.if-kind-eq-SHOW.true c.show_lines.ensures.replies c.write_report.ensures.err
-
-pub returns-then-kind-eq-SHOW-clause-write : goal.returns-then-kind-eq-SHOW-clause-write
-returns-then-kind-eq-SHOW-clause-write g c failed =
-    breaks_off c.args.number c.args.kind 3 c.args.payload.now (told_lines c.show_lines.result) c.args.ledger.now c.args.ledger.now (g.W.Write.contents c.args.writer.now) (g.W.Write.contents c.write_report.new.writer) c.if-kind-eq-SHOW.true c.show_lines.ensures.replies (c.write_report.ensures.write failed)
-
-pub returns-then-kind-eq-SHOW-clause-memory : goal.returns-then-kind-eq-SHOW-clause-memory
-returns-then-kind-eq-SHOW-clause-memory g c failed =
-    let written = rw failed at c.write_report.ensures.err in
-    report_answers c.args.number c.args.kind 3 c.args.payload.now c.args.ledger.now (g.W.Write.contents c.args.writer.now) (g.W.Write.contents c.write_report.new.writer)
-    c.if-kind-eq-SHOW.true (λ json. inl (refl, json)) c.show_lines.result c.show_lines.ensures.replies c.show_lines.ensures.format (c.write_report.ensures.memory failed) written.1
+    report_fails_to_answer c.args.number c.args.kind 3 c.args.payload.now c.args.ledger.now (g.W.Write.contents c.args.writer.now) (g.W.Write.contents c.write_report.new.writer)
+    c.write_report.result c.if-kind-eq-SHOW.true (λ json. inl (c.if-kind-eq-SHOW.true, json)) c.show_lines.result c.show_lines.ensures.replies c.show_lines.ensures.format c.write_report.ensures.err
 
 pub returns-then-kind-eq-AUDIT-clause-ok : goal.returns-then-kind-eq-AUDIT-clause-ok
 returns-then-kind-eq-AUDIT-clause-ok g c =
@@ -32,18 +21,8 @@ returns-then-kind-eq-AUDIT-clause-ok g c =
 
 pub returns-then-kind-eq-AUDIT-clause-err : goal.returns-then-kind-eq-AUDIT-clause-err
 returns-then-kind-eq-AUDIT-clause-err g c =
-    begun_answers Read c.args.number c.args.kind 4 c.args.payload.now (told_lines c.audit_lines.result) c.args.ledger.now c.args.ledger.now (g.W.Write.contents c.args.writer.now) (g.W.Write.contents c.write_report-then-kind-eq-AUDIT.new.writer)
-    c.write_report-then-kind-eq-AUDIT.result c.if-kind-eq-AUDIT.true c.audit_lines.ensures.replies c.write_report-then-kind-eq-AUDIT.ensures.err
-
-pub returns-then-kind-eq-AUDIT-clause-write : goal.returns-then-kind-eq-AUDIT-clause-write
-returns-then-kind-eq-AUDIT-clause-write g c failed =
-    breaks_off c.args.number c.args.kind 4 c.args.payload.now (told_lines c.audit_lines.result) c.args.ledger.now c.args.ledger.now (g.W.Write.contents c.args.writer.now) (g.W.Write.contents c.write_report-then-kind-eq-AUDIT.new.writer) c.if-kind-eq-AUDIT.true c.audit_lines.ensures.replies (c.write_report-then-kind-eq-AUDIT.ensures.write failed)
-
-pub returns-then-kind-eq-AUDIT-clause-memory : goal.returns-then-kind-eq-AUDIT-clause-memory
-returns-then-kind-eq-AUDIT-clause-memory g c failed =
-    let written = rw failed at c.write_report-then-kind-eq-AUDIT.ensures.err in
-    report_answers c.args.number c.args.kind 4 c.args.payload.now c.args.ledger.now (g.W.Write.contents c.args.writer.now) (g.W.Write.contents c.write_report-then-kind-eq-AUDIT.new.writer)
-    c.if-kind-eq-AUDIT.true (λ json. inr (refl, json)) c.audit_lines.result c.audit_lines.ensures.replies c.audit_lines.ensures.format (c.write_report-then-kind-eq-AUDIT.ensures.memory failed) written.1
+    report_fails_to_answer c.args.number c.args.kind 4 c.args.payload.now c.args.ledger.now (g.W.Write.contents c.args.writer.now) (g.W.Write.contents c.write_report-then-kind-eq-AUDIT.new.writer)
+    c.write_report-then-kind-eq-AUDIT.result c.if-kind-eq-AUDIT.true (λ json. inr (c.if-kind-eq-AUDIT.true, json)) c.audit_lines.result c.audit_lines.ensures.replies c.audit_lines.ensures.format c.write_report-then-kind-eq-AUDIT.ensures.err
 
 pub returns-clause-ok : goal.returns-clause-ok
 returns-clause-ok g c =
@@ -54,15 +33,5 @@ returns-clause-ok g c =
 pub returns-clause-err : goal.returns-clause-err
 returns-clause-err g c =
     let other = other_replied c.args.kind c.args.payload.now c.args.ledger.now c.requires.publish c.requires.run c.if-kind-eq-SHOW.false c.if-kind-eq-AUDIT.false c.is_sound.ensures in
-    begun_answers Read c.args.number c.args.kind c.args.kind c.args.payload.now (Some (Refused 1)) c.args.ledger.now c.args.ledger.now (g.W.Write.contents c.args.writer.now) (g.W.Write.contents c.write_reply.new.writer)
+    reply_fails_to_answer c.args.number c.args.kind c.args.kind c.args.payload.now (Some (Refused 1)) c.args.ledger.now c.args.ledger.now (g.W.Write.contents c.args.writer.now) (g.W.Write.contents c.write_reply.new.writer)
     c.write_reply.result refl other c.write_reply.ensures.err
-
-pub returns-clause-write : goal.returns-clause-write
-returns-clause-write g c failed =
-    let other = other_replied c.args.kind c.args.payload.now c.args.ledger.now c.requires.publish c.requires.run c.if-kind-eq-SHOW.false c.if-kind-eq-AUDIT.false c.is_sound.ensures in
-    breaks_off c.args.number c.args.kind c.args.kind c.args.payload.now (Some (Refused 1)) c.args.ledger.now c.args.ledger.now (g.W.Write.contents c.args.writer.now) (g.W.Write.contents c.write_reply.new.writer) refl other (c.write_reply.ensures.write failed)
-
-pub returns-clause-memory : goal.returns-clause-memory
-returns-clause-memory g c failed =
-    let other = other_replied c.args.kind c.args.payload.now c.args.ledger.now c.requires.publish c.requires.run c.if-kind-eq-SHOW.false c.if-kind-eq-AUDIT.false c.is_sound.ensures in
-    unwritten_answers c.args.number c.args.kind c.args.kind c.args.payload.now (Some (Refused 1)) c.args.ledger.now c.args.ledger.now (g.W.Write.contents c.args.writer.now) (g.W.Write.contents c.write_reply.new.writer) refl other (c.write_reply.ensures.memory failed)

@@ -1,9 +1,7 @@
 use Rattle.std.proofs.Common.{Err, ap, refl, ◌∙◌}
 use Rattle.std.proofs.lemmas.Result.{err_from_is_err_and}
 use Rattle.mv_lines.specs.Pieces.{TakesPiece}
-use Rattle.moveledger.proofs.Steps.{error-is}
-use Rattle.moveledger.proofs.Writing.{HasWritten-start, HasWritten-next, HasWritten-broken, HasWritten-failed, HasWritten-part, fewer-left}
-use Rattle.moveledger.proofs.Writing.{HasWrittenLines-start, HasWrittenLines-next, HasWrittenLines-whole}
+use Rattle.moveledger.proofs.Writing.{HasWritten-start, HasWritten-next, HasWritten-failed, HasWritten-stopped, HasWrittenLines-start, HasWrittenLines-next, fewer-left}
 use Rattle.moveledger.proofs.answering.write_lines.Goals as goal
 
 pub returns-in_err-write_piece-clause-err : goal.returns-in_err-write_piece-clause-err
@@ -11,20 +9,7 @@ returns-in_err-write_piece-clause-err g c =
     let p = err_from_is_err_and c.from_residual-in_err-write_piece.result c.from_residual-in_err-write_piece.ensures.1 in
     let takes : TakesPiece c.in-Some.piece.is_last c.in-Some.piece.text.items c.each.lines.left c.next_piece.new.self.left = rw c.in-Some.is at c.in_ok-piece.ensures.piece in
     let w = c.in_err-write_piece.ensures in
-    rw (p.1, p.2) (HasWritten-failed c.args.number c.each.is_begun c.in-Some.piece.is_last c.in-Some.piece.text.items c.args.lines.left c.each.lines.left c.next_piece.new.self.left _ _ _ _ c.each.invariant.written takes w.err (λ same. w.write (ap (λ z. Err z) same)) (λ same. w.memory (ap (λ z. Err z) same)))
-
-pub returns-in_err-write_piece-clause-write : goal.returns-in_err-write_piece-clause-write
-returns-in_err-write_piece-clause-write g c failed =
-    let p = err_from_is_err_and c.from_residual-in_err-write_piece.result c.from_residual-in_err-write_piece.ensures.1 in
-    let takes : TakesPiece c.in-Some.piece.is_last c.in-Some.piece.text.items c.each.lines.left c.next_piece.new.self.left = rw c.in-Some.is at c.in_ok-piece.ensures.piece in
-    HasWritten-broken c.args.number c.each.is_begun c.in-Some.piece.is_last c.in-Some.piece.text.items c.args.lines.left c.each.lines.left c.next_piece.new.self.left _ _ _ c.each.invariant.written takes
-    (c.in_err-write_piece.ensures.write (ap (λ z. Err z) (error-is _ _ _ _ p.1 p.2 failed)))
-
-pub returns-in_err-write_piece-clause-memory : goal.returns-in_err-write_piece-clause-memory
-returns-in_err-write_piece-clause-memory g c failed text =
-    let p = err_from_is_err_and c.from_residual-in_err-write_piece.result c.from_residual-in_err-write_piece.ensures.1 in
-    HasWrittenLines-whole c.args.number c.each.is_begun c.args.lines.left c.each.lines.left _ _ _ (c.each.invariant.whole text)
-    (c.in_err-write_piece.ensures.memory (ap (λ z. Err z) (error-is _ _ _ _ p.1 p.2 failed)))
+    rw (p.1, p.2) (HasWritten-failed c.args.lines.format c.args.number c.each.is_begun c.in-Some.piece.is_last c.in-Some.piece.text.items c.args.lines.left c.each.lines.left c.next_piece.new.self.left _ _ _ _ c.each.invariant.written c.each.invariant.whole takes w.err (λ same. w.write (ap (λ z. Err z) same)) (λ same. w.memory (ap (λ z. Err z) same)))
 
 pub each-init : goal.each-init
 each-init g c = record {
@@ -52,7 +37,4 @@ each-smaller g c =
 pub returns-in_err-piece-clause-err : goal.returns-in_err-piece-clause-err
 returns-in_err-piece-clause-err g c =
     let p = err_from_is_err_and c.from_residual.result c.from_residual.ensures.1 in
-    rw (p.1, p.2) ((λ same. cc), HasWritten-part c.args.number c.each.is_begun c.args.lines.left c.each.lines.left _ _ c.each.invariant.written)
-
-pub returns-in_err-piece-clause-memory : goal.returns-in_err-piece-clause-memory
-returns-in_err-piece-clause-memory g c failed text = HasWrittenLines-whole c.args.number c.each.is_begun c.args.lines.left c.each.lines.left _ _ _ (c.each.invariant.whole text) refl
+    rw (p.1, p.2) (HasWritten-stopped c.args.lines.format c.args.number c.each.is_begun c.args.lines.left c.each.lines.left _ _ _ c.each.invariant.written c.each.invariant.whole refl)

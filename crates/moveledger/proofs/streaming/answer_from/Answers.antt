@@ -9,7 +9,7 @@ use Rattle.moveledger.specs.declared.streaming.EngineError.{EngineError}
 use Rattle.moveledger.specs.declared.streaming.EngineError.TheVariants.{Read, Write, Memory}
 use Rattle.moveledger.proofs.AfterRecords.{done-all, done-at, done-failed, done-next, done-until}
 use Rattle.moveledger.proofs.Steps.{moved, Progress-start, Progress-next, Progress-ends, Progress-full, Progress-cut, Progress-reads}
-use Rattle.moveledger.proofs.Steps.{Stops-with, Stops-answered, Stops-by_lines, StartsWith-whole, error-is}
+use Rattle.moveledger.proofs.Steps.{Stops-with, Stops-answered, Stops-by_lines, Stops-cut, StartsWith-whole, error-is}
 use Rattle.moveledger.proofs.Taken.{Appends-same}
 use Rattle.moveledger.proofs.streaming.answer_from.Goals as goal
 
@@ -73,15 +73,14 @@ returns-in_err-write_reply-in-Cut-clause-err g c =
     let inv = moved c.in_ok-next_with_room.ensures.kept c.loop-n.invariant.1 in
     let p = err_from_is_err_and c.from_residual-in_err-write_reply-in-Cut.result c.from_residual-in_err-write_reply-in-Cut.ensures.1 in
     let e = rw c.in-Cut.is at c.in_ok-next_with_room.ensures.ok in
-    let w = c.in_err-write_reply-in-Cut.ensures.err in
-    rw (p.1, c.loop-n.invariant.0) (Stops-with inv _ e.0 e.1 (StopsAt Begun) _ _ w.1.0 (being_answered (Cut, reply_lines (Refused 1), e.2, (refl, refl), w.1.1)) w.1.2)
+    rw (p.1, c.loop-n.invariant.0) (Stops-cut inv _ e.0 e.1 _ _ e.2 c.in_err-write_reply-in-Cut.ensures.err)
 
 pub returns-in_err-write_reply-in-Cut-clause-write : goal.returns-in_err-write_reply-in-Cut-clause-write
 returns-in_err-write_reply-in-Cut-clause-write g c failed =
     let inv = moved c.in_ok-next_with_room.ensures.kept c.loop-n.invariant.1 in
     let p = err_from_is_err_and c.from_residual-in_err-write_reply-in-Cut.result c.from_residual-in_err-write_reply-in-Cut.ensures.1 in
     let e = rw c.in-Cut.is at c.in_ok-next_with_room.ensures.ok in
-    let w = c.in_err-write_reply-in-Cut.ensures.write (ap (λ z. Err z) (error-is _ _ _ _ p.1 p.2 failed)) in
+    let w = rw (error-is _ _ _ _ p.1 p.2 failed) at c.in_err-write_reply-in-Cut.ensures.err in
     rw (c.loop-n.invariant.0) (inl (Stops-with inv _ e.0 e.1 BrokenOff _ _ w.0 (Cut, reply_lines (Refused 1), e.2, (refl, refl), w.1, w.2) w.3))
 
 pub returns-in_err-write_reply-in-Cut-clause-memory : goal.returns-in_err-write_reply-in-Cut-clause-memory
@@ -89,7 +88,7 @@ returns-in_err-write_reply-in-Cut-clause-memory g c failed =
     let inv = moved c.in_ok-next_with_room.ensures.kept c.loop-n.invariant.1 in
     let p = err_from_is_err_and c.from_residual-in_err-write_reply-in-Cut.result c.from_residual-in_err-write_reply-in-Cut.ensures.1 in
     let e = rw c.in-Cut.is at c.in_ok-next_with_room.ensures.ok in
-    let same = c.in_err-write_reply-in-Cut.ensures.memory (ap (λ z. Err z) (error-is _ _ _ _ p.1 p.2 failed)) in
+    let same = rw (error-is _ _ _ _ p.1 p.2 failed) at c.in_err-write_reply-in-Cut.ensures.err in
     rw (c.loop-n.invariant.0) (Stops-with inv _ e.0 e.1 (StopsAt BegunByLines) _ _ [] (read_and_nothing_done Cut e.2 refl refl) (Appends-same _ _ same))
 
 pub returns-in_err-write_reply-in-Cut-clause-until : goal.returns-in_err-write_reply-in-Cut-clause-until
@@ -97,7 +96,7 @@ returns-in_err-write_reply-in-Cut-clause-until g c =
     let inv = moved c.in_ok-next_with_room.ensures.kept c.loop-n.invariant.1 in
     let p = err_from_is_err_and c.from_residual-in_err-write_reply-in-Cut.result c.from_residual-in_err-write_reply-in-Cut.ensures.1 in
     let e = rw c.in-Cut.is at c.in_ok-next_with_room.ensures.ok in
-    let other : p.0 ≢ Read = λ same. c.in_err-write_reply-in-Cut.ensures.err.0 (sym p.2 ∙ same) in
+    let other : p.0 ≢ Read = λ same. rw (sym p.2 ∙ same) at c.in_err-write_reply-in-Cut.ensures.err in
     rw (p.1) (done-until g.R.Read.remaining g.W.Write.contents g.A.AfterRecord.does _ _ _ _ _ _ _ _ _ _ _ inv c.loop-n.invariant.2 p.0 e.0 e.1 (inr (other, Cut, e.2)))
 
 pub returns-in-Cut-clause-ok : goal.returns-in-Cut-clause-ok
@@ -124,7 +123,7 @@ returns-in_err-answer-in-Record-clause-err g c =
     let p = err_from_is_err_and c.from_residual-in_err-answer-in-Record.result c.from_residual-in_err-answer-in-Record.ensures.1 in
     let e = rw c.in-Record.is at c.in_ok-next_with_room.ensures.ok in
     let is = is-text e.0 c.in-Record.kind _ _ c.deref.ensures.value e.2 in
-    rw (p.1, c.loop-n.invariant.0) (Stops-answered inv _ e.0 e.1 _ _ c.in-Record.kind _ is c.in_err-answer-in-Record.ensures.err.1)
+    rw (p.1, c.loop-n.invariant.0) (Stops-answered inv _ e.0 e.1 _ _ c.in-Record.kind _ _ is c.in_err-answer-in-Record.ensures.err)
 
 pub returns-in_err-answer-in-Record-clause-write : goal.returns-in_err-answer-in-Record-clause-write
 returns-in_err-answer-in-Record-clause-write g c failed =
@@ -132,7 +131,7 @@ returns-in_err-answer-in-Record-clause-write g c failed =
     let p = err_from_is_err_and c.from_residual-in_err-answer-in-Record.result c.from_residual-in_err-answer-in-Record.ensures.1 in
     let e = rw c.in-Record.is at c.in_ok-next_with_room.ensures.ok in
     let is = is-text e.0 c.in-Record.kind _ _ c.deref.ensures.value e.2 in
-    let w = c.in_err-answer-in-Record.ensures.write (ap (λ z. Err z) (error-is _ _ _ _ p.1 p.2 failed)) in
+    let w = rw (error-is _ _ _ _ p.1 p.2 failed) at c.in_err-answer-in-Record.ensures.err in
     rw (c.loop-n.invariant.0) (inl (Stops-with inv _ e.0 e.1 BrokenOff _ _ w.1.1.0 (Whole c.in-Record.kind c.deref.result.now, w.0, is, w.1.0, w.1.1.1, w.1.1.2) w.1.1.3))
 
 pub returns-in_err-answer-in-Record-clause-memory : goal.returns-in_err-answer-in-Record-clause-memory
@@ -141,14 +140,14 @@ returns-in_err-answer-in-Record-clause-memory g c failed =
     let p = err_from_is_err_and c.from_residual-in_err-answer-in-Record.result c.from_residual-in_err-answer-in-Record.ensures.1 in
     let e = rw c.in-Record.is at c.in_ok-next_with_room.ensures.ok in
     let is = is-text e.0 c.in-Record.kind _ _ c.deref.ensures.value e.2 in
-    rw (c.loop-n.invariant.0) (Stops-by_lines inv _ e.0 e.1 _ _ c.in-Record.kind _ is (c.in_err-answer-in-Record.ensures.memory (ap (λ z. Err z) (error-is _ _ _ _ p.1 p.2 failed))))
+    rw (c.loop-n.invariant.0) (Stops-by_lines inv _ e.0 e.1 _ _ c.in-Record.kind _ is (rw (error-is _ _ _ _ p.1 p.2 failed) at c.in_err-answer-in-Record.ensures.err))
 
 pub returns-in_err-answer-in-Record-clause-until : goal.returns-in_err-answer-in-Record-clause-until
 returns-in_err-answer-in-Record-clause-until g c =
     let inv = moved c.in_ok-next_with_room.ensures.kept c.loop-n.invariant.1 in
     let p = err_from_is_err_and c.from_residual-in_err-answer-in-Record.result c.from_residual-in_err-answer-in-Record.ensures.1 in
     let e = rw c.in-Record.is at c.in_ok-next_with_room.ensures.ok in
-    let other : p.0 ≢ Read = λ same. c.in_err-answer-in-Record.ensures.err.0 (sym p.2 ∙ same) in
+    let other : p.0 ≢ Read = λ same. rw (sym p.2 ∙ same) at c.in_err-answer-in-Record.ensures.err in
     rw (p.1) (done-until g.R.Read.remaining g.W.Write.contents g.A.AfterRecord.does _ _ _ _ _ _ _ _ _ _ _ inv c.loop-n.invariant.2 p.0 e.0 e.1 (inr (other, Whole c.in-Record.kind c.next_with_room.new.payload.items, e.2)))
 
 pub returns-in_err-answered-in-Record-clause-err : goal.returns-in_err-answered-in-Record-clause-err
