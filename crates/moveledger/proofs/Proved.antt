@@ -18,9 +18,9 @@ use Rattle.mv_analyser.specs.declared.LimitError.TheVariants.{Unproved, TooLong}
 use Rattle.mv_analyser.specs.declared.ProveError.{ProveError}
 use Rattle.mv_analyser.specs.declared.ProveError.TheVariants.{Refused, TooComplex, Memory}
 use Rattle.moveledger.specs.Hexadecimal.{hexadecimal, IsHexadecimal}
-use Rattle.mv_ledger_state.specs.Publishing.{Passes, Spells}
+use Rattle.mv_ledger_state.specs.Publishing.{IsRefusedOffer, Passes, Spells}
 use Rattle.mv_ledger_state.proofs.Spelling.{module-one}
-use Rattle.moveledger.specs.Checking.{AreShort, IsAccepted, IsRefusedAlone, PassesWith, before_line_end, offer_of}
+use Rattle.moveledger.specs.Checking.{AreShort, IsAccepted, PassesWith, before_line_end, offer_of}
 use Rattle.moveledger.specs.Proving.{HasNoProof, HasNoProofWithin, IsAcceptedBack, IsProvableText, IsProvedBy, IsShort, error_of, in_each, in_module}
 use Rattle.moveledger.proofs.Texts.{before_line_end-hexadecimal, before_line_end-line}
 use Rattle.mv_ledger_state.proofs.Phases.{never-fails}
@@ -65,8 +65,8 @@ module _ (bytes text : List ℕ) (short : IsShort bytes) (m : Module) (spells : 
         λ few. (accepted text alone few, accepted (text ++ 10 ∷ []) (before_line_end-line text) few)
 
 module _ (bytes : List ℕ) (short : IsShort bytes) where
-  -- a module that is refused alone has no certificate
-  pub alone-no_proof : (e : Refusal) → IsRefusedAlone bytes e → HasNoProof bytes (error_of e)
+  -- a module that is refused with each certificate has none
+  pub alone-no_proof : (e : Refusal) → ((certificate : List ℕ) → IsRefusedOffer (offer_of bytes certificate) e) → HasNoProof bytes (error_of e)
   alone-no_proof (Phase p) h = in_module p short h
   alone-no_proof OutOfMemory h = tt
 
@@ -98,7 +98,7 @@ provable-spelled reads bytes are m spells provable =
     subst IsProvable (module-one reads bytes provable.tables m are provable.passes.text spells)
     ((provable.stated, (provable.passes.certificate.1, provable.passes.holds)), provable.passes.acquires)
 
--- where some certificate passes, the module is not refused alone
-pub provable-refused : (bytes : List ℕ) → IsProvableText bytes → (e : Refusal) → IsRefusedAlone bytes e → IsOfLimits (error_of e)
+-- where some certificate passes, the module is not refused with each
+pub provable-refused : (bytes : List ℕ) → IsProvableText bytes → (e : Refusal) → ((certificate : List ℕ) → IsRefusedOffer (offer_of bytes certificate) e) → IsOfLimits (error_of e)
 provable-refused bytes provable (Phase p) h = absurd (never-fails (offer_of bytes provable.certificate) provable.tables provable.stated provable.passes p (h provable.certificate))
 provable-refused bytes provable OutOfMemory h = tt

@@ -7,19 +7,15 @@ use Rattle.mv_type_rules.specs.Sound.{IsSound}
 use Rattle.hex.proofs.HexLemmas.{decode_of-same}
 use Rattle.moveledger.specs.Hexadecimal.{IsHexadecimal}
 use Rattle.mv_ledger_state.specs.Publishing.{Spells, FailsAt, IsRefusedOffer}
-use Rattle.moveledger.specs.Checking.{AreShort, FailsCheck, FailsWith, IsAccepted, IsRefusedAlone, IsRefusedText, IsRefusedWith, PassesWith}
+use Rattle.moveledger.specs.Checking.{AreShort, FailsCheck, FailsWith, IsAccepted, IsRefusedText, IsRefusedWith, PassesWith}
 use Rattle.moveledger.specs.Checking.{before_line_end, failing, in_certificate, in_module, not_hexadecimal, offer_of, too_long}
 use Rattle.mv_ledger_state.proofs.Phases.{never-fails}
 use Rattle.moveledger.proofs.Digits.{decode_of-hexadecimal}
 
 module _ (bytes : List ℕ) where
-  -- a module that is refused with each certificate is refused alone
-  pub refused-alone : (e : Refusal) → ((certificate : List ℕ) → IsRefusedOffer (offer_of bytes certificate) e) → IsRefusedAlone bytes e
-  refused-alone (Phase p) h = h
-  refused-alone Memory h = tt
-
   module _ (digits : List ℕ) where
-    pub refused-in_module : (e : Refusal) → IsRefusedAlone bytes e → IsRefusedWith bytes digits e
+    -- a module that is refused with each certificate fails alone
+    pub refused-in_module : (e : Refusal) → ((certificate : List ℕ) → IsRefusedOffer (offer_of bytes certificate) e) → IsRefusedWith bytes digits e
     refused-in_module (Phase p) h = in_module p h
     refused-in_module Memory h = tt
 

@@ -5,6 +5,7 @@ ghost use Rattle.moveledger.specs.Checking.{before_line_end, refusal_of, PassesW
 
 use crate::modules::sound;
 use hex::FromHexError;
+use mv_ledger_state::are_bytes;
 use mv_move_types::Refusal;
 use mv_move_types::limits::{MOST_CERTIFICATE_BYTES, MOST_MODULE_BYTES};
 use std::alloc::Global;
@@ -51,6 +52,7 @@ fn check_digits(alloc: Global, module: &[u8], digits: &[u8]) -> Result<(), Refus
 {
     // For the prover: bytes spell one module alone.
     mv_binary_format::modules_are_read_by_text();
+    are_bytes(module);
     let typed = sound(alloc, module)?;
     let bytes = bytes_of(alloc, digits)?;
     let stated = mv_certificate::decode(alloc, &typed, &bytes)?;

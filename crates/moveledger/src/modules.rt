@@ -1,9 +1,10 @@
 // The bytes of a module: phases 2 to 8.
-ghost use Rattle.std.specs.Prelude.{IfOk, IfErr};
+ghost use Rattle.std.specs.Prelude.{ℕ, List, IfOk, IfErr};
 ghost use Rattle.mv_type_rules.specs.Sound.{IsSound};
-ghost use Rattle.mv_ledger_state.specs.Publishing.{Spells};
-ghost use Rattle.moveledger.specs.Checking.{IsRefusedAlone};
+ghost use Rattle.mv_ledger_state.specs.Publishing.{Spells, IsRefusedOffer};
+ghost use Rattle.moveledger.specs.Checking.{offer_of};
 
+use mv_ledger_state::are_bytes;
 use mv_move_types::Refusal;
 use mv_type_rules::Typed;
 use std::alloc::Global;
@@ -12,10 +13,11 @@ use std::alloc::Global;
 pub fn sound<'a>(alloc: Global, bytes: &'a [u8]) -> Result<Typed<'a>, Refusal>
     ensures spelled { IfOk result (Spells bytes.entry.now) }
     ensures sound { IfOk result IsSound }
-    ensures refused { IfErr result (IsRefusedAlone bytes.entry.now) }
+    ensures refused { (certificate : List ℕ) → IfErr result (IsRefusedOffer (offer_of bytes.entry.now certificate)) }
 {
     // For the prover: bytes spell one module alone.
     mv_binary_format::modules_are_read_by_text();
+    are_bytes(bytes);
     let module = mv_binary_format::decode(alloc, bytes)?;
     let bounded = mv_bounds::check(alloc, module)?;
     let _defined = bounded.module();
