@@ -3,6 +3,7 @@
 import argparse
 import os
 import random
+import re
 import shutil
 import subprocess
 import sys
@@ -18,6 +19,11 @@ TOOLS = TOP / "tools"
 PYTHON_TESTS = TOP / "tests/python"
 # Where a build leaves the program, from the top.
 BUILT = "crates/moveledger_program/out/moveledger_program"
+
+# What scripts/try-guards sets for the scripts that it tries: with the first wrong line that has this pattern they end, since what is asked of
+# them is told then; and for so many seconds they wait for what a broken program keeps from coming.
+UNTIL = os.environ.get("UNTIL")
+PATIENCE = int(os.environ.get("PATIENCE", "600"))
 
 # The status by which a script says that it was left out, since something isn't installed; its last line says what.
 LEFT_OUT = 77
@@ -78,6 +84,11 @@ def outcome(words: Sequence[Word], given: bytes = b"", folder: Path = TOP, envir
     return Outcome(ended.returncode, ended.stdout.decode("utf-8", "replace"), ended.stderr.decode("utf-8", "replace"))
 
 
+def is_enough(line: str) -> bool:
+    """Whether nothing more is to be tried once this wrong line is told."""
+    return UNTIL is not None and re.search(UNTIL, line, re.M) is not None
+
+
 class Comparison:
     """Compares what is found with what is wanted, prints a line for each, and counts those that differ."""
 
@@ -89,7 +100,10 @@ class Comparison:
         """Notes what was tried, and what is wrong with it, if anything. Answers whether it is right."""
         self.tried += 1
         self.wrong += bool(fault)
-        print(f"{'wrong' if fault else 'ok   '} {shows}{': ' + fault if fault else ''}", flush=True)
+        line = f"{'wrong' if fault else 'ok   '} {shows}{': ' + fault if fault else ''}"
+        print(line, flush=True)
+        if fault and is_enough(line):
+            sys.exit(1)
         return not fault
 
     def same(self, shows: str, found: object, wanted: object) -> bool:

@@ -31,6 +31,10 @@ class Given:
     files: Sequence[Path] = ()
 
 
+class Enough(Exception):
+    """What is asked of the test is told, and nothing more is to be tried."""
+
+
 class Tally:
     """How many cases were tried, and how many of them are wrong."""
 
@@ -50,7 +54,10 @@ class Cases(unittest.TestCase):
         """Notes what was tried, and what is wrong with it, if anything. Answers whether it is right."""
         Tally.tried += 1
         Tally.wrong += bool(fault)
-        print(f"{'wrong' if fault else 'ok   '} {shows}{': ' + fault if fault else ''}", flush=True)
+        line = f"{'wrong' if fault else 'ok   '} {shows}{': ' + fault if fault else ''}"
+        print(line, flush=True)
+        if fault and common.is_enough(line):
+            raise Enough
         with self.subTest(shows):
             if fault:
                 self.fail(fault)

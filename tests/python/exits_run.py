@@ -9,7 +9,7 @@ from pathlib import Path
 from typing import Any, Callable, Dict, List, Optional, Sequence, Tuple, Union
 
 from cases import program
-from common import EXAMPLES
+from common import EXAMPLES, PATIENCE as PATIENCE
 
 # A word of the command line, which may be no text.
 Given = Union[str, bytes, Path]
@@ -20,8 +20,6 @@ STREAM = EXAMPLES / "first-coin.stream"
 REPORT = b"1 published 1\n2 returned 5\n"
 READ, WRITE, MEMORY = b"fault: read\n", b"fault: write\n", b"fault: memory\n"
 MEGABYTE = 1 << 20
-# More seconds than the busiest machine takes for what is awaited.
-PATIENCE = 600
 # The bytes of the example's first record.
 FIRST = 124
 # What the names of files that stay end in.

@@ -53,6 +53,7 @@ class Docs(Cases):
         names = libraries()
         examples = {name: example_of(name) for name in names}
         lacking = [name for name, text in examples.items() if not text]
+        self.note("each library has an example", f"not {' '.join(lacking)}" if lacking else "")
         with tempfile.TemporaryDirectory() as folder:
             copy = Path(folder) / "copy"
             shutil.copytree(TOP, copy, ignore=shutil.ignore_patterns(".git", "bench", "deploy", "out", "dist", "__pycache__"), symlinks=True)
@@ -67,4 +68,3 @@ class Docs(Cases):
                 (source / f"of_{name}.rt").write_text(text.replace("fn example(", "pub fn example(") + "\n")
             ran = subprocess.run(["rt", "try"], cwd=source.parent, stdout=subprocess.PIPE, stderr=subprocess.STDOUT, text=True)
         self.note("the examples compile", f"status {ran.returncode}: {ran.stdout}" if ran.returncode else "")
-        self.note("each library has an example", f"not {' '.join(lacking)}" if lacking else "")

@@ -10,7 +10,7 @@ from pathlib import Path
 from typing import IO, List, Optional, Sequence, Tuple, Union
 
 from cases import Cases, Found, add_tests
-from common import TOOLS, TOP
+from common import PATIENCE, TOOLS, TOP
 from movetext import VERSION
 from movetext.errors import Source, TextErrors
 from movetext.proving import Prover
@@ -332,7 +332,7 @@ def cases_of_outputs(folder: Path) -> Found:
 
 def ended_of(tool: str, *words: Union[str, Path]) -> Tuple[int, str, str]:
     """How a tool ended. One that takes far longer, or far more memory, than it may is ended."""
-    command: List[Union[str, Path]] = ["sh", "-c", 'ulimit -v 1500000; exec timeout 1000 "$@"', "sh", TOOLS / tool, *words]
+    command: List[Union[str, Path]] = ["sh", "-c", f'ulimit -v 1500000; exec timeout {PATIENCE} "$@"', "sh", TOOLS / tool, *words]
     run = subprocess.run(command, stdin=subprocess.DEVNULL, stdout=subprocess.PIPE, stderr=subprocess.PIPE)
     return run.returncode, run.stdout.decode("utf-8", "replace"), run.stderr.decode("utf-8", "replace")
 
@@ -384,7 +384,7 @@ def cases_of_bounds(folder: Path) -> Found:
     text, stream, zeros = (folder / name for name in ("x.text", "x.stream", "zeros"))
     text.write_text(FOREVER)
     ended([text])
-    started = subprocess.Popen(["timeout", "1000", TOOLS / "movedis", "--explain", stream], stdout=subprocess.PIPE, stderr=subprocess.PIPE, text=True)
+    started = subprocess.Popen(["timeout", str(PATIENCE), TOOLS / "movedis", "--explain", stream], stdout=subprocess.PIPE, stderr=subprocess.PIPE, text=True)
     with open(zeros, "wb") as file:
         file.truncate(600_000_000)
     more = "'--megabytes <MEGABYTES>' allows more\n"
