@@ -126,7 +126,7 @@ def of_pairs() -> Iterator[Row]:
     def wides(name: str, n: int) -> List[bytes]:
         return [published, *[record(2, run(name, 10_000_000, u64(7)))] * (USES * n)]
 
-    yield Row(f"{MODULES * 2} modules of {module.instructions:,} instructions without a branch, each of which is reached", modules, 1.58)
+    yield Row(f"{MODULES * 2} modules of {module.instructions:,} instructions without a branch, each of which is reached", modules, 1.52)
     for name, _, _, _, what, bound in USED:
         yield Row(f"{USES * 2:,} runs of {what}, of {COINS:,}", partial(uses, name, USES), bound)
     yield Row(f"{USES * 2:,} runs of 200 payments between two coins, of {COINS:,}", partial(uses, "pays", USES), 0.52)
@@ -165,9 +165,9 @@ def of_flows() -> Iterator[Row]:
     def loop(n: int) -> List[bytes]:
         return [inputs.looping(100 * n).bytes()]
 
-    yield Row("`prove` of a loop of 200 blocks with 30 references", loop, 2.8, PROVE)
-    yield Row("`prove` of 40 rounds through 200 blocks", lambda n: [inputs.rippling(40, 100 * n).bytes()], 1.8, PROVE)
-    yield Row("`check` of the first one's certificate", loop, 1.5, CHECK)
+    yield Row("`prove` of a loop of 200 blocks with 30 references", loop, 2.1, PROVE)
+    yield Row("`prove` of 40 rounds through 200 blocks", lambda n: [inputs.rippling(40, 100 * n).bytes()], 1.75, PROVE)
+    yield Row("`check` of the first one's certificate", loop, 1.2, CHECK)
 
 
 def rows() -> Iterator[Row]:
