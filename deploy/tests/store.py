@@ -23,7 +23,7 @@ LOG_ID = "0123456789abcdef" * 2
 SET = ("a", "b", "c")
 MOST_OPERATIONS = 128
 # More than the busiest machine takes: nothing that is awaited comes as late as that, so no test depends on how fast a machine is.
-PATIENCE = 600.0
+PATIENCE = float(os.environ.get("PATIENCE", "600"))
 
 
 def for_now(test: unittest.TestCase, module: object, **values: Any) -> None:
