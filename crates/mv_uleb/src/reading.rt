@@ -27,6 +27,19 @@ pub fn read(bytes: &[u8], max: u64) -> Result<(u64, usize), UlebError>
     ensures range { result ≡ Err UlebError.Range ↔ IsBeyond max bytes.now }
     ensures spelled { (n : ℕ) (rest : List ℕ) → n ≤ max → bytes.now ≡ uleb n ++ rest → result ≡ Ok (n, length (uleb n)) }
 {
+    read_front(bytes, max)
+}
+
+// The same; most numbers have one byte.
+fn read_front(bytes: &[u8], max: u64) -> Result<(u64, usize), UlebError>
+    ensures { Gives 10 max bytes.now result }
+{
+    if let Some(first) = bytes.first() {
+        let low = u64::from(*first);
+        if low < 128 && low <= max {
+            return Ok((low, 1));
+        }
+    }
     read_within(bytes, MOST_BYTES, max)
 }
 
