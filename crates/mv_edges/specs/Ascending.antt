@@ -6,9 +6,7 @@
 --   edge_before a b                    the order of edges: by nodes, then by labels
 --   edge_order a b                     the same with three answers
 --   are_ascending edges                the edges ascend strictly
---   IsRising edges                     each edge's label comes before those of all later ones, as between two nodes
-use Rattle.std.specs.Prelude.{◌≡◌, ℕ, Bool, true, false, ◌&&◌, ◌||◌, ◌==◌, nat_lt, List, [], ◌∷◌, ◌++◌, not}
-use Rattle.std.specs.List.{AllPairs}
+use Rattle.std.specs.Prelude.{ℕ, Bool, true, false, ◌&&◌, ◌||◌, ◌==◌, nat_lt, List, [], ◌∷◌, ◌++◌, not}
 use Rattle.std.specs.Str.{bytes_eq}
 use Rattle.std.specs.declared.cmp.Ordering.{Ordering}
 use Rattle.std.specs.Ordering.{ordering_then, nat_cmp, bool_cmp}
@@ -67,7 +65,3 @@ abbrev pub are_ascending : List Edge → Bool
 are_ascending [] = true
 are_ascending (a ∷ []) = true
 are_ascending (a ∷ b ∷ es) = edge_before a b && are_ascending (b ∷ es)
-
--- each edge's label comes before those of all later ones
-abbrev pub IsRising : List Edge → Type 0
-IsRising es = AllPairs (λ (e : Edge) (f : Edge). label_before e.label f.label ≡ true) es

@@ -10,7 +10,6 @@
 --   agrees_if position label           whether it agrees with a position, if one is asked for
 --   label_leq, edge_leq, edges_leq     the order: what is below says at least as much
 --   out_of, into, but_out_of           the edges out of a node, into it, and all but those out of it
---   leads_between from to e            whether an edge leads from one node to another
 --   without n, without_each ns         the edges without those at a node, or at any of these
 --   renamed old new                    the edges with one node in place of another
 --   inherited change old new           the edges into one node, changed, for another one
@@ -109,10 +108,6 @@ out_of n edges = filter (λ e. same_node e.from n) edges
 -- the edges that lead into a node
 abbrev pub into : Node → List Edge → List Edge
 into n edges = filter (λ e. same_node e.to n) edges
-
--- whether an edge leads from one node to another
-abbrev pub leads_between : Node → Node → Edge → Bool
-leads_between from to e = same_node from e.from && same_node to e.to
 
 -- the edges but for those that lead out of a node
 abbrev pub but_out_of : Node → List Edge → List Edge

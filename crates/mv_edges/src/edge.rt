@@ -2,7 +2,7 @@
 ghost use Rattle.std.specs.Prelude.{◌≡◌, ◌≤◌, length, true, IfOk};
 ghost use Rattle.std.specs.Ordering.{ordering_then, nat_cmp, bool_cmp};
 ghost use Rattle.std.specs.Cmp.Lexicographic.{slice_cmp};
-ghost use Rattle.mv_edges.specs.Edges.{here, an_edge, same_node, renamed_node, edge_leq, opened_at};
+ghost use Rattle.mv_edges.specs.Edges.{an_edge, same_node, renamed_node, edge_leq, opened_at};
 ghost use Rattle.mv_edges.specs.Ascending.{node_code, nodes_code, edge_before, edge_order};
 
 use super::Label;
@@ -179,18 +179,6 @@ impl<'a> Model for EdgeView<'a> {
 }
 
 impl<'a> EdgeView<'a> {
-    /// The edge between these nodes that comes before all others between them.
-    pub(crate) fn between(from: Node, to: Node) -> Self
-        ensures { result ≡ an_edge from here to }
-    {
-        EdgeView {
-            from,
-            path: &[],
-            is_open: false,
-            to,
-        }
-    }
-
     /// How many positions the label has.
     pub(crate) fn depth(&self) -> usize
         ensures { result ≡ length self.now.label.path }

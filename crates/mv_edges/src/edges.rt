@@ -6,7 +6,6 @@ ghost use Rattle.mv_edges.specs.Sorted.{inserted, sorted};
 
 use super::Edge;
 use super::unordered::{add_in_order, put_in_order};
-use mv_move_types::Node;
 use std::alloc::{AllocError, Global};
 use std::marker::Model;
 

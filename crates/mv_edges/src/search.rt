@@ -1,14 +1,13 @@
 // Binary search, and the order of edges.
-ghost use Rattle.std.specs.Prelude.{◌≡◌, ◌+◌, ◌*◌, ◌<◌, ◌≤◌, filter, min, not, Some, length, take, drop, slice_get, IfOk, IfErr, IsTrue};
+ghost use Rattle.std.specs.Prelude.{◌≡◌, ◌+◌, ◌*◌, ◌<◌, ◌≤◌, min, Some, length, take, drop, slice_get, IfOk, IfErr, IsTrue};
 ghost use Rattle.std.specs.List.{list_all, list_any};
 ghost use Rattle.mv_move_types.specs.Limits.{most_edges, most_positions};
-ghost use Rattle.mv_edges.specs.Edges.{an_edge, here, leads_between, same_edge, edge_leq, edges_leq, longest};
-ghost use Rattle.mv_edges.specs.Ascending.{IsRising, edge_before, edge_order, are_ascending, list_before, nodes_code};
+ghost use Rattle.mv_edges.specs.Edges.{same_edge, edge_leq, edges_leq, longest};
+ghost use Rattle.mv_edges.specs.Ascending.{edge_before, edge_order, are_ascending};
 ghost use Rattle.mv_edges.specs.Counts.{IsWithin, IsCounted, counted};
 
-use super::edge::{EdgeView, is_same};
+use super::edge::EdgeView;
 use super::{Edge, Edges};
-use mv_move_types::Node;
 use std::cmp::Ordering;
 
 /// The smaller of two numbers.
@@ -121,38 +120,4 @@ pub fn leq_counted(a: &Edges, b: &Edges, comparisons: &mut u64) -> bool
         }
     }
     true
-}
-
-/// Whether an edge leads from one node to another.
-fn leads_between(e: &Edge, from: Node, to: Node) -> bool
-    ensures { result ≡ leads_between from to e.now }
-{
-    is_same(from, e.from()) && is_same(to, e.to())
-}
-
-impl Edges {
-    /// The place from which on edges lead from one node to another, if any do.
-    fn first_between(&self, from: Node, to: Node) -> usize
-        requires { IsTrue (are_ascending self.now) }
-        ensures within { result ≤ length self.now }
-        ensures before { IsTrue (list_all (λ x. edge_before x (an_edge from here to)) (take result self.now)) }
-        ensures behind { IsTrue (list_all (λ x. not (list_before (nodes_code x) (nodes_code (an_edge from here to)))) (drop result self.now)) }
-    {
-        match self.search(&EdgeView::between(from, to), &mut 0) {
-            Ok(place) => place,
-            Err(place) => place,
-        }
-    }
-
-    /// The edges from one node to another, which are one part of the list; their labels ascend.
-    pub fn between(&self, from: Node, to: Node) -> &[Edge]
-        ensures edges { result.now ≡ filter (leads_between from to) self.now }
-        ensures rising { IsRising result.now }
-    {
-        let items = self.as_slice();
-        let low = self.first_between(from, to);
-        let rest = &items[low..];
-        let count = rest.partition_point(|e| leads_between(e, from, to));
-        &rest[..count]
-    }
 }

@@ -126,7 +126,7 @@ module _ (f : Edge) (es : List Edge) (up : are_ascending es ≡ true) where
   IsBehind x = edge_before x f ≡ false
 
   rises : (i k : ℕ) (d : Edge) → i < k → k < length es → edge_before (get_or es i d) (get_or es k d) ≡ true
-  rises i k d h g = ascending_pairs f.from f.to es up i k d h g
+  rises i k d h g = ascending_pairs es up i k d h g
 
   at_any : (P : Edge → Type 0) (i : ℕ) (x : Edge) → i < length es → P (get_or es i x) → (d : Edge) → P (get_or es i d)
   at_any P i x inside h d = subst P (get_or_default es i x d inside) h
@@ -166,7 +166,7 @@ module _ (e : Edge) (es : List Edge) where
             let own = get_or es i x in
             let first : list_before (nodes_code own) (nodes_code e) ≡ false = sym (before_first_of own e) ∙ later in
             let last : list_before (nodes_code e) (nodes_code own) ≡ false =
-            ap (λ c. list_before c (nodes_code own)) codes ∙ not_later own y (subst (λ z. edge_before z y ≡ true) at (ascending_pairs e.from e.to es up i k d l below)) in
+            ap (λ c. list_before c (nodes_code own)) codes ∙ not_later own y (subst (λ z. edge_before z y ≡ true) at (ascending_pairs es up i k d l below)) in
             let same : node_code own.from ++ node_code own.to ≡ node_code e.from ++ node_code e.to = total (nodes_code own) (nodes_code e) first last in
             let start = same_start own.from e.from (node_code own.to) (node_code e.to) same in
             let end = same_start own.to e.to [] [] (ap (λ xs. xs ++ []) start.rest) in
