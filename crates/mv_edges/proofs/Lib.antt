@@ -10,9 +10,9 @@ pub mod Insertion
 pub mod Lengths
 pub mod Lexicographic
 pub mod Moved
+pub mod Numbers
 pub mod Order
 pub mod Passed
-pub mod Ranges
 pub mod Related
 pub mod Searches
 pub mod Settled

@@ -3,6 +3,7 @@ pub mod Counts
 pub mod Edges
 pub mod Equality
 pub mod Joins
+pub mod Numbers
 pub mod Positions
 pub mod Related
 pub mod Sorted

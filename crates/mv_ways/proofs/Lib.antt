@@ -1,7 +1,6 @@
 pub mod Held
 pub mod InPlace
 pub mod Listed
-pub mod Numbers
 pub mod Piecewise
 pub mod States
 pub mod Told

@@ -10,7 +10,6 @@ pub mod Graph
 pub mod Leads
 pub mod Listing
 pub mod Made
-pub mod Numbers
 pub mod Sinks
 pub mod Telling
 pub mod Told

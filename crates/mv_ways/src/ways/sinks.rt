@@ -3,9 +3,9 @@ ghost use Rattle.std.specs.Prelude.{◌≡◌, ◌<◌, ◌++◌, ◌∷◌, [],
 ghost use Rattle.std.specs.List.{AllWithin, list_any};
 ghost use Rattle.mv_edges.specs.Ascending.{are_ascending, edge_before, node_index};
 ghost use Rattle.mv_edges.specs.Edges.{an_edge, edge_leq, here};
+ghost use Rattle.mv_edges.specs.Numbers.{node_number, nodes_number};
 ghost use Rattle.mv_edges.specs.Sorted.{sorted};
 ghost use Rattle.mv_ways.specs.Listing.{listed};
-ghost use Rattle.mv_ways.specs.Numbers.{node_number, nodes_number};
 
 use super::sink::Sink;
 use super::told::Told;

@@ -1,6 +1,6 @@
 use Rattle.mv_edges.proofs.Common.{◌+◌, ◌-◌, ◌/◌, ◌<◌, ◌∙◌, ◌≡◌, an_edge, ap, arith, edge_before, false, get_or, here, le-ltb, length, lt-ltb, subst, sym, true}
 use Rattle.mv_edges.proofs.Counting.{middle_below}
-use Rattle.mv_ways.proofs.Numbers.{before_by, before_more, behind_more}
+use Rattle.mv_edges.proofs.Numbers.{before_by, before_more, behind_more}
 use Rattle.mv_ways.proofs.ways.sinks.first_from.Goals as goal
 
 pub loop-low-preserved-then-nodes_number-number : goal.loop-low-preserved-then-nodes_number-number

@@ -1,6 +1,6 @@
 use Rattle.mv_edges.proofs.Common.{◌<◌, ◌∙◌, ◌≡◌, an_edge, ap, are_ascending, arith, edge_before, edge_leq, false, get_or, here, length, list_any, subst, sym, true}
-use Rattle.mv_ways.specs.Numbers.{nodes_number}
-use Rattle.mv_ways.proofs.Numbers.{none_behind, none_left, none_more}
+use Rattle.mv_edges.specs.Numbers.{nodes_number}
+use Rattle.mv_edges.proofs.Numbers.{none_behind, none_left, none_more}
 use Rattle.mv_ways.proofs.ways.sinks.is_above_from.Goals as goal
 
 pub returns-then-nodes_number-number : goal.returns-then-nodes_number-number

@@ -1,18 +1,19 @@
 -- A search by nodes, which are compared as numbers.
-use Rattle.mv_edges.proofs.Common.{[], ℕ, ◌++◌, ◌<◌, ◌∙◌, ◌∷◌, ◌≡◌, ◌≤◌, ◌&&◌, ◌||◌, Bool, List, ap, arith, cases_lt, false, false_from_ne_true, get_or, get_or_default, inl, inr, length, not, refl, subst, sym, true, true≢false}
-use Rattle.mv_edges.proofs.Common.{Edge, Node, Glob, Own, Slot, Temp, are_ascending, bytes_eq, edge_before, edge_leq, label_leq, list_any, list_before, node_code, nodes_code}
-use Rattle.mv_edges.proofs.EdgeOrder.{edge_strict, not_later, same_start}
-use Rattle.mv_edges.proofs.Lexicographic.{before_cases, before_first, before_later, total}
-use Rattle.mv_edges.proofs.Ranges.{ascending_pairs, first_of, same_codes}
-use Rattle.mv_edges.proofs.Related.{related_parts}
-use Rattle.mv_edges.proofs.Settled.{same_truth}
-use Rattle.mv_edges.specs.Ascending.{node_index, node_kind}
-use Rattle.std.proofs.Common.{ltb, ◌+◌, ◌*◌}
-use Rattle.std.proofs.lemmas.Bool.{lt-ltb, ltb-true}
+use Rattle.mv_edges.proofs.Common.{[], ℕ, ◌&&◌, ◌++◌, ◌<◌, ◌∙◌, ◌∷◌, ◌≡◌, ◌≤◌, ◌||◌, Bool, List, ap, arith, cases_lt, false, false_from_ne_true, get_or, get_or_default, inl, inr, length, not}
+use Rattle.mv_edges.proofs.Common.{Edge, Glob, Node, Own, Slot, Temp, an_edge, are_ascending, bytes_eq, edge_before, edge_leq, here, label_leq, list_any, list_before, node_code, nodes_code}
+use Rattle.mv_edges.proofs.Common.{lt-ltb, ltb, ltb-true, refl, subst, suc, sym, true, true≢false, zero, ◌+◌}
+use Rattle.std.proofs.Common.{◌*◌}
 use Rattle.std.proofs.lemmas.List.Elements.{AllWithin-more}
 use Rattle.std.proofs.lemmas.List.Folds.{list_any_none}
-use Rattle.std.specs.List.{AllWithin}
-use Rattle.mv_ways.specs.Numbers.{nodes_number}
+use Rattle.std.specs.List.{AllPairs, AllWithin}
+use Rattle.mv_edges.specs.Ascending.{node_index, node_kind}
+use Rattle.mv_edges.specs.Numbers.{nodes_number}
+use Rattle.mv_edges.proofs.EdgeOrder.{edge_strict, not_later, same_start}
+use Rattle.mv_edges.proofs.Insertion.{all_contains}
+use Rattle.mv_edges.proofs.Lexicographic.{before_cases, before_first, before_later, total}
+use Rattle.mv_edges.proofs.Related.{related_parts}
+use Rattle.mv_edges.proofs.Settled.{same_truth}
+use Rattle.mv_edges.proofs.Sorting.{ascending_above, ascending_tail}
 
 kind_few : (n : Node) → node_kind n ≤ 3
 kind_few (Slot l) = omega arith
@@ -86,6 +87,13 @@ nothing_before : (xs : List ℕ) → list_before xs [] ≡ false
 nothing_before [] = refl
 nothing_before (x ∷ xs) = refl
 
+-- the first edge that is possible between the nodes of one
+abbrev pub first_of : Edge → Edge
+first_of e = an_edge e.from here e.to
+
+same_codes : (a b : Edge) → a.from ≡ b.from → a.to ≡ b.to → nodes_code a ≡ nodes_code b
+same_codes a b h g = ap (λ n. nodes_code (an_edge n here a.to)) h ∙ ap (λ n. nodes_code (an_edge b.from here n)) g
+
 -- before the first edge between two nodes is what has earlier nodes
 before_first_of : (e f : Edge) → edge_before e (first_of f) ≡ list_before (nodes_code e) (nodes_code f)
 before_first_of e f =
@@ -118,6 +126,16 @@ module _ (e f : Edge) (from to : Node) (from_is : from ≡ e.from) (to_is : to �
 
 -- ---- a search among ascending edges
 
+-- each comes before all later ones
+ascending_pairs : (es : List Edge) → are_ascending es ≡ true → AllPairs (λ (e : Edge) (f : Edge). edge_before e f ≡ true) es
+ascending_pairs [] h i j d l k = absurd (omega (arith, k))
+ascending_pairs (e ∷ es) h zero zero d l k = absurd (omega (arith, l))
+ascending_pairs (e ∷ es) h (suc i) zero d l k = absurd (omega (arith, l))
+ascending_pairs (e ∷ es) h zero (suc j) d l k =
+    let inside : j < length es = omega (arith, k) in
+    all_contains (edge_before e) es (get_or es j d) (ascending_above e es h) (j, inside, get_or_default es j (get_or es j d) d inside)
+ascending_pairs (e ∷ es) h (suc i) (suc j) d l k = ascending_pairs es (ascending_tail e es h) i j d (omega (arith, l)) (omega (arith, k))
+
 module _ (f : Edge) (es : List Edge) (up : are_ascending es ≡ true) where
   abbrev IsBefore : Edge → Type 0
   IsBefore x = edge_before x f ≡ true
@@ -125,16 +143,13 @@ module _ (f : Edge) (es : List Edge) (up : are_ascending es ≡ true) where
   abbrev IsBehind : Edge → Type 0
   IsBehind x = edge_before x f ≡ false
 
-  rises : (i k : ℕ) (d : Edge) → i < k → k < length es → edge_before (get_or es i d) (get_or es k d) ≡ true
-  rises i k d h g = ascending_pairs es up i k d h g
-
   at_any : (P : Edge → Type 0) (i : ℕ) (x : Edge) → i < length es → P (get_or es i x) → (d : Edge) → P (get_or es i d)
   at_any P i x inside h d = subst P (get_or_default es i x d inside) h
 
   -- where one is before another edge, all earlier ones are
   pub before_more : (i : ℕ) (x : Edge) → i < length es → IsBefore (get_or es i x) → AllWithin IsBefore es 0 (i + 1)
   before_more i x inside h k d _ below = elim (cases_lt k i) [
-    | inl l ↦ edge_strict.transitive (get_or es k d) (get_or es i d) f (rises k i d l inside) (at_any IsBefore i x inside h d)
+    | inl l ↦ edge_strict.transitive (get_or es k d) (get_or es i d) f (ascending_pairs es up k i d l inside) (at_any IsBefore i x inside h d)
     | inr g ↦ let same : i ≡ k = omega (arith, g, below) in subst (λ n. IsBefore (get_or es n d)) same (at_any IsBefore i x inside h d)
   ]
 
@@ -142,7 +157,7 @@ module _ (f : Edge) (es : List Edge) (up : are_ascending es ≡ true) where
   pub behind_more : (i : ℕ) (x : Edge) → i < length es → IsBehind (get_or es i x) → AllWithin IsBehind es i (length es)
   behind_more i x inside h k d from below = elim (cases_lt i k) [
     | inl l ↦ false_from_ne_true (edge_before (get_or es k d) f)
-        (λ g. true≢false (sym (edge_strict.transitive (get_or es i d) (get_or es k d) f (rises i k d l below) g) ∙ at_any IsBehind i x inside h d))
+        (λ g. true≢false (sym (edge_strict.transitive (get_or es i d) (get_or es k d) f (ascending_pairs es up i k d l below) g) ∙ at_any IsBehind i x inside h d))
     | inr g ↦ let same : i ≡ k = omega (arith, g, from) in subst (λ n. IsBehind (get_or es n d)) same (at_any IsBehind i x inside h d)
   ]
 
