@@ -1,8 +1,7 @@
 -- Fronts of bytes, and entries one after another.
 use Rattle.std.proofs.Common.{◌≡◌, ℕ, ◌+◌, ◌^◌, ◌<◌, ◌≤◌, List, [], ◌∷◌, ◌++◌, take, drop, length, arith, refl, ap, suc, zero, sym, ◌∙◌, subst}
-use Rattle.std.proofs.Common.{take-append-drop, append_assoc, length-append, length-take, Option, Some, None, IsTrue, Bool, true, false, ◌&&◌, nat_le}
+use Rattle.std.proofs.Common.{take-append-drop, append_assoc, length-append, length-take, Option, Some, None, IsTrue, Bool, ◌&&◌, nat_le}
 use Rattle.std.proofs.Common.{flat_map, eqb}
-use Rattle.std.specs.Bool.{then_some}
 use Rattle.std.specs.List.{list_all}
 use Rattle.std.proofs.lemmas.Bool.{and_parts, and_from, leb-true, le-leb, eqb-true}
 use Rattle.std.proofs.lemmas.List.Folds.{list_all-append}

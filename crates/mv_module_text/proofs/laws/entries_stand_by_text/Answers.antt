@@ -29,32 +29,16 @@ returns-clause-fields c = λ version. stands (field_from version) field_text (fi
 pub returns-clause-instructions : goal.returns-clause-instructions
 returns-clause-instructions c = λ version. stands (instruction_from version) instruction_text (instruction_fits version) (instruction-parts version) (instruction-whole version)
 
-pub returns-clause-module_handles : goal.returns-clause-module_handles
-returns-clause-module_handles c = stands module_handle_from module_handle_text module_handle_fits module_handle-parts module_handle-whole
-
-pub returns-clause-struct_handles : goal.returns-clause-struct_handles
-returns-clause-struct_handles c = stands struct_handle_from struct_handle_text struct_handle_fits struct_handle-parts struct_handle-whole
-
-pub returns-clause-function_handles : goal.returns-clause-function_handles
-returns-clause-function_handles c = stands function_handle_from function_handle_text function_handle_fits function_handle-parts function_handle-whole
-
-pub returns-clause-field_handles : goal.returns-clause-field_handles
-returns-clause-field_handles c = stands field_handle_from field_handle_text field_handle_fits field_handle-parts field_handle-whole
-
-pub returns-clause-signatures : goal.returns-clause-signatures
-returns-clause-signatures c = λ version. stands (signature_from version) signature_text (signature_fits version) (signature-parts version) (signature-whole version)
-
-pub returns-clause-constants : goal.returns-clause-constants
-returns-clause-constants c = λ version. stands (constant_from version) constant_text (constant_fits version) (constant-parts version) (constant-whole version)
-
-pub returns-clause-identifiers : goal.returns-clause-identifiers
-returns-clause-identifiers c = stands identifier_from identifier_text identifier_fits identifier-parts identifier-whole
-
-pub returns-clause-addresses : goal.returns-clause-addresses
-returns-clause-addresses c = stands address_from address_text address_fits address-parts address-whole
-
-pub returns-clause-structs : goal.returns-clause-structs
-returns-clause-structs c = λ version. stands (struct_definition_from version) struct_definition_text (struct_definition_fits version) (struct_definition-parts version) (struct_definition-whole version)
-
-pub returns-clause-functions : goal.returns-clause-functions
-returns-clause-functions c = λ version. stands (function_definition_from version) function_definition_text (function_definition_fits version) (function_definition-parts version) (function_definition-whole version)
+pub returns-clause-tables : goal.returns-clause-tables
+returns-clause-tables c version = record {
+  module_handles = stands module_handle_from module_handle_text module_handle_fits module_handle-parts module_handle-whole;
+  struct_handles = stands struct_handle_from struct_handle_text struct_handle_fits struct_handle-parts struct_handle-whole;
+  function_handles = stands function_handle_from function_handle_text function_handle_fits function_handle-parts function_handle-whole;
+  field_handles = stands field_handle_from field_handle_text field_handle_fits field_handle-parts field_handle-whole;
+  signatures = stands (signature_from version) signature_text (signature_fits version) (signature-parts version) (signature-whole version);
+  constants = stands (constant_from version) constant_text (constant_fits version) (constant-parts version) (constant-whole version);
+  identifiers = stands identifier_from identifier_text identifier_fits identifier-parts identifier-whole;
+  addresses = stands address_from address_text address_fits address-parts address-whole;
+  structs = stands (struct_definition_from version) struct_definition_text (struct_definition_fits version) (struct_definition-parts version) (struct_definition-whole version);
+  functions = stands (function_definition_from version) function_definition_text (function_definition_fits version) (function_definition-parts version) (function_definition-whole version);
+}

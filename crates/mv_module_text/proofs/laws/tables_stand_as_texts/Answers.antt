@@ -14,32 +14,16 @@ use Rattle.mv_module_text.proofs.Sizes.{module_handle-takes, struct_handle-takes
 use Rattle.mv_module_text.proofs.Sizes.{constant-takes, identifier-takes, address-takes, struct_definition-takes, function_definition-takes}
 use Rattle.mv_module_text.proofs.laws.tables_stand_as_texts.Goals as goal
 
-pub returns-clause-module_handles : goal.returns-clause-module_handles
-returns-clause-module_handles c = stand_all module_handle_from module_handle_text module_handle_fits module_handle-parts module_handle-whole module_handle-takes
-
-pub returns-clause-struct_handles : goal.returns-clause-struct_handles
-returns-clause-struct_handles c = stand_all struct_handle_from struct_handle_text struct_handle_fits struct_handle-parts struct_handle-whole struct_handle-takes
-
-pub returns-clause-function_handles : goal.returns-clause-function_handles
-returns-clause-function_handles c = stand_all function_handle_from function_handle_text function_handle_fits function_handle-parts function_handle-whole function_handle-takes
-
-pub returns-clause-field_handles : goal.returns-clause-field_handles
-returns-clause-field_handles c = stand_all field_handle_from field_handle_text field_handle_fits field_handle-parts field_handle-whole field_handle-takes
-
-pub returns-clause-signatures : goal.returns-clause-signatures
-returns-clause-signatures c = λ version. stand_all (signature_from version) signature_text (signature_fits version) (signature-parts version) (signature-whole version) (signature-takes version)
-
-pub returns-clause-constants : goal.returns-clause-constants
-returns-clause-constants c = λ version. stand_all (constant_from version) constant_text (constant_fits version) (constant-parts version) (constant-whole version) (constant-takes version)
-
-pub returns-clause-identifiers : goal.returns-clause-identifiers
-returns-clause-identifiers c = stand_all identifier_from identifier_text identifier_fits identifier-parts identifier-whole identifier-takes
-
-pub returns-clause-addresses : goal.returns-clause-addresses
-returns-clause-addresses c = stand_all address_from address_text address_fits address-parts address-whole address-takes
-
-pub returns-clause-structs : goal.returns-clause-structs
-returns-clause-structs c = λ version. stand_all (struct_definition_from version) struct_definition_text (struct_definition_fits version) (struct_definition-parts version) (struct_definition-whole version) (struct_definition-takes version)
-
-pub returns-clause-functions : goal.returns-clause-functions
-returns-clause-functions c = λ version. stand_all (function_definition_from version) function_definition_text (function_definition_fits version) (function_definition-parts version) (function_definition-whole version) (function_definition-takes version)
+pub returns : goal.returns
+returns c version = record {
+  module_handles = stand_all module_handle_from module_handle_text module_handle_fits module_handle-parts module_handle-whole module_handle-takes;
+  struct_handles = stand_all struct_handle_from struct_handle_text struct_handle_fits struct_handle-parts struct_handle-whole struct_handle-takes;
+  function_handles = stand_all function_handle_from function_handle_text function_handle_fits function_handle-parts function_handle-whole function_handle-takes;
+  field_handles = stand_all field_handle_from field_handle_text field_handle_fits field_handle-parts field_handle-whole field_handle-takes;
+  signatures = stand_all (signature_from version) signature_text (signature_fits version) (signature-parts version) (signature-whole version) (signature-takes version);
+  constants = stand_all (constant_from version) constant_text (constant_fits version) (constant-parts version) (constant-whole version) (constant-takes version);
+  identifiers = stand_all identifier_from identifier_text identifier_fits identifier-parts identifier-whole identifier-takes;
+  addresses = stand_all address_from address_text address_fits address-parts address-whole address-takes;
+  structs = stand_all (struct_definition_from version) struct_definition_text (struct_definition_fits version) (struct_definition-parts version) (struct_definition-whole version) (struct_definition-takes version);
+  functions = stand_all (function_definition_from version) function_definition_text (function_definition_fits version) (function_definition-parts version) (function_definition-whole version) (function_definition-takes version);
+}
