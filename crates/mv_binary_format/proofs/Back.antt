@@ -1,7 +1,7 @@
 -- The entries of a module's tables are read again, and so is the whole module.
-use Rattle.mv_binary_format.proofs.Common.{[], ℕ, ◌&&◌, ◌++◌, ◌+◌, ◌<◌, ◌==◌, ◌||◌, ◌∙◌, ◌∷◌, ◌≡◌, ◌≤◌, Bool, IsTrue, List, None, Option, Some, ap, append_assoc, arith, cond, false, get_or}
+use Rattle.mv_binary_format.proofs.Common.{[], ℕ, ◌&&◌, ◌++◌, ◌+◌, ◌<◌, ◌==◌, ◌||◌, ◌∙◌, ◌∷◌, ◌≡◌, ◌≤◌, Bool, IsTrue, List, None, Some, ap, append_assoc, arith, false, get_or}
 use Rattle.mv_binary_format.proofs.Common.{inl, inr, length, length-append, lit<, nat_lt, not, refl, subst, suc, sym, true, and_from, and_parts, cases_Bool, eq-eqb, eqb-true, le-leb}
-use Rattle.mv_binary_format.proofs.Common.{leb-true, lt-ltb, ltb-false, append-nil, sum_by-IsPermutation, none-some, to_le_bytes, w32, filter, find, flat_map, list_all, list_any, sum_by}
+use Rattle.mv_binary_format.proofs.Common.{leb-true, lt-ltb, ltb-false, append-nil, sum_by-IsPermutation, to_le_bytes, w32, filter, find, flat_map, list_all, list_any, sum_by}
 use Rattle.mv_binary_format.proofs.Common.{Module, StandsByForm, uleb, address_text, constant_text, counted, field_handle_text, function_definition_text, function_handle_text}
 use Rattle.mv_binary_format.proofs.Common.{identifier_text, module_handle_text, signature_text, struct_definition_text, struct_handle_text, address_fits, constant_fits, field_handle_fits}
 use Rattle.mv_binary_format.proofs.Common.{function_definition_fits, function_handle_fits, identifier_fits, module_handle_fits, signature_fits, struct_definition_fits, struct_handle_fits}

@@ -22,7 +22,7 @@ pub use Rattle.mv_module_text.specs.Entries.{address_text, constant_text, counte
 pub use Rattle.mv_module_text.specs.Entries.{signature_text, struct_definition_text, struct_handle_text}
 pub use Rattle.mv_module_text.specs.Fits.{address_fits, constant_fits, field_handle_fits, function_definition_fits, function_handle_fits, identifier_fits, is_byte, module_handle_fits}
 pub use Rattle.mv_module_text.specs.Fits.{signature_fits, struct_definition_fits, struct_handle_fits}
-pub use Rattle.mv_module_text.specs.Laws.{AreBytes, StandAsTexts}
+pub use Rattle.mv_module_text.specs.Laws.{AreBytes, OfEachTable, StandAsTexts}
 pub use Rattle.mv_module_text.specs.Parsing.{Read, address_from, all_from, bytes_from, constant_from, counted_from, entries_from, field_handle_from, function_definition_from}
 pub use Rattle.mv_module_text.specs.Parsing.{function_handle_from, identifier_from, index_from, module_handle_from, signature_from, struct_definition_from, struct_handle_from}
 pub use Rattle.mv_binary_format.specs.Kinds.{header_of, headers_of, table_code}

@@ -3,25 +3,16 @@ use Rattle.mv_binary_format.proofs.Common.{[], ℕ, ◌&&◌, ◌==◌, ◌∙�
 use Rattle.mv_binary_format.proofs.Common.{and_parts, eqb-true, IsPermutation-refl, none-some, some_pair_parts, filter, find, flat_map, list_all, IsPermutation, Module, address_text}
 use Rattle.mv_binary_format.proofs.Common.{constant_text, field_handle_text, function_definition_text, function_handle_text, identifier_text, module_handle_text, signature_text}
 use Rattle.mv_binary_format.proofs.Common.{struct_definition_text, struct_handle_text, address_fits, constant_fits, field_handle_fits, function_definition_fits, function_handle_fits}
-use Rattle.mv_binary_format.proofs.Common.{identifier_fits, is_byte, module_handle_fits, signature_fits, struct_definition_fits, struct_handle_fits, AreBytes, StandAsTexts, Read}
+use Rattle.mv_binary_format.proofs.Common.{identifier_fits, is_byte, module_handle_fits, signature_fits, struct_definition_fits, struct_handle_fits, AreBytes, OfEachTable, StandAsTexts, Read}
 use Rattle.mv_binary_format.proofs.Common.{address_from, all_from, constant_from, field_handle_from, function_definition_from, function_handle_from, identifier_from, module_handle_from}
 use Rattle.mv_binary_format.proofs.Common.{signature_from, struct_definition_from, struct_handle_from, Table, table, tables, content_of, entries_of, is_of, module_from, without}
 use Rattle.mv_binary_format.proofs.Binds.{bind_some, then_some_parts}
 use Rattle.mv_binary_format.proofs.Sums.{found-in_all, others-in_all}
 use Rattle.mv_binary_format.proofs.Sound.{has_bytes, if_full, kind-taken, if_full-then, bytes-before, bytes-behind}
 
--- What a table's entries are read by: each table is read exactly where the texts of its entries stand.
-pub record TableLaws (version : ℕ) : Type 0 where
-  pub module_handles : StandAsTexts module_handle_from module_handle_text module_handle_fits
-  pub struct_handles : StandAsTexts struct_handle_from struct_handle_text struct_handle_fits
-  pub function_handles : StandAsTexts function_handle_from function_handle_text function_handle_fits
-  pub signatures : StandAsTexts (signature_from version) signature_text (signature_fits version)
-  pub constants : StandAsTexts (constant_from version) constant_text (constant_fits version)
-  pub identifiers : StandAsTexts identifier_from identifier_text identifier_fits
-  pub addresses : StandAsTexts address_from address_text address_fits
-  pub structs : StandAsTexts (struct_definition_from version) struct_definition_text (struct_definition_fits version)
-  pub functions : StandAsTexts (function_definition_from version) function_definition_text (function_definition_fits version)
-  pub field_handles : StandAsTexts field_handle_from field_handle_text field_handle_fits
+-- In this version each table is read exactly where the texts of its entries stand.
+abbrev pub TableLaws : ℕ → Type 0
+TableLaws version = OfEachTable (λ A. StandAsTexts) version
 
 -- whether a table's content is bytes
 abbrev pub has_only_bytes : Table → Bool

@@ -1,5 +1,5 @@
 -- What has been written of a module's tables.
-use Rattle.std.specs.Prelude.{◌≡◌, ℕ, List, map, length, flat_map}
+use Rattle.std.specs.Prelude.{◌≡◌, ℕ, List, map, flat_map}
 use Rattle.mv_binary_format.specs.declared.layout.WrittenHeader.{WrittenHeader}
 use Rattle.mv_binary_format.specs.Kinds.{table_code}
 use Rattle.mv_binary_format.specs.ModuleText.{Table, Header, headers_from, with_bytes}
