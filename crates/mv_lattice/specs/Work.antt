@@ -5,6 +5,7 @@
 --   IsNewState ..             what the code puts in a stated state's place
 --   standing states waiting   a search by its parts
 --   IsSearch, IsUnderway      the code has come to these states and marks by visits from a start state
+--   OfEachStart ..            what holds of each start state from which it may have come to them
 -- AllStated is a part of these.
 use Rattle.std.specs.Prelude.{◌≡◌, ℕ, ◌+◌, Bool, List, Option, Some, None}
 use Rattle.mv_bound_rules.specs.Times.{times}
@@ -54,3 +55,7 @@ pub record IsUnderway {S : Type 0} (o : Order S) (g : Cfg) (left : List ℕ) (st
   pub valid : o.is_state start
   pub begins : o.may_begin start
   pub search : IsSearch o g start left states waiting
+
+-- this holds of each start state from which a search has come to these states and marks
+abbrev pub OfEachStart : {S : Type 0} → Order S → Cfg → List ℕ → List (Option S) → List Bool → (S → Type 0) → Type 0
+OfEachStart {S} o g left states waiting P = (start : S) → IsSearch o g start left states waiting → P start

@@ -3,7 +3,7 @@ ghost use Rattle.std.specs.Prelude.{◌≡◌, ℕ, ◌<◌, ◌≤◌, Option, 
 ghost use Rattle.mv_cfg.specs.Graph.{IsGraph};
 ghost use Rattle.mv_lattice.specs.Flow.{IsAt, IsFlow, IsClosed, IsStated};
 ghost use Rattle.mv_lattice.specs.Search.{Raises, ExceedsAt, FlowsIntoEach, Exceeds, IsVisit, Makes, EndsWith, MeetsLimit, MeetsNeed};
-ghost use Rattle.mv_lattice.specs.Work.{HasLarge, HasChain, AllStated, IsLeastFlow, IsNewState, standing, IsSearch, IsUnderway};
+ghost use Rattle.mv_lattice.specs.Work.{HasLarge, HasChain, AllStated, IsLeastFlow, IsNewState, standing, IsSearch, IsUnderway, OfEachStart};
 
 use crate::flow::carry;
 use crate::{Domain, StepError};
@@ -255,12 +255,10 @@ fn turn<D: Domain>(
     requires marks { length waiting.old ≡ length g.now.blocks.items }
     requires lefts { length left.old ≡ length g.now.blocks.items }
     requires search { IsUnderway (D.order d.now) g.now left.old states.old waiting.old }
-    ensures search { OnOk result ((start : D.State) → IsSearch (D.order d.now) g.now start left.old states.old waiting.old
-        → IsSearch (D.order d.now) g.now start left.new states.new waiting.new) }
-    ensures fails { IsErrOf result SolveError.Need → (start : D.State) → IsSearch (D.order d.now) g.now start left.old states.old waiting.old
-        → MeetsNeed (D.order d.now) g.now start }
-    ensures limit { IsErrOf result SolveError.TooComplex → (start : D.State) → IsSearch (D.order d.now) g.now start left.old states.old waiting.old
-        → MeetsLimit (D.order d.now) g.now start }
+    ensures search { OnOk result (OfEachStart (D.order d.now) g.now left.old states.old waiting.old
+        (λ start. IsSearch (D.order d.now) g.now start left.new states.new waiting.new)) }
+    ensures fails { IsErrOf result SolveError.Need → OfEachStart (D.order d.now) g.now left.old states.old waiting.old (MeetsNeed (D.order d.now) g.now) }
+    ensures limit { IsErrOf result SolveError.TooComplex → OfEachStart (D.order d.now) g.now left.old states.old waiting.old (MeetsLimit (D.order d.now) g.now) }
     ensures fewer { OnOk result (sum left.new < sum left.old) }
 {
     if left[k] == 0 {
@@ -285,12 +283,10 @@ fn search_flow<D: Domain>(
     requires marks { length waiting.old ≡ length g.now.blocks.items }
     requires lefts { length left.old ≡ length g.now.blocks.items }
     requires search { IsUnderway (D.order d.now) g.now left.old states.old waiting.old }
-    ensures search { OnOk result ((start : D.State) → IsSearch (D.order d.now) g.now start left.old states.old waiting.old
-        → IsSearch (D.order d.now) g.now start left.new states.new waiting.new) }
-    ensures fails { IsErrOf result SolveError.Need → (start : D.State) → IsSearch (D.order d.now) g.now start left.old states.old waiting.old
-        → MeetsNeed (D.order d.now) g.now start }
-    ensures limit { IsErrOf result SolveError.TooComplex → (start : D.State) → IsSearch (D.order d.now) g.now start left.old states.old waiting.old
-        → MeetsLimit (D.order d.now) g.now start }
+    ensures search { OnOk result (OfEachStart (D.order d.now) g.now left.old states.old waiting.old
+        (λ start. IsSearch (D.order d.now) g.now start left.new states.new waiting.new)) }
+    ensures fails { IsErrOf result SolveError.Need → OfEachStart (D.order d.now) g.now left.old states.old waiting.old (MeetsNeed (D.order d.now) g.now) }
+    ensures limit { IsErrOf result SolveError.TooComplex → OfEachStart (D.order d.now) g.now left.old states.old waiting.old (MeetsLimit (D.order d.now) g.now) }
     ensures rests { OnOk result ((j : ℕ) → j < length waiting.new → IsAt waiting.new j false) }
 {
     while let Some(k) = first_waiting(waiting) {

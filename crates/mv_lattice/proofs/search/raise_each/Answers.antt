@@ -1,4 +1,4 @@
-use Rattle.std.proofs.Common.{◌∙◌, ◌<◌, ◌-◌, [], length, take, drop, sym, subst, arith, All, Contains}
+use Rattle.std.proofs.Common.{◌∙◌, ◌<◌, [], length, take, drop, sym, subst, arith, All, Contains}
 use Rattle.std.proofs.lemmas.List.{append-nil, take_all, take_rest, take-append-drop}
 use Rattle.std.proofs.lemmas.List.Elements.{All-drop, Contains-append_right}
 use Rattle.std.proofs.lemmas.Result.{on_ok_weaker}

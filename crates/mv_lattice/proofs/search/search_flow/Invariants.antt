@@ -1,12 +1,11 @@
 use Rattle.std.proofs.Common.{sum}
-use Rattle.mv_lattice.specs.Work.{IsSearch}
+use Rattle.mv_lattice.specs.Work.{IsSearch, OfEachStart}
 use Rattle.mv_lattice.proofs.search.search_flow.Given as goal
 
 abbrev pub invariant-loop-k : goal.invariant-loop-k
 invariant-loop-k g l =
     let o = g.D.Domain.order l.d in
-    (start : g.row.D-State.Denot) → IsSearch o l.g start l.initial.left l.initial.states l.initial.waiting
-    → IsSearch o l.g start l.left l.states l.waiting
+    OfEachStart o l.g l.initial.left l.initial.states l.initial.waiting (λ start. IsSearch o l.g start l.left l.states l.waiting)
 
 abbrev pub decreases-loop-k : goal.decreases-loop-k
 decreases-loop-k g l = sum l.left
