@@ -9,10 +9,11 @@ use Rattle.std.specs.Io.KnownBytes.{Appends}
 use Rattle.mv_analyser.specs.declared.LimitError.{LimitError}
 use Rattle.mv_analyser.specs.declared.LimitError.TheVariants as limit
 use Rattle.mv_analyser.specs.declared.ProveError.TheVariants as proof
+use Rattle.mv_move_types.specs.Refusals.{IsRefusedBy}
 use Rattle.mv_move_types.specs.declared.refusal.Refusal.{Refusal}
 use Rattle.mv_move_types.specs.declared.refusal.Refusal.TheVariants.{Phase, Memory as OutOfMemory}
 use Rattle.moveledger.specs.Authoring.{ChecksTo, Prints, ProvesTo}
-use Rattle.moveledger.specs.Checking.{AreShort, FailsCheck, IsAccepted, IsRefusedText, before_line_end, failing, too_long as texts_too_long}
+use Rattle.moveledger.specs.Checking.{AreShort, FailsCheck, IsAccepted, before_line_end, failing, too_long as texts_too_long}
 use Rattle.moveledger.specs.Printing.{checked_line, line, no_proof_line, refused_text}
 use Rattle.moveledger.specs.Proving.{FailsProof, HasNoProofWithin, IsComplexText, IsProvedBy, IsShort, in_each, in_module, too_long}
 use Rattle.moveledger.specs.Status.{end_after_check, end_after_proof}
@@ -81,7 +82,7 @@ printed-so held holds result EndsBy end text printed is broken written (inr h) =
 module _ {S A : Type 0} (bytes_of : S → List ℕ) (m : List ℕ) (held holds : Option (List ℕ)) (result : End) where
   -- what is printed of a module that was checked
   pub checks-to : (t bytes text : List ℕ) (checked : Result (Unit {0}) Refusal) (made : Result S A) → bytes ≡ take 65537 m → text ≡ take 2097154 t
-      → OnOk checked (IsAccepted bytes text) → IfErr checked (IsRefusedText bytes text) → IfOk made (λ s. Some (bytes_of s) ≡ checked_line checked)
+      → OnOk checked (IsAccepted bytes text) → IfErr checked (IsRefusedBy (FailsCheck bytes text)) → IfOk made (λ s. Some (bytes_of s) ≡ checked_line checked)
       → Prints bytes_of made (end_after_check checked) held holds result → ChecksTo m t held holds result
   checks-to t bytes text checked (Err e) module_is text_is ok err said h = subst (ChecksTo m t held holds) (sym h.0) h.1
   checks-to t bytes text (Ok done) (Ok s) module_is text_is ok err said h =
@@ -123,7 +124,7 @@ module _ {S A : Type 0} (bytes_of : S → List ℕ) (held holds : Option (List �
 
   pub checks-some : (m t : Option (List ℕ)) (bytes text : List ℕ) (checked : Result (Unit {0}) Refusal) (made : Result S A)
       → IfSome m (λ xs. bytes ≡ take 65537 xs) → IfSome t (λ xs. text ≡ take 2097154 xs)
-      → OnOk checked (IsAccepted bytes text) → IfErr checked (IsRefusedText bytes text) → IfOk made (λ s. Some (bytes_of s) ≡ checked_line checked)
+      → OnOk checked (IsAccepted bytes text) → IfErr checked (IsRefusedBy (FailsCheck bytes text)) → IfOk made (λ s. Some (bytes_of s) ≡ checked_line checked)
       → Prints bytes_of made (end_after_check checked) held holds result → IfSome m (λ m. IfSome t (λ t. ChecksTo m t held holds result))
   checks-some None t bytes text checked made module_is text_is ok err said is = tt
   checks-some (Some m) None bytes text checked made module_is text_is ok err said is = tt

@@ -4,6 +4,7 @@ use Rattle.std.proofs.lemmas.Bool.{and_from}
 use Rattle.mv_move_types.specs.declared.refusal.Refusal.{Refusal}
 use Rattle.mv_move_types.specs.declared.refusal.Refusal.TheVariants.{Phase, Memory as OutOfMemory}
 use Rattle.mv_move_types.specs.Module.{Module}
+use Rattle.mv_move_types.specs.Refusals.{IsRefusedBy}
 use Rattle.mv_module_text.specs.Laws.{AreBytes}
 use Rattle.mv_binary_format.specs.Laws.{IsReadByText}
 use Rattle.mv_type_rules.specs.Sound.{IsSound}
@@ -18,7 +19,7 @@ use Rattle.mv_analyser.specs.declared.LimitError.TheVariants.{Unproved, TooLong}
 use Rattle.mv_analyser.specs.declared.ProveError.{ProveError}
 use Rattle.mv_analyser.specs.declared.ProveError.TheVariants.{Refused, TooComplex, Memory}
 use Rattle.moveledger.specs.Hexadecimal.{hexadecimal, IsHexadecimal}
-use Rattle.mv_ledger_state.specs.Publishing.{IsRefusedOffer, Passes, Spells}
+use Rattle.mv_ledger_state.specs.Publishing.{FailsAt, Passes, Spells}
 use Rattle.mv_ledger_state.proofs.Spelling.{module-one}
 use Rattle.moveledger.specs.Checking.{AreShort, IsAccepted, PassesWith, before_line_end, offer_of}
 use Rattle.moveledger.specs.Proving.{HasNoProof, HasNoProofWithin, IsAcceptedBack, IsProvableText, IsProvedBy, IsShort, error_of, in_each, in_module}
@@ -66,7 +67,7 @@ module _ (bytes text : List ℕ) (short : IsShort bytes) (m : Module) (spells : 
 
 module _ (bytes : List ℕ) (short : IsShort bytes) where
   -- a module that is refused with each certificate has none
-  pub alone-no_proof : (e : Refusal) → ((certificate : List ℕ) → IsRefusedOffer (offer_of bytes certificate) e) → HasNoProof bytes (error_of e)
+  pub alone-no_proof : (e : Refusal) → ((certificate : List ℕ) → IsRefusedBy (FailsAt (offer_of bytes certificate)) e) → HasNoProof bytes (error_of e)
   alone-no_proof (Phase p) h = in_module p short h
   alone-no_proof OutOfMemory h = tt
 
@@ -99,6 +100,6 @@ provable-spelled reads bytes are m spells provable =
     ((provable.stated, (provable.passes.certificate.1, provable.passes.holds)), provable.passes.acquires)
 
 -- where some certificate passes, the module is not refused with each
-pub provable-refused : (bytes : List ℕ) → IsProvableText bytes → (e : Refusal) → ((certificate : List ℕ) → IsRefusedOffer (offer_of bytes certificate) e) → IsOfLimits (error_of e)
+pub provable-refused : (bytes : List ℕ) → IsProvableText bytes → (e : Refusal) → ((certificate : List ℕ) → IsRefusedBy (FailsAt (offer_of bytes certificate)) e) → IsOfLimits (error_of e)
 provable-refused bytes provable (Phase p) h = absurd (never-fails (offer_of bytes provable.certificate) provable.tables provable.stated provable.passes p (h provable.certificate))
 provable-refused bytes provable OutOfMemory h = tt

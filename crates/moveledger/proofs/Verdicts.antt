@@ -3,35 +3,27 @@ use Rattle.std.proofs.Common.{◌≡◌, ℕ, List, ◌⊎◌, inl, inr, refl, s
 use Rattle.mv_move_types.specs.declared.refusal.Refusal.{Refusal}
 use Rattle.mv_move_types.specs.declared.refusal.Refusal.TheVariants.{Phase, Memory}
 use Rattle.mv_move_types.specs.Module.{Module}
+use Rattle.mv_move_types.specs.Refusals.{IsRefusedBy}
 use Rattle.mv_type_rules.specs.Sound.{IsSound}
 use Rattle.hex.proofs.HexLemmas.{decode_of-same}
 use Rattle.moveledger.specs.Hexadecimal.{IsHexadecimal}
-use Rattle.mv_ledger_state.specs.Publishing.{Spells, FailsAt, IsRefusedOffer}
-use Rattle.moveledger.specs.Checking.{AreShort, FailsCheck, FailsWith, IsAccepted, IsRefusedText, IsRefusedWith, PassesWith}
+use Rattle.mv_ledger_state.specs.Publishing.{Spells, FailsAt}
+use Rattle.moveledger.specs.Checking.{FailsCheck, FailsWith, IsAccepted, PassesWith}
 use Rattle.moveledger.specs.Checking.{before_line_end, failing, in_certificate, in_module, not_hexadecimal, offer_of, too_long}
 use Rattle.mv_ledger_state.proofs.Phases.{never-fails}
 use Rattle.moveledger.proofs.Digits.{decode_of-hexadecimal}
 
-module _ (bytes : List ℕ) where
-  module _ (digits : List ℕ) where
-    -- a module that is refused with each certificate fails alone
-    pub refused-in_module : (e : Refusal) → ((certificate : List ℕ) → IsRefusedOffer (offer_of bytes certificate) e) → IsRefusedWith bytes digits e
-    refused-in_module (Phase p) h = in_module p h
-    refused-in_module Memory h = tt
+module _ (bytes digits : List ℕ) where
+  -- a module that is refused with each certificate fails alone
+  pub refused-in_module : (e : Refusal) → ((certificate : List ℕ) → IsRefusedBy (FailsAt (offer_of bytes certificate)) e) → IsRefusedBy (FailsWith bytes digits) e
+  refused-in_module (Phase p) h = in_module p h
+  refused-in_module Memory h = tt
 
-    pub refused-in_digits : (m : Module) (e : Refusal) → Spells bytes m → IsSound m → (e ≡ Phase 9) ⊎ (e ≡ Memory) → (e ≡ Phase 9 → (certificate : List ℕ) → IsHexadecimal digits certificate → ⊥)
-        → IsRefusedWith bytes digits e
-    refused-in_digits m Memory text sound is none = tt
-    refused-in_digits m (Phase p) text sound (inl is) none = let same : p ≡ 9 = cc in subst (FailsWith bytes digits) (sym same) (not_hexadecimal m text sound (none is))
-    refused-in_digits m (Phase p) text sound (inr is) none = cc
-
-    pub refused-in_certificate : (certificate : List ℕ) (e : Refusal) → IsHexadecimal digits certificate → IsRefusedOffer (offer_of bytes certificate) e → IsRefusedWith bytes digits e
-    refused-in_certificate certificate (Phase p) spelled h = in_certificate certificate p spelled h
-    refused-in_certificate certificate Memory spelled h = tt
-
-  pub refused-text : (text : List ℕ) (e : Refusal) → AreShort bytes (before_line_end text) → IsRefusedWith bytes (before_line_end text) e → IsRefusedText bytes text e
-  refused-text text (Phase p) short h = failing p short h
-  refused-text text Memory short h = tt
+  pub refused-in_digits : (m : Module) (e : Refusal) → Spells bytes m → IsSound m → (e ≡ Phase 9) ⊎ (e ≡ Memory) → (e ≡ Phase 9 → (certificate : List ℕ) → IsHexadecimal digits certificate → ⊥)
+      → IsRefusedBy (FailsWith bytes digits) e
+  refused-in_digits m Memory text sound is none = tt
+  refused-in_digits m (Phase p) text sound (inl is) none = let same : p ≡ 9 = cc in subst (FailsWith bytes digits) (sym same) (not_hexadecimal m text sound (none is))
+  refused-in_digits m (Phase p) text sound (inr is) none = cc
 
 -- what is accepted fails in no phase
 module _ (bytes digits : List ℕ) (passes : PassesWith bytes digits) where
@@ -48,6 +40,6 @@ never-fails-check : (bytes text : List ℕ) → IsAccepted bytes text → {p : �
 never-fails-check bytes text accepted (too_long long) = long accepted.0
 never-fails-check bytes text accepted (failing phase short fails) = never-with bytes (before_line_end text) accepted.1 fails
 
-pub accepted-refused : (bytes text : List ℕ) → IsAccepted bytes text → (e : Refusal) → IsRefusedText bytes text e → e ≡ Memory
+pub accepted-refused : (bytes text : List ℕ) → IsAccepted bytes text → (e : Refusal) → IsRefusedBy (FailsCheck bytes text) e → e ≡ Memory
 accepted-refused bytes text accepted (Phase p) h = absurd (never-fails-check bytes text accepted h)
 accepted-refused bytes text accepted Memory h = refl

@@ -6,9 +6,8 @@
 --   FailsWith bytes digits phase                   the first of phases 2 to 12 that the module and the digits fail
 --   IsAccepted bytes text                          `check` accepts the module with the text of the certificate
 --   FailsCheck bytes text phase                    otherwise: the first phase that fails, where 1 is a text or a module that is too long
---   IsRefusedWith, IsRefusedText                   a refusal names such a phase, or an allocation failed
 -- AreShort is a part of these. Digits that spell no bytes fail phase 9 (refusal_of).
-use Rattle.std.specs.Prelude.{ℕ, ◌-◌, ◌*◌, ◌≤◌, ◌==◌, if◌then◌else◌, List, length, take, slice_index, ⊤}
+use Rattle.std.specs.Prelude.{ℕ, ◌-◌, ◌*◌, ◌≤◌, ◌==◌, if◌then◌else◌, List, length, take, slice_index}
 use Rattle.mv_move_types.specs.Limits.{most_certificate_bytes, most_module_bytes}
 use Rattle.mv_move_types.specs.declared.refusal.Refusal.{Refusal}
 use Rattle.mv_move_types.specs.declared.refusal.Refusal.TheVariants.{Phase, Memory}
@@ -69,13 +68,3 @@ IsAccepted bytes text = AreShort bytes (before_line_end text) × PassesWith byte
 pub data FailsCheck (bytes text : List ℕ) : ℕ → Type 0 where
   too_long : ¬ AreShort bytes (before_line_end text) → FailsCheck bytes text 1
   failing : (phase : ℕ) → AreShort bytes (before_line_end text) → FailsWith bytes (before_line_end text) phase → FailsCheck bytes text phase
-
--- the module and the digits fail it, or an allocation failed
-abbrev pub IsRefusedWith : List ℕ → List ℕ → Refusal → Type 0
-IsRefusedWith bytes digits (Phase phase) = FailsWith bytes digits phase
-IsRefusedWith bytes digits Memory = ⊤
-
--- the module and the text fail it, or an allocation failed
-abbrev pub IsRefusedText : List ℕ → List ℕ → Refusal → Type 0
-IsRefusedText bytes text (Phase phase) = FailsCheck bytes text phase
-IsRefusedText bytes text Memory = ⊤

@@ -7,7 +7,7 @@
 --   HasNoProofWithin steps ..   the same where the search may take so many steps, or any number of them
 --   IsProvableText bytes        some certificate is there with which the module passes
 -- IsShort is a part of these; error_of is the error where the module alone is refused.
-use Rattle.std.specs.Prelude.{◌≡◌, ℕ, ◌≤◌, List, [], ◌∷◌, ◌++◌, length, Option, IsSome, ⊤}
+use Rattle.std.specs.Prelude.{◌≡◌, ℕ, ◌≤◌, List, [], ◌∷◌, ◌++◌, length, Option, IsSome}
 use Rattle.mv_move_types.specs.Limits.{most_module_bytes}
 use Rattle.mv_move_types.specs.declared.refusal.Refusal.{Refusal}
 use Rattle.mv_move_types.specs.declared.refusal.Refusal.TheVariants.{Phase, Memory as OutOfMemory}
@@ -15,11 +15,11 @@ use Rattle.mv_move_types.specs.Module.{Module}
 use Rattle.mv_type_rules.specs.Sound.{IsSound}
 use Rattle.mv_certificate_rules.specs.Certificate.{Certificate}
 use Rattle.mv_certificate_rules.specs.CertificateText.{certificate_text}
-use Rattle.mv_analyser.specs.Principal.{FailsEach, IsTooComplex, IsWithoutReferences}
+use Rattle.mv_analyser.specs.Principal.{FailsEach, IsTooComplex, IsUnprovedBy, IsWithoutReferences}
 use Rattle.mv_analyser.specs.declared.LimitError.{LimitError}
 use Rattle.mv_analyser.specs.declared.LimitError.TheVariants.{Unproved, TooLong}
 use Rattle.mv_analyser.specs.declared.ProveError.{ProveError}
-use Rattle.mv_analyser.specs.declared.ProveError.TheVariants.{Refused, TooComplex, Memory}
+use Rattle.mv_analyser.specs.declared.ProveError.TheVariants.{Refused, Memory}
 use Rattle.moveledger.specs.Hexadecimal.{hexadecimal}
 use Rattle.mv_ledger_state.specs.Publishing.{Spells, Passes}
 use Rattle.moveledger.specs.Checking.{FailsAlone, IsAccepted, most_digits, offer_of}
@@ -57,9 +57,7 @@ pub record IsComplexText (bytes : List ℕ) : Type 0 where
 
 -- the module fails this phase; or it has a local that is a reference, and the search meets a limit; or an allocation failed
 abbrev pub HasNoProof : List ℕ → ProveError → Type 0
-HasNoProof bytes (Refused phase) = FailsProof bytes phase
-HasNoProof bytes TooComplex = IsComplexText bytes
-HasNoProof bytes Memory = ⊤
+HasNoProof bytes = IsUnprovedBy (FailsProof bytes) (IsComplexText bytes)
 
 -- the same where the steps of the search are limited, or aren't: where they are, they may be used up
 abbrev pub HasNoProofWithin : Option ℕ → List ℕ → LimitError → Type 0

@@ -1,7 +1,8 @@
 // A module is checked with the text of a certificate.
 ghost use Rattle.std.specs.Prelude.{◌≡◌, ℕ, ◌⊎◌, List, Err, IfOk, IfErr, OnOk};
+ghost use Rattle.mv_move_types.specs.Refusals.{IsRefusedBy};
 ghost use Rattle.moveledger.specs.Hexadecimal.{IsHexadecimal};
-ghost use Rattle.moveledger.specs.Checking.{before_line_end, refusal_of, PassesWith, IsRefusedWith, IsAccepted, IsRefusedText};
+ghost use Rattle.moveledger.specs.Checking.{before_line_end, refusal_of, PassesWith, FailsWith, IsAccepted, FailsCheck};
 
 use crate::modules::sound;
 use hex::FromHexError;
@@ -48,7 +49,7 @@ fn bytes_of(alloc: Global, digits: &[u8]) -> Result<Vec<u8>, Refusal>
 /// Tries phases 2 to 12 on a module with the digits of a certificate.
 fn check_digits(alloc: Global, module: &[u8], digits: &[u8]) -> Result<(), Refusal>
     ensures ok { OnOk result (PassesWith «module».now digits.now) }
-    ensures refused { IfErr result (IsRefusedWith «module».now digits.now) }
+    ensures refused { IfErr result (IsRefusedBy (FailsWith «module».now digits.now)) }
 {
     // For the prover: bytes spell one module alone.
     mv_binary_format::modules_are_read_by_text();
@@ -64,7 +65,7 @@ fn check_digits(alloc: Global, module: &[u8], digits: &[u8]) -> Result<(), Refus
 /// Tries phases 1 to 12, each where those before it hold.
 fn check_phases(alloc: Global, module: &[u8], certificate: &[u8]) -> Result<(), Refusal>
     ensures ok { OnOk result (IsAccepted «module».now certificate.now) }
-    ensures refused { IfErr result (IsRefusedText «module».now certificate.now) }
+    ensures refused { IfErr result (IsRefusedBy (FailsCheck «module».now certificate.now)) }
 {
     let digits = before_line_end(certificate);
     if module.len() > MOST_MODULE_BYTES || digits.len() > MOST_DIGITS {
@@ -81,7 +82,7 @@ fn check_phases(alloc: Global, module: &[u8], certificate: &[u8]) -> Result<(), 
 /// 2,097,152 before its line end; 9 also where the text is no hexadecimal. `Memory`, where an allocation failed.
 pub fn check_text(alloc: Global, module: &[u8], certificate: &[u8]) -> Result<(), Refusal>
     ensures ok { OnOk result (IsAccepted «module».now certificate.now) }
-    ensures refused { IfErr result (IsRefusedText «module».now certificate.now) }
+    ensures refused { IfErr result (IsRefusedBy (FailsCheck «module».now certificate.now)) }
     // Nothing but a failed allocation keeps it from what is to be accepted.
     ensures accepts { IsAccepted «module».now certificate.now → IfErr result (λ e. e ≡ Refusal.Memory) }
 {

@@ -1,7 +1,8 @@
 // The bytes of a module: phases 2 to 8.
 ghost use Rattle.std.specs.Prelude.{ℕ, List, IfOk, IfErr};
+ghost use Rattle.mv_move_types.specs.Refusals.{IsRefusedBy};
 ghost use Rattle.mv_type_rules.specs.Sound.{IsSound};
-ghost use Rattle.mv_ledger_state.specs.Publishing.{Spells, IsRefusedOffer};
+ghost use Rattle.mv_ledger_state.specs.Publishing.{Spells, FailsAt};
 ghost use Rattle.moveledger.specs.Checking.{offer_of};
 
 use mv_ledger_state::are_bytes;
@@ -13,7 +14,7 @@ use std::alloc::Global;
 pub fn sound<'a>(alloc: Global, bytes: &'a [u8]) -> Result<Typed<'a>, Refusal>
     ensures spelled { IfOk result (Spells bytes.entry.now) }
     ensures sound { IfOk result IsSound }
-    ensures refused { (certificate : List ℕ) → IfErr result (IsRefusedOffer (offer_of bytes.entry.now certificate)) }
+    ensures refused { (certificate : List ℕ) → IfErr result (IsRefusedBy (FailsAt (offer_of bytes.entry.now certificate))) }
 {
     // For the prover: bytes spell one module alone.
     mv_binary_format::modules_are_read_by_text();

@@ -10,7 +10,6 @@
 --   IsMigratedAs bytes status why text                      a saved ledger in the current form
 -- payload_of is the payload that asks for a report: 0 stands for lines, 1 for JSON.
 use Rattle.std.specs.Prelude.{◌≡◌, ℕ, zero, suc, ℤ, List, [], ◌∷◌, Option, Some, None, ◌⊎◌}
-use Rattle.mv_move_types.specs.declared.refusal.Refusal.TheVariants.{Phase}
 use Rattle.mv_machine.specs.Lines.{Told}
 use Rattle.mv_ledger.specs.Answering.{Replies}
 use Rattle.mv_lines.specs.LinesView.{ended}
@@ -18,7 +17,7 @@ use Rattle.mv_saved_text.specs.Loading.{FailsLoad, IsLoaded}
 use Rattle.mv_ledger_state.specs.View.{LedgerView, empty_view, state_of}
 use Rattle.mv_analyser.specs.declared.ProveError.{ProveError}
 use Rattle.mv_analyser.specs.declared.ProveError.TheVariants.{Refused, TooComplex, Memory}
-use Rattle.moveledger.specs.Checking.{IsAccepted, IsRefusedText}
+use Rattle.moveledger.specs.Checking.{FailsCheck, IsAccepted}
 use Rattle.moveledger.specs.Outcome.{Begun, GoesOn, StopsAfter, StopsAt}
 use Rattle.moveledger.specs.Proving.{FailsProof, IsAcceptedBack, IsComplexText, IsProvedBy}
 use Rattle.moveledger.specs.Saved.{IsMigrated}
@@ -86,7 +85,7 @@ IsProvedWithin module' status why text = IsProved module' status why text ⊎ ((
 -- the module passes with the certificate of the text; or a phase refuses it; or memory ran out
 abbrev pub IsChecked : List ℕ → List ℕ → ℤ → ℕ → Type 0
 IsChecked module' text status why = ((status ≡ done) × (why ≡ 0) × IsAccepted module' text)
-    ⊎ (((status ≡ refused) × IsRefusedText module' text (Phase why)) ⊎ ((status ≡ memory) × (why ≡ 0)))
+    ⊎ (((status ≡ refused) × FailsCheck module' text why) ⊎ ((status ≡ memory) × (why ≡ 0)))
 
 -- the text of today of the ledger that bytes save is given; or they are none, for this reason; or memory ran out
 abbrev pub IsMigratedAs : List ℕ → ℤ → ℕ → List ℕ → Type 0

@@ -28,8 +28,8 @@ use Rattle.mv_certificate.proofs.Marks.{stated-fits}
 use Rattle.mv_certificate.proofs.States.{locals-flow-at}
 use Rattle.mv_certificate.proofs.Holds.{locals_exact_at}
 use Rattle.mv_analyser.specs.Least.{HasLeastLocals, stated_locals}
-use Rattle.mv_analyser.specs.Principal.{HoldsAt, FailsLocals, FailsEdges, MeetsLimitAt}
-use Rattle.mv_analyser.specs.States.{without_edges, locals_alone, error_of, EndsLocals, EndsEdges, IsErrorAt}
+use Rattle.mv_analyser.specs.Principal.{HoldsAt, IsUnprovedBy}
+use Rattle.mv_analyser.specs.States.{without_edges, locals_alone, error_of}
 use Rattle.mv_analyser.proofs.Marks.{flow-marks}
 use Rattle.mv_analyser.proofs.Chains.{Leq}
 
@@ -126,22 +126,8 @@ module _ (m m' : Module) (f : ℕ) (d d' : FunctionDefinition) (g : Cfg) (home :
   }
 
 -- how a search ends, by its error
-pub locals_error : {T : Type 0} (m : Module) (f : ℕ) (e : SolveError) → (IsErrOf {T = T} (Err e) NeedFails → FailsLocals m f) → (IsErrOf {T = T} (Err e) SearchTooComplex → ⊥)
-    → EndsLocals m f (error_of 10 e)
-locals_error m f NeedFails need complex = (refl, need refl)
-locals_error m f SearchTooComplex need complex = complex refl
-locals_error m f MemoryOut need complex = tt
-
-pub edges_error : {T : Type 0} (m : Module) (f : ℕ) (e : SolveError) → (IsErrOf {T = T} (Err e) NeedFails → FailsEdges m f) → (IsErrOf {T = T} (Err e) SearchTooComplex → MeetsLimitAt m f)
-    → EndsEdges m f (error_of 11 e)
-edges_error m f NeedFails need complex = (refl, need refl)
-edges_error m f SearchTooComplex need complex = complex refl
-edges_error m f MemoryOut need complex = tt
-
--- what the error of a search says
-pub search_error : {T : Type 0} (m : Module) (f phase : ℕ) (Passes : Stated → Type 0) (Complex : Type 0) (e : SolveError)
-    → (IsErrOf {T = T} (Err e) NeedFails → (stated : Stated) → FitsAt m f stated → Passes stated → ⊥)
-    → (IsErrOf {T = T} (Err e) SearchTooComplex → Complex) → IsErrorAt m f phase Passes Complex (error_of phase e)
-search_error m f phase Passes Complex NeedFails need complex = (refl, need refl)
-search_error m f phase Passes Complex SearchTooComplex need complex = complex refl
-search_error m f phase Passes Complex MemoryOut need complex = tt
+pub search_error : {T : Type 0} (phase : ℕ) (Fails Complex : Type 0) (e : SolveError) → (IsErrOf {T = T} (Err e) NeedFails → Fails) → (IsErrOf {T = T} (Err e) SearchTooComplex → Complex)
+    → IsUnprovedBy (λ p. (p ≡ phase) × Fails) Complex (error_of phase e)
+search_error phase Fails Complex NeedFails need complex = (refl, need refl)
+search_error phase Fails Complex SearchTooComplex need complex = complex refl
+search_error phase Fails Complex MemoryOut need complex = tt

@@ -7,6 +7,7 @@
 --   FindsEdges, .., FailsLocals m f             the same of the function at f
 --   FailsEach m phase                           no certificate passes phase 10, or 11; or some one passes, and 12 fails
 --   IsTooComplex m                              a search for edges meets a limit
+--   IsUnprovedBy fails complex e                a phase of which this holds, or a search that is too complex and that, or memory ran out
 --   IsUnproved, IsUnprovedWithin m e            why no certificate is made, at all or within a number of steps
 --   IsOfLimits, IsOfLimitsWithin e              the search met a limit, or memory ran out
 --   IsTold limited why e                        what is said of a search's error where its steps are limited, or aren't
@@ -19,6 +20,7 @@ use Rattle.mv_move_types.specs.declared.refusal.Refusal.{Refusal}
 use Rattle.mv_move_types.specs.declared.refusal.Refusal.TheVariants.{Memory as OutOfMemory}
 use Rattle.mv_move_types.specs.declared.token.Token.{Token}
 use Rattle.mv_move_types.specs.Module.{Module, FunctionDefinition, local_type}
+use Rattle.mv_move_types.specs.Refusals.{IsRefusedBy}
 use Rattle.mv_acquires.specs.Acquires.{AcquiresHold}
 use Rattle.mv_cfg.specs.declared.Cfg.{Cfg}
 use Rattle.mv_cfg.specs.FlowGraph.{IsFlowGraph}
@@ -28,7 +30,7 @@ use Rattle.mv_locals_safety.specs.Domain.{locals_order}
 use Rattle.mv_edges.specs.Edges.{Edge}
 use Rattle.mv_certificate_rules.specs.BorrowRules.{is_reference_token}
 use Rattle.mv_borrow_graph.specs.Domain.{edges_order}
-use Rattle.mv_certificate.specs.Answers.{IsRefusedByCertificate}
+use Rattle.mv_certificate.specs.Answers.{FailsCertificate}
 use Rattle.mv_certificate_rules.specs.Certificate.{Certificate, all_locals_hold, all_edges_hold}
 use Rattle.mv_certificate_rules.specs.Shape.{AllStatedFit}
 use Rattle.mv_certificate_rules.specs.Verified.{HasCertificate}
@@ -111,17 +113,19 @@ pub record IsTooComplex (m : Module) : Type 0 where
   pub before : AllBefore (FindsEdges m) function
   pub limit : MeetsLimitAt m function
 
+-- the first holds of the phase that refuses; or a search is too complex, and the second holds; or memory ran out
+abbrev pub IsUnprovedBy : (ℕ → Type 0) → Type 0 → ProveError → Type 0
+IsUnprovedBy fails complex (Refused phase) = fails phase
+IsUnprovedBy fails complex TooComplex = complex
+IsUnprovedBy fails complex Memory = ⊤
+
 -- no certificate passes the phase that refuses; or the module has a local that is a reference, and a search meets a limit; or memory ran out
 abbrev pub IsUnproved : Module → ProveError → Type 0
-IsUnproved m (Refused phase) = FailsEach m phase
-IsUnproved m TooComplex = (IsWithoutReferences m → ⊥) × IsTooComplex m
-IsUnproved m Memory = ⊤
+IsUnproved m = IsUnprovedBy (FailsEach m) ((IsWithoutReferences m → ⊥) × IsTooComplex m)
 
 -- the search reached its limits, or memory ran out
 abbrev pub IsOfLimits : ProveError → Type 0
-IsOfLimits (Refused phase) = ⊥
-IsOfLimits TooComplex = ⊤
-IsOfLimits Memory = ⊤
+IsOfLimits = IsUnprovedBy (λ phase. ⊥) ⊤
 
 -- the same within a number of steps, which may also be used up
 abbrev pub IsUnprovedWithin : Module → LimitError → Type 0
@@ -143,4 +147,4 @@ IsProvable m = HasCertificate m × AcquiresHold m
 
 -- nothing but want of memory refuses the certificate
 abbrev pub PassesCheck : Module → Certificate → Type 0
-PassesCheck m c = (e : Refusal) → IsRefusedByCertificate m c e → e ≡ OutOfMemory
+PassesCheck m c = (e : Refusal) → IsRefusedBy (FailsCertificate m c) e → e ≡ OutOfMemory

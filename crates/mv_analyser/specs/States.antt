@@ -5,7 +5,7 @@
 --   IsErrorAt m f phase Passes Complex e   nothing passes at f, or that function is too complex, or memory ran out
 --   IsSimpleAt, IsComplexAt m f            no local of the function at f is a reference; or one is, and the search meets a limit
 --   EndsLocals, EndsEdges m f e            the search for availabilities, or for edges, ends with this error
-use Rattle.std.specs.Prelude.{◌≡◌, ⊤, ℕ, List, [], ◌∷◌, map, option_map, Option, Some, None, slice_get}
+use Rattle.std.specs.Prelude.{◌≡◌, ℕ, List, [], ◌∷◌, map, option_map, Option, Some, None, slice_get}
 use Rattle.mv_move_types.specs.declared.borrow.Availability.{Availability}
 use Rattle.mv_move_types.specs.Module.{Module, FunctionDefinition}
 use Rattle.mv_edges.specs.Edges.{Edge}
@@ -13,7 +13,7 @@ use Rattle.mv_lattice.specs.declared.search.SolveError.{SolveError}
 use Rattle.mv_lattice.specs.declared.search.SolveError.TheVariants.{Need as NeedFails, TooComplex as SearchTooComplex, Memory as MemoryOut}
 use Rattle.mv_certificate_rules.specs.Certificate.{Known, Stated}
 use Rattle.mv_certificate.specs.Reads.{FitsAt}
-use Rattle.mv_analyser.specs.Principal.{HasPlainLocals, FailsLocals, FailsEdges, MeetsLimitAt}
+use Rattle.mv_analyser.specs.Principal.{HasPlainLocals, FailsLocals, FailsEdges, MeetsLimitAt, IsUnprovedBy}
 use Rattle.mv_analyser.specs.declared.ProveError.{ProveError}
 use Rattle.mv_analyser.specs.declared.ProveError.TheVariants.{Refused, TooComplex, Memory}
 
@@ -45,9 +45,7 @@ error_of phase MemoryOut = Memory
 
 -- nothing that fits the function at a place passes; or that function is too complex; or memory ran out
 abbrev pub IsErrorAt : Module → ℕ → ℕ → (Stated → Type 0) → Type 0 → ProveError → Type 0
-IsErrorAt m f phase Passes Complex (Refused p) = (p ≡ phase) × ((stated : Stated) → FitsAt m f stated → Passes stated → ⊥)
-IsErrorAt m f phase Passes Complex TooComplex = Complex
-IsErrorAt m f phase Passes Complex Memory = ⊤
+IsErrorAt m f phase Passes Complex = IsUnprovedBy (λ p. (p ≡ phase) × ((stated : Stated) → FitsAt m f stated → Passes stated → ⊥)) Complex
 
 -- no local of the function at a place is a reference
 abbrev pub IsSimpleAt : Module → ℕ → Type 0
@@ -59,11 +57,7 @@ IsComplexAt m f = (IsSimpleAt m f → ⊥) × MeetsLimitAt m f
 
 -- the function's search for availabilities has this error in phase 10, or its search for edges in phase 11; or memory ran out
 abbrev pub EndsLocals : Module → ℕ → ProveError → Type 0
-EndsLocals m f (Refused p) = (p ≡ 10) × FailsLocals m f
-EndsLocals m f TooComplex = ⊥
-EndsLocals m f Memory = ⊤
+EndsLocals m f = IsUnprovedBy (λ p. (p ≡ 10) × FailsLocals m f) ⊥
 
 abbrev pub EndsEdges : Module → ℕ → ProveError → Type 0
-EndsEdges m f (Refused p) = (p ≡ 11) × FailsEdges m f
-EndsEdges m f TooComplex = MeetsLimitAt m f
-EndsEdges m f Memory = ⊤
+EndsEdges m f = IsUnprovedBy (λ p. (p ≡ 11) × FailsEdges m f) (MeetsLimitAt m f)

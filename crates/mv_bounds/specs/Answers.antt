@@ -1,7 +1,5 @@
 -- Which phase refuses a module.
-use Rattle.std.specs.Prelude.{⊤, ℕ}
-use Rattle.mv_move_types.specs.declared.refusal.Refusal.{Refusal}
-use Rattle.mv_move_types.specs.declared.refusal.Refusal.TheVariants.{Phase, Memory}
+use Rattle.std.specs.Prelude.{ℕ}
 use Rattle.mv_move_types.specs.Module.{Module}
 use Rattle.mv_bound_rules.specs.Bounds.{InBounds}
 use Rattle.mv_bound_rules.specs.Definitions.{WellDefined}
@@ -10,8 +8,3 @@ use Rattle.mv_bound_rules.specs.Definitions.{WellDefined}
 pub data FailsBounds (m : Module) : ℕ → Type 0 where
   out_of_bounds : (InBounds m → ⊥) → FailsBounds m 3
   ill_defined : InBounds m → (WellDefined m → ⊥) → FailsBounds m 4
-
--- the module fails the phase that is answered, or memory ran out
-abbrev pub IsRefusedByBounds : Module → Refusal → Type 0
-IsRefusedByBounds m (Phase p) = FailsBounds m p
-IsRefusedByBounds m Memory = ⊤

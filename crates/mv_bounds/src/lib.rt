@@ -24,7 +24,8 @@ mod duplicates;
 mod indices;
 
 ghost use Rattle.std.specs.Prelude.{◌≡◌, IfOk, IfErr, map};
-ghost use Rattle.mv_bounds.specs.Answers.{IsRefusedByBounds};
+ghost use Rattle.mv_move_types.specs.Refusals.{IsRefusedBy};
+ghost use Rattle.mv_bounds.specs.Answers.{FailsBounds};
 ghost use Rattle.mv_bound_rules.specs.Functions.{codes_of};
 ghost use Rattle.mv_bound_rules.specs.Places.{IsBounded};
 
@@ -47,7 +48,7 @@ use std::alloc::{AllocError, Global};
 /// fields of the same name, or contains itself. `Memory` if an allocation failed.
 pub fn check<'a>(alloc: Global, m: Module<'a>) -> Result<Bounded<'a>, Refusal>
     ensures ok { IfOk result (λ b. b ≡ m.entry) }
-    ensures refused { IfErr result (IsRefusedByBounds m.entry) }
+    ensures refused { IfErr result (IsRefusedBy (FailsBounds m.entry)) }
 {
     let codes = instructions(alloc, &m)?;
     let places = bounded_places(alloc, &m, &codes)?;
@@ -75,7 +76,7 @@ fn bounded_places(
 ) -> Result<Vec<Option<usize>>, Refusal>
     requires { map (λ c. c.items) codes.now ≡ codes_of m.now }
     ensures ok { IfOk result (λ v. IsBounded m.now v.items (map (λ c. c.items) codes.now)) }
-    ensures refused { IfErr result (IsRefusedByBounds m.now) }
+    ensures refused { IfErr result (IsRefusedBy (FailsBounds m.now)) }
 {
     if !in_bounds(m, codes) {
         return Err(Refusal::Phase(3));

@@ -3,7 +3,6 @@ pub mod Loops
 pub mod Texts
 pub mod Marks
 pub mod States
-pub mod Refusals
 pub mod Carried
 pub mod Flows
 pub mod SameEdges

@@ -1,7 +1,5 @@
 -- Which phase refuses a certificate.
-use Rattle.std.specs.Prelude.{ℕ, ⊤, IsTrue}
-use Rattle.mv_move_types.specs.declared.refusal.Refusal.{Refusal}
-use Rattle.mv_move_types.specs.declared.refusal.Refusal.TheVariants.{Phase, Memory}
+use Rattle.std.specs.Prelude.{ℕ, IsTrue}
 use Rattle.mv_move_types.specs.Module.{Module}
 use Rattle.mv_acquires.specs.Acquires.{AcquiresHold}
 use Rattle.mv_certificate_rules.specs.Certificate.{Certificate, all_locals_hold, all_edges_hold, certificate_holds}
@@ -12,8 +10,3 @@ pub data FailsCertificate (m : Module) (c : Certificate) : ℕ → Type 0 where
   bad_locals : (IsTrue (all_locals_hold m c) → ⊥) → FailsCertificate m c 10
   bad_borrows : IsTrue (all_locals_hold m c) → (IsTrue (all_edges_hold m c) → ⊥) → FailsCertificate m c 11
   bad_acquires : IsTrue (certificate_holds m c) → (AcquiresHold m → ⊥) → FailsCertificate m c 12
-
--- the phase that refuses, or memory ran out
-abbrev pub IsRefusedByCertificate : Module → Certificate → Refusal → Type 0
-IsRefusedByCertificate m c (Phase p) = FailsCertificate m c p
-IsRefusedByCertificate m c Memory = ⊤

@@ -1,10 +1,10 @@
 // Whether what a certificate states of a module's functions holds.
 
 ghost use Rattle.std.specs.Prelude.{◌≡◌, ◌<◌, ◌⊎◌, length, option_map, slice_get, Some, IfOk, IfErr, OnOk, IsTrue};
-ghost use Rattle.mv_move_types.specs.Refusals.{IsRefusedIn};
+ghost use Rattle.mv_move_types.specs.Refusals.{IsRefusedBy, IsRefusedIn};
 ghost use Rattle.mv_acquires.specs.Acquires.{AcquiresHold};
 ghost use Rattle.mv_lattice.specs.Flow.{states_of};
-ghost use Rattle.mv_certificate.specs.Answers.{IsRefusedByCertificate};
+ghost use Rattle.mv_certificate.specs.Answers.{FailsCertificate};
 ghost use Rattle.mv_certificate_rules.specs.Certificate.{Certificate, all_locals_hold, all_edges_hold, certificate_holds};
 ghost use Rattle.mv_certificate.specs.Functions.{LocalsHoldAt, EdgesHoldAt};
 ghost use Rattle.mv_certificate_rules.specs.Shape.{AllStatedFit};
@@ -175,7 +175,7 @@ fn try_edges(alloc: Global, m: &Typed<'_>, c: &Cert) -> Result<(), Refusal>
 pub fn check_locals(alloc: Global, m: &Typed<'_>, c: &Cert) -> Result<(), Refusal>
     requires { AllStatedFit m.now m.now.functions c.now }
     ensures holds { OnOk result (IsTrue (all_locals_hold m.now c.now)) }
-    ensures refused { IfErr result (IsRefusedByCertificate m.now c.now) }
+    ensures refused { IfErr result (IsRefusedBy (FailsCertificate m.now c.now)) }
 {
     try_locals(alloc, m, c)
 }
@@ -185,7 +185,7 @@ pub fn check_edges(alloc: Global, m: &Typed<'_>, c: &Cert) -> Result<(), Refusal
     requires shape { AllStatedFit m.now m.now.functions c.now }
     requires locals { IsTrue (all_locals_hold m.now c.now) }
     ensures holds { OnOk result (IsTrue (certificate_holds m.now c.now)) }
-    ensures refused { IfErr result (IsRefusedByCertificate m.now c.now) }
+    ensures refused { IfErr result (IsRefusedBy (FailsCertificate m.now c.now)) }
 {
     try_edges(alloc, m, c)
 }
@@ -193,7 +193,7 @@ pub fn check_edges(alloc: Global, m: &Typed<'_>, c: &Cert) -> Result<(), Refusal
 /// Phase 12: the acquires list of each function is right.
 pub fn check_acquires(alloc: Global, m: &Typed<'_>) -> Result<(), Refusal>
     ensures ok { OnOk result (AcquiresHold m.now) }
-    ensures refused { IfErr result (λ e. (c : Certificate) → IsTrue (certificate_holds m.now c) → IsRefusedByCertificate m.now c e) }
+    ensures refused { IfErr result (λ e. (c : Certificate) → IsTrue (certificate_holds m.now c) → IsRefusedBy (FailsCertificate m.now c) e) }
 {
     mv_acquires::check(alloc, m.bounded())
 }

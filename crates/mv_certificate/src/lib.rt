@@ -23,11 +23,12 @@ mod shape;
 mod writing;
 
 ghost use Rattle.std.specs.Prelude.{◌≡◌, Err, IfOk, IfErr, OnOk, IsTrue, ◌⊎◌};
+ghost use Rattle.mv_move_types.specs.Refusals.{IsRefusedBy};
 ghost use Rattle.mv_acquires.specs.Acquires.{AcquiresHold};
 ghost use Rattle.mv_certificate_rules.specs.Shape.{AllStatedFit};
 ghost use Rattle.mv_certificate_rules.specs.Certificate.{Certificate, certificate_holds};
 ghost use Rattle.mv_certificate_rules.specs.CertificateText.{certificate_text, IsCertificateText};
-ghost use Rattle.mv_certificate.specs.Answers.{IsRefusedByCertificate};
+ghost use Rattle.mv_certificate.specs.Answers.{FailsCertificate};
 ghost use Rattle.mv_certificate.specs.Laws.{IsReadBackAs};
 
 pub use certificate::{Cert, Known};
@@ -70,7 +71,7 @@ fn try_phases(alloc: Global, m: &Typed<'_>, c: &Cert) -> Result<(), Refusal>
     requires { AllStatedFit m.now m.now.functions c.now }
     ensures holds { OnOk result (IsTrue (certificate_holds m.now c.now)) }
     ensures acquires { OnOk result (AcquiresHold m.now) }
-    ensures refused { IfErr result (IsRefusedByCertificate m.now c.now) }
+    ensures refused { IfErr result (IsRefusedBy (FailsCertificate m.now c.now)) }
 {
     checking::check_locals(alloc, m, c)?;
     checking::check_edges(alloc, m, c)?;
@@ -83,7 +84,7 @@ pub fn check<'a>(alloc: Global, m: Typed<'a>, c: &Cert) -> Result<Verified<'a>, 
     requires shape { AllStatedFit m m.functions c.now }
     ensures ok { IfOk result (λ v. v ≡ m.entry) }
     ensures holds { OnOk result (IsTrue (certificate_holds m.entry c.now)) }
-    ensures refused { IfErr result (IsRefusedByCertificate m.entry c.now) }
+    ensures refused { IfErr result (IsRefusedBy (FailsCertificate m.entry c.now)) }
 {
     try_phases(alloc, &m, c)?;
     Ok(Verified::new(m.into_tops(alloc)?))

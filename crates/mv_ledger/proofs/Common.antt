@@ -59,7 +59,7 @@ pub use Rattle.mv_ledger_state.specs.Asking.{request_of}
 pub use Rattle.mv_lines.specs.Auditing.{audit_from, counts_json, stored_of}
 pub use Rattle.mv_ledger.specs.Changes.{Leaves, RunsTo}
 pub use Rattle.mv_ledger_state.specs.Exact.{IsAccepted, IsRefused, failing, no_bundle}
-pub use Rattle.mv_ledger_state.specs.Judging.{IsAcceptedBy, IsRefusedBy}
+pub use Rattle.mv_ledger_state.specs.Judging.{IsAcceptedBy, IsRefusedOver}
 pub use Rattle.mv_saved_text.specs.Parts.Saving.{IsWritable}
 pub use Rattle.mv_ledger_state.specs.Publishing.{AllPass, Spells}
 pub use Rattle.mv_ledger_state.specs.RecordText.{Asks, IsShaped, IsShapeless, argument_fits, format_text, offer_fits, run_fits}

@@ -2,7 +2,7 @@
 use Rattle.mv_ledger.proofs.Common.{[], ◌+◌, ◌∙◌, ◌∷◌, ◌≡◌, Err, List, None, Ok, Option, Result, Some, ap, arith, false, map, refl, subst, sym, true, ℕ, is_some, PublishedModule, with_modules}
 use Rattle.mv_ledger.proofs.Common.{Phase, FlatEntry, storage_of, Answers, AreRead, Bad, BadRun, LedgerState, Offer, Publish, Run, RunRequest, admitted, attempted, modules_of, scarce_structs}
 use Rattle.mv_ledger.proofs.Common.{settled, tally_of, with_bundle, RanToAbort, RanOut, ToldPublished, ToldRefused, ToldRejected, Told, RanToEnd, Tallied, FunctionCall, run, Storage}
-use Rattle.mv_ledger.proofs.Common.{IsStore, tables_in, call_of, IsSoundLedger, AnswersRecord, Replies, Leaves, RunsTo, IsAccepted, IsRefused, failing, no_bundle, IsAcceptedBy, IsRefusedBy}
+use Rattle.mv_ledger.proofs.Common.{IsStore, tables_in, call_of, IsSoundLedger, AnswersRecord, Replies, Leaves, RunsTo, IsAccepted, IsRefused, failing, no_bundle, IsAcceptedBy, IsRefusedOver}
 use Rattle.mv_ledger.proofs.Common.{AllPass, Spells, IsShaped, IsShapeless, IsAdmission, IsAdmitted, IsSettled, AddsTallies, LedgerView, state_of, tallied, view_of, Rejected, BarredRejected, Call}
 use Rattle.mv_ledger.proofs.Common.{Tally}
 use Rattle.mv_ledger.specs.Changes.{IsKept}
@@ -88,7 +88,7 @@ module _ (old new : List PublishedModule) (payload : List ℕ) (stored : List Fl
   same_view : new ≡ old → after ≡ before → second ≡ first
   same_view p q = rw (p, q) refl
 
-  pub refused_replies : (phase : ℕ) → new ≡ old → after ≡ before → IsRefusedBy old payload (Phase phase) → IsSoundLedger (state_of first) → Replies 1 payload (Some (ToldRefused phase)) first second
+  pub refused_replies : (phase : ℕ) → new ≡ old → after ≡ before → IsRefusedOver old payload (Phase phase) → IsSoundLedger (state_of first) → Replies 1 payload (Some (ToldRefused phase)) first second
   refused_replies phase p q refused sound =
       let why : IsRefused (state_of first) payload phase = refused (state_of first) refl in
       let same : second ≡ first = same_view p q in

@@ -34,7 +34,7 @@ pub use Rattle.mv_move_types.specs.Named.{declared, declared_in, definition_of, 
 pub use Rattle.mv_move_types.specs.Names.{ModuleName, StructName, same_module, same_struct}
 pub use Rattle.mv_move_types.specs.Options.{◌>>=◌, find_index}
 pub use Rattle.mv_move_types.specs.Published.{PublishedModule, has_name_of, with_module, with_modules}
-pub use Rattle.mv_move_types.specs.Refusals.{IsRefusedIn}
+pub use Rattle.mv_move_types.specs.Refusals.{IsRefusedBy, IsRefusedIn}
 pub use Rattle.mv_move_types.specs.Results.{for_each}
 pub use Rattle.mv_move_types.specs.Scarce.{is_scarce_struct, is_scarce_at, is_scarce_in}
 pub use Rattle.mv_move_types.specs.Tags.{LeafTag, ReferenceTag, StructTag, Tag, same_tag}
@@ -66,7 +66,7 @@ pub use Rattle.mv_signatures.specs.Signatures.{WellSigned, are_entry_parameters,
 pub use Rattle.mv_cfg.specs.Blocks.{BasicBlock, FlowHolds, IsReached, at_start, blocks}
 pub use Rattle.mv_acquires.specs.Acquires.{AcquiresHold}
 pub use Rattle.mv_abilities.specs.Abilities.{AbilitiesHold, field_is_able, implies, struct_is_able, token_abilities, value_type_abilities}
-pub use Rattle.mv_type_rules.specs.Sound.{FailsTypes, IsRefusedByTypes, IsSound, endless, ill_signed, ill_typed, unable}
+pub use Rattle.mv_type_rules.specs.Sound.{FailsTypes, IsSound, endless, ill_signed, ill_typed, unable}
 pub use Rattle.mv_module_text.proofs.Addresses.{address-parts, address-whole}
 pub use Rattle.mv_module_text.proofs.Entries.{ReadsOn, ReadsOn-next, ReadsOn-stops}
 pub use Rattle.mv_module_text.proofs.Numbers.{number_of-front, number_of-whole}
@@ -138,9 +138,9 @@ pub use Rattle.mv_ledger_state.proofs.Counting.Fine.{Balances, FrameIsKept, Fram
 pub use Rattle.mv_ledger_state.proofs.Counting.Held.{held, held_in_frame, held_in_frames, held_in_local, held_in_locals, held_in_stack, made, unmade}
 pub use Rattle.mv_ledger_state.specs.Counting.Kept.{Allows, AreAbove, AreKept, IsAscending, IsKept, IsScarce, StorageIsKept}
 pub use Rattle.mv_ledger_state.specs.Exact.{IsAccepted, IsRefused, failing, no_bundle}
-pub use Rattle.mv_ledger_state.specs.Judging.{IsAcceptedBy, IsKeptOut, IsRefusedBy, MayFollow}
+pub use Rattle.mv_ledger_state.specs.Judging.{IsAcceptedBy, IsKeptOut, IsRefusedOver, MayFollow}
 pub use Rattle.mv_ledger_state.specs.Payloads.{argument_from, bundle_from, leaf_from, offer_from, offers_from, run_from, sized_from}
-pub use Rattle.mv_ledger_state.specs.Publishing.{AllPass, FailsAt, FirstFails, IsPublished, IsRefusedAmong, IsRefusedOffer, OfCertificate, OfModule, Passes, Spells, in_linking, in_offer}
+pub use Rattle.mv_ledger_state.specs.Publishing.{AllPass, FailsAmong, FailsAt, FirstFails, IsPublished, OfCertificate, OfModule, Passes, Spells, in_linking, in_offer}
 pub use Rattle.mv_ledger_state.specs.Publishing.{in_room, offered, phases}
 pub use Rattle.mv_ledger_state.specs.RecordText.{IsShaped, IsShapeless, argument_fits, argument_text, leaf_bytes, offer_fits, offer_text, publish_fits, publish_text, run_fits, run_text}
 pub use Rattle.mv_ledger_state.specs.RecordText.{sized}

@@ -1,13 +1,14 @@
 -- Each refusal is the first phase that an offer fails, and what a bundle is refused for.
 use Rattle.mv_ledger_state.proofs.Common.{◌≡◌, ◌≤◌, ◌⊎◌, ◌∙◌, IsTrue, List, [], ◌∷◌, Some, drop, inl, inr, length, refl, subst, sym, ℕ, and_parts, Module, PublishedModule, with_modules, Refusal, Memory, Phase}
 use Rattle.mv_ledger_state.proofs.Common.{IsReadByText, AreBytes, InBounds, WellDefined, WellSigned, AbilitiesHold, FlowHolds, AcquiresHold, all_locals_hold, all_edges_hold}
-use Rattle.mv_ledger_state.proofs.Common.{FailsTypes, IsRefusedByTypes, IsSound, endless, ill_signed, ill_typed, unable, LedgerState, Offer, Publish, Certificate, IsCertificateText, MayJoin, tables_in}
-use Rattle.mv_ledger_state.proofs.Common.{IsRefused, failing, IsAcceptedBy, IsKeptOut, IsRefusedBy, AllPass, FailsAt, FirstFails, IsRefusedAmong, IsRefusedOffer, OfCertificate, OfModule, Passes, Spells, in_linking}
+use Rattle.mv_ledger_state.proofs.Common.{FailsTypes, IsSound, endless, ill_signed, ill_typed, unable, LedgerState, Offer, Publish, Certificate, IsCertificateText, MayJoin, tables_in}
+use Rattle.mv_ledger_state.proofs.Common.{IsRefused, failing, IsAcceptedBy, IsKeptOut, IsRefusedBy, IsRefusedOver, AllPass, FailsAmong, FailsAt, FirstFails, OfCertificate, OfModule, Passes, Spells, in_linking}
 use Rattle.mv_ledger_state.proofs.Common.{in_offer, in_room, phases, IsShaped}
 use Rattle.std.specs.Prelude.{⊤}
 use Rattle.mv_type_rules.specs.TypesHold.{TypesHold}
-use Rattle.mv_bounds.specs.Answers.{IsRefusedByBounds, FailsBounds, out_of_bounds, ill_defined}
-use Rattle.mv_certificate.specs.Answers.{IsRefusedByCertificate, FailsCertificate, bad_locals, bad_borrows, bad_acquires}
+use Rattle.mv_move_types.proofs.Refusals.{refused-weaker}
+use Rattle.mv_bounds.specs.Answers.{FailsBounds, out_of_bounds, ill_defined}
+use Rattle.mv_certificate.specs.Answers.{FailsCertificate, bad_locals, bad_borrows, bad_acquires}
 use Rattle.mv_certificate.proofs.OneCertificate.{one-certificate}
 use Rattle.mv_ledger_state.proofs.Spelling.{module-one}
 
@@ -67,7 +68,7 @@ module _ (o : Offer) (m : Module) (c : Certificate) (passes : Passes o m c) wher
 
 -- ---- what is refused fails first in the phase that is answered
 
-pub refused_text : (o : Offer) (e : Refusal) → (e ≡ Phase 2) ⊎ (e ≡ Memory) → (e ≡ Phase 2 → (m : Module) → Spells o.text m → ⊥) → IsRefusedOffer o e
+pub refused_text : (o : Offer) (e : Refusal) → (e ≡ Phase 2) ⊎ (e ≡ Memory) → (e ≡ Phase 2 → (m : Module) → Spells o.text m → ⊥) → IsRefusedBy (FailsAt o) e
 refused_text o Memory is none = tt
 refused_text o (Phase p) (inl is) none = let same : p ≡ 2 = cc in inl (same, λ h. none is h.0 h.1)
 refused_text o (Phase p) (inr is) none = cc
@@ -103,17 +104,15 @@ module _ (reads : IsReadByText) (o : Offer) (are : AreBytes o.text) where
   behind-text : (m : Module) (c : Certificate) → Spells o.text m → IsSound m → IsCertificateText m o.certificate c → {p : ℕ} → FirstFails (drop 8 (phases o)) p → FailsAt o p
   behind-text m c text s written later = behind-types m text s (inr ((m, c, text, written, tt), later))
 
-  pub refused_bounds : (m : Module) (e : Refusal) → Spells o.text m → IsRefusedByBounds m e → IsRefusedOffer o e
-  refused_bounds m Memory text h = tt
-  refused_bounds m (Phase p) text h = fails h
+  pub refused_bounds : (m : Module) (e : Refusal) → Spells o.text m → IsRefusedBy (FailsBounds m) e → IsRefusedBy (FailsAt o) e
+  refused_bounds m e text = refused-weaker (FailsBounds m) (FailsAt o) e fails
     where
-      fails : {n : ℕ} → FailsBounds m n → FailsAt o n
-      fails (out_of_bounds out) = inr ((m, text, tt), inl (refl, no-module InBounds m text out))
-      fails (ill_defined bounds out) = inr ((m, text, tt), inr ((m, text, bounds), inl (refl, no-module WellDefined m text out)))
+      fails : (p : ℕ) → FailsBounds m p → FailsAt o p
+      fails _ (out_of_bounds out) = inr ((m, text, tt), inl (refl, no-module InBounds m text out))
+      fails _ (ill_defined bounds out) = inr ((m, text, tt), inr ((m, text, bounds), inl (refl, no-module WellDefined m text out)))
 
-  pub refused_types : (m : Module) (e : Refusal) → Spells o.text m → InBounds m → WellDefined m → IsRefusedByTypes m e → IsRefusedOffer o e
-  refused_types m Memory text bounds defined h = tt
-  refused_types m (Phase p) text bounds defined h = behind-definitions m text bounds defined (fails h)
+  pub refused_types : (m : Module) (e : Refusal) → Spells o.text m → InBounds m → WellDefined m → IsRefusedBy (FailsTypes m) e → IsRefusedBy (FailsAt o) e
+  refused_types m e text bounds defined = refused-weaker (FailsTypes m) (FailsAt o) e (λ p h. behind-definitions m text bounds defined (fails h))
     where
       fails : {n : ℕ} → FailsTypes m n → FirstFails (drop 3 (phases o)) n
       fails (ill_signed out) = inl (refl, no-module WellSigned m text out)
@@ -123,16 +122,16 @@ module _ (reads : IsReadByText) (o : Offer) (are : AreBytes o.text) where
           inr ((m, text, signed), inr ((m, text, able), inr ((m, text, flow), inl (refl, no-module TypesHold m text out))))
 
   pub refused_stated : (m : Module) (e : Refusal) → Spells o.text m → IsSound m → (e ≡ Phase 9) ⊎ (e ≡ Memory) → (e ≡ Phase 9 → (c : Certificate) → IsCertificateText m o.certificate c → ⊥)
-      → IsRefusedOffer o e
+      → IsRefusedBy (FailsAt o) e
   refused_stated m Memory text sound is none = tt
   refused_stated m (Phase p) text sound (inl is) none =
       let same : p ≡ 9 = cc in
       behind-types m text sound (inl (same, λ h. none is h.1 (subst (λ (k : Module). IsCertificateText k o.certificate h.1) (sym (module-is m h.0 text h.2)) h.3)))
   refused_stated m (Phase p) text sound (inr is) none = cc
 
-  pub refused_check : (m : Module) (c : Certificate) (e : Refusal) → Spells o.text m → IsSound m → IsCertificateText m o.certificate c → IsRefusedByCertificate m c e → IsRefusedOffer o e
-  refused_check m c Memory text sound stated h = tt
-  refused_check m c (Phase p) text sound stated h = behind-text m c text sound stated (fails h)
+  pub refused_check : (m : Module) (c : Certificate) (e : Refusal) → Spells o.text m → IsSound m → IsCertificateText m o.certificate c → IsRefusedBy (FailsCertificate m c) e
+      → IsRefusedBy (FailsAt o) e
+  refused_check m c e text sound stated = refused-weaker (FailsCertificate m c) (FailsAt o) e (λ p h. behind-text m c text sound stated (fails h))
     where
       no-locals : (IsTrue (all_locals_hold m c) → ⊥) → OfCertificate o (λ n d. IsTrue (all_locals_hold n d)) → ⊥
       no-locals = no-certificate (λ n d. IsTrue (all_locals_hold n d)) m c text stated
@@ -149,9 +148,8 @@ module _ (reads : IsReadByText) (o : Offer) (are : AreBytes o.text) where
 
 module _ (old : List PublishedModule) (payload : List ℕ) (sender : ℕ) (offers : List Offer) (asked : IsShaped 1 payload (Publish sender offers)) where
   -- one of the offers fails
-  pub refused_among : (e : Refusal) → IsRefusedAmong offers e → IsRefusedBy old payload e
-  refused_among Memory h s is = tt
-  refused_among (Phase p) h s is = failing sender offers p asked (in_offer p h)
+  pub refused_among : (e : Refusal) → IsRefusedBy (FailsAmong offers) e → IsRefusedOver old payload e
+  refused_among e h s is = refused-weaker (FailsAmong offers) (IsRefused s payload) e (λ p out. failing sender offers p asked (in_offer p out)) h
 
   module _ (bundle : List PublishedModule) (all : AllPass offers bundle) where
     -- the bundle may be linked to these modules
@@ -164,7 +162,7 @@ module _ (old : List PublishedModule) (payload : List ℕ) (sender : ℕ) (offer
       joined s is = subst (λ (l : List PublishedModule). Links l) (sym is) join
 
       -- there is no room
-      refused_room : (length (with_modules old bundle) ≤ 4096 → ⊥) → IsRefusedBy old payload (Phase 14)
+      refused_room : (length (with_modules old bundle) ≤ 4096 → ⊥) → IsRefusedOver old payload (Phase 14)
       refused_room full s is =
           failing sender offers 14 asked (in_room bundle all (joined s is) (λ room. full (subst (λ (l : List PublishedModule). length (with_modules l bundle) ≤ 4096) is room)))
 
@@ -175,9 +173,9 @@ module _ (old : List PublishedModule) (payload : List ℕ) (sender : ℕ) (offer
           (bundle, (record { sender = sender; offers = offers; asked = asked; published = (all, joined s is, room') }, counted, added))
 
     -- they may not join, or there is no room for them
-    pub kept_out : (e : Refusal) → IsKeptOut (Some sender) old bundle e → IsRefusedBy old payload e
+    pub kept_out : (e : Refusal) → IsKeptOut (Some sender) old bundle e → IsRefusedOver old payload e
     kept_out (Phase p) (inl out) = λ s is.
         subst (λ (k : ℕ). IsRefused s payload k) (sym out.0)
         (failing sender offers 13 asked (in_linking bundle all (λ join. out.1 (subst (λ (l : List PublishedModule). Links l) is join))))
-    kept_out (Phase p) (inr out) = subst (λ (k : ℕ). IsRefusedBy old payload (Phase k)) (sym out.0) (refused_room out.1 out.2)
+    kept_out (Phase p) (inr out) = subst (λ (k : ℕ). IsRefusedOver old payload (Phase k)) (sym out.0) (refused_room out.1 out.2)
     kept_out Memory out = λ s is. tt

@@ -15,8 +15,6 @@ use Rattle.mv_acquires.specs.Acquires.{AcquiresHold}
 use Rattle.mv_certificate_rules.specs.Certificate.{Certificate, all_locals_hold, all_edges_hold, certificate_holds}
 use Rattle.mv_certificate_rules.specs.CertificateText.{IsCertificateText}
 use Rattle.mv_link_rules.specs.Link.{MayJoin, tables_in}
-use Rattle.mv_move_types.specs.declared.refusal.Refusal.{Refusal}
-use Rattle.mv_move_types.specs.declared.refusal.Refusal.TheVariants.{Phase, Memory}
 use Rattle.mv_machine.specs.Ledger.{Offer, LedgerState, modules_of}
 
 -- the bytes spell the module: they are a text of it
@@ -88,11 +86,6 @@ IsLinked sender s bundle = MayJoin (Some sender) (modules_of s) (tables_in bundl
 abbrev pub HasRoom : LedgerState → List PublishedModule → Type 0
 HasRoom s bundle = length (with_modules s.published bundle) ≤ most_modules
 
--- the phase that is answered is the first that the offer fails, or memory ran out
-abbrev pub IsRefusedOffer : Offer → Refusal → Type 0
-IsRefusedOffer o (Phase phase) = FailsAt o phase
-IsRefusedOffer o Memory = ⊤
-
 -- the offers before one pass, and that one fails this phase
 pub record FailsAmong (offers : List Offer) (phase : ℕ) : Type 0 where
   pub before : List Offer
@@ -102,11 +95,6 @@ pub record FailsAmong (offers : List Offer) (phase : ℕ) : Type 0 where
   pub are : offers ≡ before ++ offer ∷ after
   pub passed : AllPass before bundle
   pub fails : FailsAt offer phase
-
--- the phase that is answered is that of the first offer that fails, or memory ran out
-abbrev pub IsRefusedAmong : List Offer → Refusal → Type 0
-IsRefusedAmong offers (Phase phase) = FailsAmong offers phase
-IsRefusedAmong offers Memory = ⊤
 
 -- a bundle is published
 abbrev pub IsPublished : LedgerState → ℕ → List Offer → List PublishedModule → Type 0

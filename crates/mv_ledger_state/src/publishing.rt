@@ -1,6 +1,7 @@
 // Publishing a bundle: its phases in order.
 ghost use Rattle.std.specs.Prelude.{◌≡◌, ℕ, List, Some, IfOk, IfErr, OnOk, OnErr};
 ghost use Rattle.mv_move_types.specs.Published.{PublishedModule};
+ghost use Rattle.mv_move_types.specs.Refusals.{IsRefusedBy};
 ghost use Rattle.mv_binary_format.specs.Parsing.{module_of};
 ghost use Rattle.mv_module_text.specs.Laws.{AreBytes};
 ghost use Rattle.mv_certificate_rules.specs.Certificate.{Certificate};
@@ -10,8 +11,8 @@ ghost use Rattle.mv_link_rules.specs.Link.{IsStore};
 ghost use Rattle.mv_linker.specs.News.{AreTexts, HasItsTexts, published_of};
 ghost use Rattle.mv_ledger_state.specs.Asking.{offer_of, offers_of};
 ghost use Rattle.mv_ledger_state.specs.RecordText.{IsShaped};
-ghost use Rattle.mv_ledger_state.specs.Publishing.{Spells, Passes, AllPass, IsRefusedOffer, IsRefusedAmong};
-ghost use Rattle.mv_ledger_state.specs.Judging.{IsAcceptedBy, IsRefusedBy};
+ghost use Rattle.mv_ledger_state.specs.Publishing.{Spells, Passes, AllPass, FailsAt, FailsAmong};
+ghost use Rattle.mv_ledger_state.specs.Judging.{IsAcceptedBy, IsRefusedOver};
 ghost use Rattle.mv_ledger_state.specs.Tallying.{AddsTallies};
 ghost use Rattle.mv_machine.specs.Tallies.{all_of};
 
@@ -32,7 +33,7 @@ pub fn are_bytes(bytes: &[u8])
 fn typed<'a>(alloc: Global, text: &'a [u8]) -> Result<Typed<'a>, Refusal>
     ensures read { IfOk result (λ m. module_of text.entry.now ≡ Some m) }
     ensures text { IfOk result (λ m. Spells text.entry.now m) }
-    ensures refused { (certificate : List ℕ) → IfErr result (IsRefusedOffer (record { text = text.entry.now; certificate = certificate })) }
+    ensures refused { (certificate : List ℕ) → IfErr result (IsRefusedBy (FailsAt (record { text = text.entry.now; certificate = certificate }))) }
 {
     // For the prover: bytes spell one module alone.
     mv_binary_format::modules_are_read_by_text();
@@ -53,7 +54,7 @@ fn certified<'a>(
     ensures same { IfOk result (λ m. m ≡ typed.entry) }
     ensures certified { IfOk result (λ m. IsCertifiedBy m certificate.now) }
     ensures passes { (text : List ℕ) → Spells text typed.entry → IfOk result (λ m. (c : Certificate) × Passes (record { text = text; certificate = certificate.now }) m c) }
-    ensures refused { (text : List ℕ) → AreBytes text → Spells text typed.entry → IfErr result (IsRefusedOffer (record { text = text; certificate = certificate.now })) }
+    ensures refused { (text : List ℕ) → AreBytes text → Spells text typed.entry → IfErr result (IsRefusedBy (FailsAt (record { text = text; certificate = certificate.now }))) }
 {
     // For the prover: bytes spell one module alone.
     mv_binary_format::modules_are_read_by_text();
@@ -76,7 +77,7 @@ pub fn verified<'a>(alloc: Global, offer: &Offered<'a>) -> Result<New<'a>, Refus
     ensures certificate { IfOk result (λ n. n.certificate.now ≡ offer.now.certificate.now) }
     ensures passes { IfOk result (λ n. (c : Certificate) × Passes (offer_of offer.now) n.module c) }
     ensures texts { IfOk result HasItsTexts }
-    ensures refused { IfErr result (IsRefusedOffer (offer_of offer.now)) }
+    ensures refused { IfErr result (IsRefusedBy (FailsAt (offer_of offer.now))) }
 {
     // For the prover: what is offered is bytes.
     are_bytes(offer.text);
@@ -97,7 +98,7 @@ pub fn verified<'a>(alloc: Global, offer: &Offered<'a>) -> Result<New<'a>, Refus
 pub fn all_verified<'a>(alloc: Global, offers: &[Offered<'a>]) -> Result<Vec<New<'a>>, Refusal>
     ensures passed { IfOk result (λ v. AllPass (offers_of offers.now) (published_of v.items)) }
     ensures texts { IfOk result (λ v. AreTexts v.items) }
-    ensures refused { IfErr result (IsRefusedAmong (offers_of offers.now)) }
+    ensures refused { IfErr result (IsRefusedBy (FailsAmong (offers_of offers.now))) }
 {
     let mut all = Vec::with_capacity(alloc, offers.len())?;
     'each: for offer in offers {
@@ -113,7 +114,7 @@ pub fn all_verified<'a>(alloc: Global, offers: &[Offered<'a>]) -> Result<Vec<New
 /// `Phase(1)`, where the payload is none of a publish record; `Memory`, where a growth was refused.
 fn asked_bundle<'a>(alloc: Global, payload: &'a [u8]) -> Result<Bundle<'a>, Refusal>
     ensures asked { IfOk result (λ b. IsShaped 1 payload.entry.now (Publish b.sender (offers_of b.offers.items))) }
-    ensures refused { (modules : List PublishedModule) → IfErr result (IsRefusedBy modules payload.entry.now) }
+    ensures refused { (modules : List PublishedModule) → IfErr result (IsRefusedOver modules payload.entry.now) }
 {
     match read_bundle(alloc, payload) {
         Ok(bundle) => Ok(bundle),
@@ -136,7 +137,7 @@ impl Published {
         ensures whole { OnOk result (IsStore self.new.modules) }
         ensures marks { self.new.marks ≡ self.old.marks }
         ensures kept { OnErr result (self.new ≡ self.old) }
-        ensures refused { IfErr result (IsRefusedBy self.old.modules payload.now) }
+        ensures refused { IfErr result (IsRefusedOver self.old.modules payload.now) }
     {
         let bundle = asked_bundle(alloc, payload)?;
         let news = all_verified(alloc, &bundle.offers)?;

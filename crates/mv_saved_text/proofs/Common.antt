@@ -103,7 +103,7 @@ pub use Rattle.mv_saved_text.proofs.Loads.Bodies.{EachBodyIsRead, EachReadIsBody
 pub use Rattle.mv_saved_text.specs.Parts.Saving.{AddsValue, AreSections, HasOneMore, IsAdded, IsEmpty, IsSection, IsWritable, KnowsKinds, counts_text, definition_at, section_at, sections_of}
 pub use Rattle.mv_saved_text.specs.Parts.Saving.{stored_in, written}
 pub use Rattle.mv_ledger_state.specs.Payloads.{leaf_from, offer_from}
-pub use Rattle.mv_ledger_state.specs.Publishing.{AllPass, FailsAmong, IsRefusedAmong, IsRefusedOffer, Passes, Spells, offered}
+pub use Rattle.mv_ledger_state.specs.Publishing.{AllPass, FailsAmong, FailsAt, Passes, Spells, offered}
 pub use Rattle.mv_ledger_state.specs.RecordText.{leaf_bytes, offer_fits, offer_text, sized}
 pub use Rattle.mv_saved_text.specs.SavedLaws.{EachLedgerHasOneText, EachLoadIsOne, EachLoadIsSaved, EachLoadIsSound, EachSaveIsLoaded, EachSecondFormComesBack, EachTextHasOneLedger}
 pub use Rattle.mv_saved_text.specs.SavedLaws.{IsSavable, NoLoadFails}

@@ -5,9 +5,8 @@ pub use Rattle.std.proofs.lemmas.List.{length-map, length-reverse, map-append, r
 pub use Rattle.std.proofs.lemmas.Option.{MatchOption-at_some, get_or_from_slice_get, same_Some, slice_get-get_or, slice_get_read, slice_get_within}
 pub use Rattle.std.specs.List.{slice_range}
 pub use Rattle.mv_move_types.specs.Module.{FunctionDefinition, Module}
-pub use Rattle.mv_move_types.specs.Refusals.{IsRefusedIn}
+pub use Rattle.mv_move_types.specs.Refusals.{IsRefusedBy, IsRefusedIn}
 pub use Rattle.mv_move_types.specs.declared.refusal.Refusal.{Refusal}
-pub use Rattle.mv_move_types.specs.declared.refusal.Refusal.TheVariants.{Memory, Phase}
 pub use Rattle.mv_move_types.specs.declared.token.Token.{Token}
 pub use Rattle.mv_cfg.specs.declared.Cfg.{Cfg}
 pub use Rattle.mv_type_rules.specs.Graphs.{AreGraphs}

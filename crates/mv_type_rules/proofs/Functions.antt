@@ -1,17 +1,15 @@
 -- All functions of a module, one after another, and the phases.
 use Rattle.mv_type_rules.proofs.Common.{[], ℕ, ◌++◌, ◌+◌, ◌<◌, ◌∙◌, ◌∷◌, ◌≡◌, Bool, IfSome, IsTrue, List, None, Option, Some, ap, arith, get_or, length, length-append, map, refl, slice_get}
 use Rattle.mv_type_rules.proofs.Common.{subst, suc, sym, take, length-map, map-append, take_more, MatchOption-at_some, get_or_from_slice_get, same_Some, slice_get-get_or}
-use Rattle.mv_type_rules.proofs.Common.{slice_get_read, slice_get_within, FunctionDefinition, Module, IsRefusedIn, Refusal, Memory, Phase, Cfg, AreGraphs, types_before, Types}
+use Rattle.mv_type_rules.proofs.Common.{slice_get_read, slice_get_within, FunctionDefinition, Module, IsRefusedBy, IsRefusedIn, Refusal, Cfg, AreGraphs, types_before, Types}
 use Rattle.mv_type_rules.proofs.Common.{function_is_typed}
 use Rattle.std.proofs.Common.{option_map, ◌⊎◌, ⊎_elim}
 use Rattle.std.specs.List.{list_all}
 use Rattle.std.proofs.lemmas.Option.{slice_get-map}
-use Rattle.mv_signatures.specs.Signatures.{WellSigned}
-use Rattle.mv_abilities.specs.Abilities.{AbilitiesHold}
+use Rattle.mv_move_types.proofs.Refusals.{refused-weaker, refused-wider}
 use Rattle.mv_cfg.specs.Blocks.{ends_well, FlowHolds}
 use Rattle.mv_cfg.specs.FlowGraph.{IsFlowGraph}
 use Rattle.mv_type_rules.specs.TypesHold.{TypesHold}
-use Rattle.mv_type_rules.specs.Sound.{FailsTypes, ill_signed, unable, endless, ill_typed, IsRefusedByTypes}
 use Rattle.mv_bound_rules.proofs.Entries.{last_or_before, all_at, element_at}
 
 -- what holds of each holds of all
@@ -19,10 +17,9 @@ pub list_all-each : {A : Type 0} (p : A → Bool) (xs : List A) → ((i : ℕ) (
 list_all-each p [] each = refl
 list_all-each p (x ∷ xs) each = rw (each 0 x refl) (list_all-each p xs (λ i y h. each (suc i) y h))
 
--- what is refused for a part is refused for the whole
-pub refused-wider : (phase : ℕ) (part whole : Type 0) (e : Refusal) → (whole → part) → IsRefusedIn phase part e → IsRefusedIn phase whole e
-refused-wider phase part whole (Phase p) narrow r = (r.0, λ h. r.1 (narrow h))
-refused-wider phase part whole Memory narrow r = tt
+-- a refusal in a phase, told as a failure of that phase
+pub refused-as : (phase : ℕ) (rules : Type 0) (Fails : ℕ → Type 0) (e : Refusal) → ((rules → ⊥) → Fails phase) → IsRefusedIn phase rules e → IsRefusedBy Fails e
+refused-as phase rules Fails e so = refused-weaker (λ p. (p ≡ phase) × (rules → ⊥)) Fails e (λ p r. subst Fails (sym r.0) (so r.1))
 
 pub AreGraphs-push : (fs : List FunctionDefinition) (n : ℕ) (gs : List Cfg) (g : Cfg) → AreGraphs fs n gs → n < length fs → IfSome (slice_get fs n) (λ d. IsFlowGraph d.code g)
     → AreGraphs fs (n + 1) (gs ++ g ∷ [])
@@ -110,20 +107,3 @@ listed_at v h fs f x xs is below at =
     let here : Some (v x) ≡ Some (h d.0) =
     ap (λ t. Some (v t)) at ∙ sym (ap (option_map v) (slice_get-get_or xs f x within)) ∙ sym (slice_get-map v xs f) ∙ ap (λ l. slice_get l f) is ∙ slice_get-map h fs f ∙ ap (option_map h) d.1 in
     rw d.1 (same_Some (v x) (h d.0) here)
-
--- a module refused by the first phase that it fails
-pub fails_signatures : (m : Module) (e : Refusal) → IsRefusedIn 5 (WellSigned m) e → IsRefusedByTypes m e
-fails_signatures m (Phase p) r = subst (λ (n : ℕ). FailsTypes m n) (sym r.0) (ill_signed r.1)
-fails_signatures m Memory r = tt
-
-pub fails_abilities : (m : Module) (e : Refusal) → WellSigned m → IsRefusedIn 6 (AbilitiesHold m) e → IsRefusedByTypes m e
-fails_abilities m (Phase p) signed r = subst (λ (n : ℕ). FailsTypes m n) (sym r.0) (unable signed r.1)
-fails_abilities m Memory signed r = tt
-
-pub fails_flow : (m : Module) (e : Refusal) → WellSigned m → AbilitiesHold m → IsRefusedIn 7 (FlowHolds m) e → IsRefusedByTypes m e
-fails_flow m (Phase p) signed able r = subst (λ (n : ℕ). FailsTypes m n) (sym r.0) (endless signed able r.1)
-fails_flow m Memory signed able r = tt
-
-pub fails_types : (m : Module) (e : Refusal) → WellSigned m → AbilitiesHold m → FlowHolds m → IsRefusedIn 8 (TypesHold m) e → IsRefusedByTypes m e
-fails_types m (Phase p) signed able flow r = subst (λ (n : ℕ). FailsTypes m n) (sym r.0) (ill_typed signed able flow r.1)
-fails_types m Memory signed able flow r = tt

@@ -1,9 +1,7 @@
 -- What a module alone has to be, and the types at each instruction.
-use Rattle.std.specs.Prelude.{ℕ, ◌+◌, List, [], ◌∷◌, flat_map, ⊤, slice_range}
+use Rattle.std.specs.Prelude.{ℕ, ◌+◌, List, [], ◌∷◌, flat_map, slice_range}
 use Rattle.std.specs.Option.{option_map_or}
 use Rattle.mv_move_types.specs.declared.instruction.Instruction.{Instruction}
-use Rattle.mv_move_types.specs.declared.refusal.Refusal.{Refusal}
-use Rattle.mv_move_types.specs.declared.refusal.Refusal.TheVariants.{Phase, Memory}
 use Rattle.mv_move_types.specs.Module.{Module, FunctionDefinition}
 use Rattle.mv_bound_rules.specs.Bounds.{InBounds}
 use Rattle.mv_bound_rules.specs.Definitions.{WellDefined}
@@ -28,11 +26,6 @@ pub data FailsTypes (m : Module) : ℕ → Type 0 where
   unable : WellSigned m → (AbilitiesHold m → ⊥) → FailsTypes m 6
   endless : WellSigned m → AbilitiesHold m → (FlowHolds m → ⊥) → FailsTypes m 7
   ill_typed : WellSigned m → AbilitiesHold m → FlowHolds m → (TypesHold m → ⊥) → FailsTypes m 8
-
--- the module fails the phase that is answered, or memory ran out
-abbrev pub IsRefusedByTypes : Module → Refusal → Type 0
-IsRefusedByTypes m (Phase p) = FailsTypes m p
-IsRefusedByTypes m Memory = ⊤
 
 -- the types before each of these instructions
 abbrev pub types_each : Module → FunctionDefinition → List Instruction → Types → List Types

@@ -17,13 +17,13 @@
 #![tactic(auto)]
 
 ghost use Rattle.std.specs.Prelude.{◌≡◌, ◌<◌, length, map, IfOk, IfErr, OnOk};
-ghost use Rattle.mv_move_types.specs.Refusals.{IsRefusedIn};
+ghost use Rattle.mv_move_types.specs.Refusals.{IsRefusedBy, IsRefusedIn};
 ghost use Rattle.mv_cfg.specs.Blocks.{FlowHolds};
 ghost use Rattle.mv_signatures.specs.Signatures.{WellSigned};
 ghost use Rattle.mv_abilities.specs.Abilities.{AbilitiesHold};
 ghost use Rattle.mv_type_rules.specs.TypesHold.{TypesHold};
 ghost use Rattle.mv_type_rules.specs.Graphs.{AreGraphs};
-ghost use Rattle.mv_type_rules.specs.Sound.{IsRefusedByTypes, types_before};
+ghost use Rattle.mv_type_rules.specs.Sound.{FailsTypes, types_before};
 
 mod passes;
 mod rules;
@@ -80,7 +80,7 @@ fn check_functions(
 /// `Phase` with the first of these that the module fails; `Memory`, if an allocation failed.
 pub fn check<'a>(alloc: Global, m: Bounded<'a>) -> Result<Typed<'a>, Refusal>
     ensures ok { IfOk result (λ t. t ≡ m.entry) }
-    ensures refused { IfErr result (IsRefusedByTypes m.entry) }
+    ensures refused { IfErr result (IsRefusedBy (FailsTypes m.entry)) }
 {
     let (graphs, stacks) = try_phases(alloc, &m)?;
     Ok(Typed::new(m, graphs, stacks))
@@ -93,7 +93,7 @@ fn try_phases(alloc: Global, m: &Bounded<'_>) -> Result<(Vec<Cfg>, Vec<StackType
     ensures types { OnOk result (TypesHold m.now) }
     ensures graphs { IfOk result (λ found. AreGraphs m.now.functions (length m.now.functions) found.0.items) }
     ensures stacks { IfOk result (λ found. found.1.items ≡ map (types_before m.now) m.now.functions) }
-    ensures refused { IfErr result (IsRefusedByTypes m.now) }
+    ensures refused { IfErr result (IsRefusedBy (FailsTypes m.now)) }
 {
     mv_signatures::check(m)?;
     mv_abilities::check(m)?;

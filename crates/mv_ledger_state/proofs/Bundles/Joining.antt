@@ -2,7 +2,7 @@
 use Rattle.mv_ledger_state.proofs.Common.{[], ◌*◌, ◌+◌, ◌<◌, ◌∙◌, ◌∷◌, ◌≡◌, ◌≤◌, Bool, List, Option, Some, ap, ap₂, arith, cond, cond_both, false, get_or, leb-true, length, subst, suc, sym, true, ℕ, ltb-false, ltb-true}
 use Rattle.mv_ledger_state.proofs.Common.{map, All, All-head, All-map, All-tail, count_by, find, nat_le, nat_lt, unwrap_or, Module, StructName, same_struct, PublishedModule, with_modules, Offer, Publish, Tallied, IsStore, tables_in}
 use Rattle.mv_ledger_state.proofs.Common.{refl, scarce_structs, tally_of, untouched_tally, IsShaped, AddsTallies, ArePlacedFor, AreWithin, MayFollow, is_published, with_placed, ArePlaced, AreScarce}
-use Rattle.mv_ledger_state.proofs.Common.{IsKeptOut, IsRefusedIn, IsSmall, IsTalliedStore, Refusal, Memory, Phase, all_of, inl, tallied, Placed, Tally}
+use Rattle.mv_ledger_state.proofs.Common.{IsSmall, IsTalliedStore, all_of, tallied, Placed, Tally}
 use Rattle.mv_ledger_state.proofs.Bundles.Places.{AreSpotted, EachIs, had-at, all-spotted, count-joined, each-first, each-joined, spotted-within, had-found}
 use Rattle.mv_ledger_state.proofs.Bundles.Places.{had}
 use Rattle.mv_ledger_state.proofs.Bundles.Heirs.{inherited}
@@ -28,11 +28,6 @@ pub record IsPlacedBundle (old bundle : List PublishedModule) (tss : List (List 
   pub whole : IsStore (with_modules old bundle)
   pub join : MayFollow sender old bundle
   pub at : ArePlacedFor (tables_in old) tss (length old) (tables_in bundle) placed
-
--- modules that may not be linked may not join
-pub unlinked : (sender : Option ℕ) (old bundle : List PublishedModule) (e : Refusal) → IsRefusedIn 13 (MayFollow sender old bundle) e → IsKeptOut sender old bundle e
-unlinked sender old bundle (Phase p) refused = inl refused
-unlinked sender old bundle Memory refused = tt
 
 module _ (old bundle : List PublishedModule) (tss : List (List Tally)) (placed : List Placed) (sender : Option ℕ) (b : IsPlacedBundle old bundle tss placed sender) where
   spots : AreSpotted (had tss) old bundle placed

@@ -1,7 +1,8 @@
 -- Offers are verified one after the other.
 use Rattle.mv_ledger_state.proofs.Common.{[], ◌++◌, ◌+◌, ◌<◌, ◌∙◌, ◌∷◌, ◌≡◌, ◌≤◌, List, ap, drop, get_or, length, refl, subst, suc, sym, take, ℕ, drop_more, map-append, map_more, take-append-drop}
-use Rattle.mv_ledger_state.proofs.Common.{take_all, All-append, All-cons, All-nil, PublishedModule, Refusal, Memory, Phase, Offer, Certificate, AreTexts, HasItsTexts, published_of, published_one, New}
-use Rattle.mv_ledger_state.proofs.Common.{offer_of, offers_of, AllPass, IsRefusedAmong, IsRefusedOffer, Passes, Offered}
+use Rattle.mv_ledger_state.proofs.Common.{take_all, All-append, All-cons, All-nil, PublishedModule, Refusal, Offer, Certificate, AreTexts, HasItsTexts, published_of, published_one, New}
+use Rattle.mv_ledger_state.proofs.Common.{offer_of, offers_of, AllPass, FailsAmong, FailsAt, IsRefusedBy, Passes, Offered}
+use Rattle.mv_move_types.proofs.Refusals.{refused-weaker}
 
 -- one more that passes
 pub pass-more : (os : List Offer) (ps : List PublishedModule) (o : Offer) (p : PublishedModule) → AllPass os ps → p.text ≡ o.text → p.certificate ≡ o.certificate → (c : Certificate) × Passes o p.tables c
@@ -42,9 +43,8 @@ verified-all offers i news h past = subst (λ (xs : List Offered). AllPass (offe
 
 -- those before one pass, and that one fails
 pub stopped-at : (offers : List Offered) (i : ℕ) (ps : List PublishedModule) (d : Offered) (e : Refusal) → AllPass (offers_of (take i offers)) ps → i < length offers
-    → IsRefusedOffer (offer_of (get_or offers i d)) e → IsRefusedAmong (offers_of offers) e
-stopped-at offers i ps d Memory passed lt refused = tt
-stopped-at offers i ps d (Phase p) passed lt refused = record {
+    → IsRefusedBy (FailsAt (offer_of (get_or offers i d))) e → IsRefusedBy (FailsAmong (offers_of offers)) e
+stopped-at offers i ps d e passed lt = refused-weaker (FailsAt (offer_of (get_or offers i d))) (FailsAmong (offers_of offers)) e (λ p out. record {
   before = offers_of (take i offers);
   offer = offer_of (get_or offers i d);
   after = offers_of (drop (i + 1) offers);
@@ -53,10 +53,10 @@ stopped-at offers i ps d (Phase p) passed lt refused = record {
       ap offers_of (sym (take-append-drop i offers) ∙ ap (λ (xs : List Offered). take i offers ++ xs) (drop_more offers i d lt))
       ∙ map-append offer_of (take i offers) (get_or offers i d ∷ drop (i + 1) offers);
   passed = passed;
-  fails = refused;
-}
+  fails = out;
+})
 
 -- the next one fails
-pub verifying-fails : (offers : List Offered) (i : ℕ) (news : List New) (d : Offered) (e : Refusal) → IsVerifying offers i news → i < length offers → IsRefusedOffer (offer_of (get_or offers i d)) e
-    → IsRefusedAmong (offers_of offers) e
+pub verifying-fails : (offers : List Offered) (i : ℕ) (news : List New) (d : Offered) (e : Refusal) → IsVerifying offers i news → i < length offers
+    → IsRefusedBy (FailsAt (offer_of (get_or offers i d))) e → IsRefusedBy (FailsAmong (offers_of offers)) e
 verifying-fails offers i news d e h lt refused = stopped-at offers i (published_of news) d e h.passed lt refused

@@ -1,7 +1,8 @@
 -- Modules of a saved ledger that are published: where none is there they keep their order, and otherwise they are not linked.
 use Rattle.mv_saved_text.proofs.Common.{[], ◌++◌, ◌∙◌, ◌∷◌, ◌≡◌, ◌≤◌, Bool, IsTrue, List, None, ap, append-nil, append_assoc, arith, cond, false, inl, inr, length, refl, subst, sym, and_parts}
 use Rattle.mv_saved_text.proofs.Common.{list_any, not, Module, PublishedModule, with_module, with_modules, Refusal, Memory, Phase, all_differ, Offer, tables_in, Links, AreLinked, AreNotJoined}
-use Rattle.mv_saved_text.proofs.Common.{IsKeptOut, MayFollow, reason_of, AllPass, IsRefusedAmong, NoLink, NoModule}
+use Rattle.mv_saved_text.proofs.Common.{IsKeptOut, MayFollow, reason_of, AllPass, FailsAmong, NoLink, NoModule}
+use Rattle.mv_move_types.specs.Refusals.{IsRefusedBy}
 use Rattle.mv_link_rules.specs.Link.{have_one_name}
 use Rattle.mv_ledger_state.proofs.Bundles.Places.{one_name-turns}
 
@@ -40,7 +41,7 @@ all-there ps join = all-last [] ps join.once
 
 -- ---- why modules do not join
 
-pub not-passed : (offers : List Offer) (e : Refusal) → IsRefusedAmong offers e → AreNotJoined offers (reason_of NoModule e)
+pub not-passed : (offers : List Offer) (e : Refusal) → IsRefusedBy (FailsAmong offers) e → AreNotJoined offers (reason_of NoModule e)
 not-passed offers (Phase phase) refused = (phase, refused)
 not-passed offers Memory refused = tt
 

@@ -1,7 +1,8 @@
 -- Offered modules that are published one by one: that they pass, and that the published ones are those.
 use Rattle.mv_saved_text.proofs.Common.{[], ◌++◌, ◌+◌, ◌<◌, ◌∙◌, ◌∷◌, ◌≡◌, ◌≤◌, ◌⊎◌, Bool, List, Option, Some, None, true, ap, ap₂, arith, get_or, inl, inr, length, refl, subst, sym, take, ℕ, map_more, take_more}
 use Rattle.mv_saved_text.proofs.Common.{IfSome, slice_get, All-at, bytes_eq, PublishedModule, Offer, AreBytes, IsReadByText, IsPublishable, IsStore, offer_of, offers_of, offered, AllPass}
-use Rattle.mv_saved_text.proofs.Common.{IsOffered, IsPassed, Passes, IsRefusedAmong, IsRefusedOffer, Refusal, Offered}
+use Rattle.mv_saved_text.proofs.Common.{IsOffered, IsPassed, Passes, FailsAmong, FailsAt, Refusal, Offered}
+use Rattle.mv_move_types.specs.Refusals.{IsRefusedBy}
 use Rattle.std.proofs.lemmas.Option.{slice_get_cases}
 use Rattle.std.proofs.lemmas.Slice.Eq.{bytes_eq-Decides}
 use Rattle.mv_ledger_state.proofs.Bundles.Verifying.{pass-more, stopped-at}
@@ -23,8 +24,8 @@ passed-more offers i d had lt one = (
       (pass-more (offers_of (take i offers)) had.0 (offer_of (get_or offers i d)) one.0 had.1 one.1.0 one.1.1 one.1.2),
 )
 
-pub passed-stops : (offers : List Offered) (i : ℕ) (d : Offered) (e : Refusal) → HavePassed offers i → i < length offers → IsRefusedOffer (offer_of (get_or offers i d)) e
-    → IsRefusedAmong (offers_of offers) e
+pub passed-stops : (offers : List Offered) (i : ℕ) (d : Offered) (e : Refusal) → HavePassed offers i → i < length offers → IsRefusedBy (FailsAt (offer_of (get_or offers i d))) e
+    → IsRefusedBy (FailsAmong (offers_of offers)) e
 passed-stops offers i d e had lt refused = stopped-at offers i had.0 d e had.1 lt refused
 
 -- ---- published modules are those that were offered

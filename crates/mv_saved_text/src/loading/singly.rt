@@ -4,10 +4,11 @@
 ghost use Rattle.std.specs.Prelude.{◌≡◌, ◌<◌, ◌≤◌, [], true, length, slice_get, IfOk, IfErr, IfSome, OnOk};
 ghost use Rattle.std.specs.Str.{bytes_eq};
 ghost use Rattle.mv_move_types.specs.Limits.{most_modules};
+ghost use Rattle.mv_move_types.specs.Refusals.{IsRefusedBy};
 ghost use Rattle.mv_linker.specs.News.{AreTexts, HasItsTexts};
 ghost use Rattle.mv_ledger_state.specs.Asking.{offer_of, offers_of};
 ghost use Rattle.mv_saved_text.specs.Parts.LoadedParts.{AreNotJoined, IsOffered, IsPassed};
-ghost use Rattle.mv_ledger_state.specs.Publishing.{AllPass, IsRefusedAmong, IsRefusedOffer};
+ghost use Rattle.mv_ledger_state.specs.Publishing.{AllPass, FailsAmong, FailsAt};
 
 use crate::loading::order::order;
 use crate::loading::stubs::{Stub, Stubs};
@@ -144,7 +145,7 @@ fn publish_next(
     stubs: &mut Stubs,
 ) -> Result<bool, Refusal>
     ensures passed { OnOk result (IsPassed (offer_of offer.now)) }
-    ensures refused { IfErr result (IsRefusedOffer (offer_of offer.now)) }
+    ensures refused { IfErr result (IsRefusedBy (FailsAt (offer_of offer.now))) }
     ensures marks { published.new.marks ≡ published.old.marks }
 {
     let new = verified(alloc, offer)?;
@@ -171,7 +172,7 @@ fn publish_each(
     offers: &[Offered<'_>],
     stubs: &mut Stubs,
 ) -> Result<bool, Refusal>
-    ensures refused { IfErr result (IsRefusedAmong (offers_of offers.now)) }
+    ensures refused { IfErr result (IsRefusedBy (FailsAmong (offers_of offers.now))) }
     ensures marks { published.new.marks ≡ published.old.marks }
 {
     'each: for offer in offers {

@@ -2,10 +2,13 @@ use Rattle.std.proofs.Common.{List, Option, sym, subst, ⊎_elim}
 use Rattle.mv_lattice.specs.Search.{EndsWith, MeetsNeed, MeetsLimit}
 use Rattle.mv_edges.specs.Edges.{Edge}
 use Rattle.mv_certificate.proofs.States.{graph-at}
+use Rattle.mv_certificate_rules.specs.Certificate.{Stated}
 use Rattle.mv_certificate.specs.Functions.{EdgesHoldAt}
+use Rattle.mv_certificate.specs.Reads.{FitsAt}
+use Rattle.mv_analyser.specs.Principal.{FailsEdges, MeetsLimitAt}
 use Rattle.mv_analyser.specs.States.{EndsEdges, IsErrorAt, IsComplexAt}
 use Rattle.mv_analyser.proofs.Chains.{never_large, never_rises}
-use Rattle.mv_analyser.proofs.LeastLocals.{edges_error, search_error}
+use Rattle.mv_analyser.proofs.LeastLocals.{search_error}
 use Rattle.mv_analyser.proofs.LeastEdges.{graph_is, plain_locals, edges_fit, locals_stay, locals_stay_least, edges_are_least, edges_hold_there, no_edges_hold, edges_end}
 use Rattle.mv_analyser.proofs.borrows.state_edges.Goals as goal
 
@@ -69,7 +72,7 @@ returns-in-Ok-clause-least_edges c =
 pub returns-clause-refused : goal.returns-clause-refused
 returns-clause-refused c =
     subst (IsErrorAt c.args.m.now c.args.f 11 (EdgesHoldAt c.args.m.now c.args.f) (IsComplexAt c.args.m.now c.args.f)) (sym c.error_in.ensures)
-    (search_error c.args.m.now c.args.f 11 (EdgesHoldAt c.args.m.now c.args.f) (IsComplexAt c.args.m.now c.args.f) c.in-Err.e
+    (search_error 11 ((stated : Stated) → FitsAt c.args.m.now c.args.f stated → EdgesHoldAt c.args.m.now c.args.f stated → ⊥) (IsComplexAt c.args.m.now c.args.f) c.in-Err.e
     (λ h stated fits holds.
     no_edges_hold c.args.m.now c.of_function-domain.result.home c.args.f c.function_at-function.result.now c.of_function-domain.result.function c.graph_of-graph.result.now
     c.of_function-domain.ensures.home c.function_at-function.ensures.at c.of_function-domain.ensures.function c.graph_of-graph.ensures c.function_at-function.ensures.typed
@@ -93,7 +96,7 @@ returns-in-Ok-clause-found c =
 pub returns-clause-ends : goal.returns-clause-ends
 returns-clause-ends c =
     subst (EndsEdges c.args.m.now c.args.f) (sym c.error_in.ensures)
-    (edges_error c.args.m.now c.args.f c.in-Err.e
+    (search_error 11 (FailsEdges c.args.m.now c.args.f) (MeetsLimitAt c.args.m.now c.args.f) c.in-Err.e
     (λ h.
     edges_end c.args.m.now c.of_function-domain.result.home c.args.f c.function_at-function.result.now c.of_function-domain.result.function c.graph_of-graph.result.now
     c.of_function-domain.ensures.home c.function_at-function.ensures.at c.of_function-domain.ensures.function c.graph_of-graph.ensures c.function_at-function.ensures.typed

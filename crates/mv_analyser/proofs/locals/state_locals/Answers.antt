@@ -1,11 +1,14 @@
 use Rattle.std.proofs.Common.{List, Option, sym, subst, ⊎_elim}
 use Rattle.mv_move_types.specs.declared.borrow.Availability.{Availability}
 use Rattle.mv_lattice.specs.Search.{EndsWith, MeetsNeed}
+use Rattle.mv_certificate_rules.specs.Certificate.{Stated}
 use Rattle.mv_certificate.specs.Functions.{LocalsHoldAt}
+use Rattle.mv_certificate.specs.Reads.{FitsAt}
 use Rattle.mv_certificate.proofs.States.{graph-at}
+use Rattle.mv_analyser.specs.Principal.{FailsLocals}
 use Rattle.mv_analyser.specs.States.{EndsLocals, IsErrorAt}
 use Rattle.mv_analyser.proofs.Chains.{few_rises}
-use Rattle.mv_analyser.proofs.LeastLocals.{least_fits, least_holds, least_of_all, none_holds, few_locals, locals_end, locals_error, search_error}
+use Rattle.mv_analyser.proofs.LeastLocals.{least_fits, least_holds, least_of_all, none_holds, few_locals, locals_end, search_error}
 use Rattle.mv_analyser.proofs.locals.state_locals.Goals as goal
 
 pub solve-requires-clause-graph : goal.solve-requires-clause-graph
@@ -39,7 +42,7 @@ returns-in-Ok-clause-least c =
 pub returns-clause-refused : goal.returns-clause-refused
 returns-clause-refused c =
     subst (IsErrorAt c.args.m.now c.args.f 10 (LocalsHoldAt c.args.m.now c.args.f) ⊥) (sym c.error_in.ensures)
-    (search_error c.args.m.now c.args.f 10 (LocalsHoldAt c.args.m.now c.args.f) ⊥ c.in-Err.e
+    (search_error 10 ((stated : Stated) → FitsAt c.args.m.now c.args.f stated → LocalsHoldAt c.args.m.now c.args.f stated → ⊥) ⊥ c.in-Err.e
     (λ h stated fits holds.
     none_holds c.args.m.now c.in_ok-domain.domain.home c.args.f c.function_at-function.result.now c.in_ok-domain.domain.function c.graph_of-graph.result.now
     c.in_ok-domain.ensures.home c.function_at-function.ensures.at c.in_ok-domain.ensures.function c.graph_of-graph.ensures c.function_at-function.ensures.typed c.in_ok-start.start c.in_ok-start.ensures.start
@@ -58,7 +61,7 @@ returns-in-Ok-clause-found c =
 pub returns-clause-ends : goal.returns-clause-ends
 returns-clause-ends c =
     subst (EndsLocals c.args.m.now c.args.f) (sym c.error_in.ensures)
-    (locals_error c.args.m.now c.args.f c.in-Err.e
+    (search_error 10 (FailsLocals c.args.m.now c.args.f) ⊥ c.in-Err.e
     (λ h.
     locals_end c.args.m.now c.in_ok-domain.domain.home c.args.f c.function_at-function.result.now c.in_ok-domain.domain.function c.graph_of-graph.result.now
     c.in_ok-domain.ensures.home c.function_at-function.ensures.at c.in_ok-domain.ensures.function c.graph_of-graph.ensures c.function_at-function.ensures.typed c.in_ok-start.start c.in_ok-start.ensures.start

@@ -1,6 +1,10 @@
-use Rattle.mv_certificate.proofs.Common.{IfErr-weaker}
-use Rattle.mv_certificate.proofs.Refusals.{acquires-refused}
+use Rattle.mv_certificate.proofs.Common.{IfErr-weaker, subst}
+use Rattle.mv_acquires.specs.Acquires.{AcquiresHold}
+use Rattle.mv_certificate.specs.Answers.{bad_acquires}
+use Rattle.mv_type_rules.proofs.Functions.{refused-as}
 use Rattle.mv_certificate.proofs.checking.check_acquires.Goals as goal
 
 pub returns-clause-refused : goal.returns-clause-refused
-returns-clause-refused c = IfErr-weaker c.check.result _ _ (acquires-refused c.args.m.now c.bounded.result.now c.bounded.ensures.value) c.check.ensures.refused
+returns-clause-refused c =
+    let out : (AcquiresHold c.bounded.result.now → ⊥) → AcquiresHold c.args.m.now → ⊥ = subst (λ m. AcquiresHold m → ⊥) c.bounded.ensures.value in
+    IfErr-weaker c.check.result _ _ (λ e r d held. refused-as _ _ _ e (λ no. bad_acquires held (out no)) r) c.check.ensures.refused

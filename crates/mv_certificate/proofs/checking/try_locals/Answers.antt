@@ -2,7 +2,7 @@ use Rattle.mv_certificate.proofs.Common.{below_more, ◌∙◌, IsTrue, arith, r
 use Rattle.mv_certificate.proofs.States.{fit-length}
 use Rattle.mv_certificate.proofs.Holds.{each-passes, passes-each}
 use Rattle.mv_certificate.proofs.checking.try_locals.Goals as goal
-use Rattle.mv_type_rules.proofs.Functions.{refused-wider}
+use Rattle.mv_move_types.proofs.Refusals.{refused-wider}
 
 pub loop-f-preserved : goal.loop-f-preserved
 loop-f-preserved c =

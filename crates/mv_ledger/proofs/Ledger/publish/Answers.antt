@@ -1,4 +1,4 @@
-use Rattle.mv_ledger.proofs.Common.{List, refl, sym, ap, subst, Refusal, Replies, told, IsRefusedBy, LedgerView, PublishedView, all_of, view_of}
+use Rattle.mv_ledger.proofs.Common.{List, refl, sym, ap, subst, Refusal, Replies, told, IsRefusedOver, LedgerView, PublishedView, all_of, view_of}
 use Rattle.mv_ledger_state.specs.View.{HeldView}
 use Rattle.mv_ledger.specs.Marks.{held_marks, marked}
 use Rattle.mv_ledger.proofs.Ledgers.{ledger-published}
@@ -41,7 +41,7 @@ returns c =
           rw w.result-is
           (refused_replies old.modules new.modules payload stored (all_of old.tallies) (all_of new.tallies) runs w.in-Err-Phase.phase
           (ap (λ (v : PublishedView). v.modules) w.in-Err-Phase.ensures.kept) (ap (λ (v : PublishedView). all_of v.tallies) w.in-Err-Phase.ensures.kept)
-          (subst (λ (e : Refusal). IsRefusedBy old.modules payload e) w.in-Err-Phase.field-0-is w.in-Err-Phase.ensures.refused) c.self.invariant.0.sound)
+          (subst (λ (e : Refusal). IsRefusedOver old.modules payload e) w.in-Err-Phase.field-0-is w.in-Err-Phase.ensures.refused) c.self.invariant.0.sound)
       | in-Err-Memory w ↦
           rw w.result-is
           (nothing_replies old.modules new.modules payload stored (all_of old.tallies) (all_of new.tallies) runs 1

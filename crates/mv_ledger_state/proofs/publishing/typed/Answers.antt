@@ -1,4 +1,4 @@
-use Rattle.mv_ledger_state.proofs.Common.{◌∙◌, ◌≡◌, Err, List, Some, ap, subst, sym, ℕ, IfErr-weaker, IfOk-weaker, err_from_is_err_and, Module, module_of, IsRefusedByTypes, IsRefusedOffer, Spells}
+use Rattle.mv_ledger_state.proofs.Common.{◌∙◌, ◌≡◌, Err, List, Some, ap, subst, sym, ℕ, IfErr-weaker, IfOk-weaker, err_from_is_err_and, Module, module_of, FailsAt, FailsTypes, IsRefusedBy, Spells}
 use Rattle.mv_ledger_state.proofs.Phases.{refused_text, refused_bounds, refused_types}
 use Rattle.mv_ledger_state.proofs.publishing.typed.Goals as goal
 
@@ -29,7 +29,7 @@ returns-clause-text c =
 
 pub returns-clause-refused : goal.returns-clause-refused
 returns-clause-refused c = λ certificate.
-    IfErr-weaker c.check-2.result (IsRefusedByTypes c.in_ok-bounded.bounded) (IsRefusedOffer (record { text = c.args.text.now; certificate = certificate }))
+    IfErr-weaker c.check-2.result (IsRefusedBy (FailsTypes c.in_ok-bounded.bounded)) (IsRefusedBy (FailsAt (record { text = c.args.text.now; certificate = certificate })))
     (λ e. refused_types c.modules_are_read_by_text.ensures (record { text = c.args.text.now; certificate = certificate }) c.are_bytes.ensures c.in_ok-bounded.bounded e
     (spelled c.args.text.now c.in_ok-module.module c.in_ok-bounded.bounded c.in_ok-module.ensures.text c.in_ok-bounded.ensures.ok)
     c.module-defined.ensures.bounds c.module-defined.ensures.definitions) c.check-2.ensures.refused

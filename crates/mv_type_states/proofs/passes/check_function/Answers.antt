@@ -1,6 +1,6 @@
 use Rattle.mv_type_states.proofs.Common.{IsTrue, err_from_is_err_and, function_is_level, function_is_typed}
 use Rattle.mv_type_states.proofs.BlockLemmas.{level-from_typed}
-use Rattle.mv_type_rules.proofs.Functions.{refused-wider}
+use Rattle.mv_move_types.proofs.Refusals.{refused-wider}
 use Rattle.mv_type_states.proofs.passes.check_function.Goals as goal
 
 pub returns-in_err-check-clause-refused : goal.returns-in_err-check-clause-refused

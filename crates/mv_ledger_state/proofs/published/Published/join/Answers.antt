@@ -1,6 +1,7 @@
-use Rattle.mv_ledger_state.proofs.Common.{◌∙◌, ◌≡◌, ◌≤◌, List, ap, arith, inr, length, refl, subst, sym, length-map, err_from_is_err_and, PublishedModule, with_modules, IsStore, tables_in, published_of, published_one, lists_of}
+use Rattle.mv_ledger_state.proofs.Common.{◌∙◌, ◌≡◌, ◌≤◌, List, ap, arith, inl, inr, length, refl, subst, sym, length-map, err_from_is_err_and, PublishedModule, with_modules, IsStore, tables_in, published_of, published_one, lists_of}
 use Rattle.mv_ledger_state.proofs.Common.{New, Phase, AddsTallies, ArePlacedFor, AreWithin, IsKeptOut, MayFollow, with_placed, ArePlaced, PublishedView, all_of, Tally}
-use Rattle.mv_ledger_state.proofs.Bundles.Joining.{IsPlacedBundle, joined-within, placed-length, room-for, no-room-for, after-held, after-tallied, unlinked}
+use Rattle.mv_move_types.proofs.Refusals.{refused-weaker}
+use Rattle.mv_ledger_state.proofs.Bundles.Joining.{IsPlacedBundle, joined-within, placed-length, room-for, no-room-for, after-held, after-tallied}
 use Rattle.mv_ledger_state.proofs.Marks.{held-after}
 use Rattle.mv_ledger_state.specs.Blocks.{held_in, CanNote}
 use Rattle.mv_ledger_state.specs.declared.blocks.Blocks.{Blocks}
@@ -111,7 +112,7 @@ returns-in_err-linked-clause-refused c =
     let p = err_from_is_err_and c.from_residual-in_err-linked.result c.from_residual-in_err-linked.ensures.1 in
     rw (p.1, p.2)
     (subst (λ (v : PublishedView). IsKeptOut c.args.sender v.modules (published_of c.args.news.items) c.in_err-linked.field-0.0) c.self.view_is
-    (unlinked c.args.sender c.self.inside.store (published_of c.args.news.items) c.in_err-linked.field-0.0 c.in_err-linked.ensures.refused))
+    (refused-weaker _ _ c.in_err-linked.field-0.0 (λ p out. inl out) c.in_err-linked.ensures.refused))
 
 pub returns-then-is_too_much-clause-refused : goal.returns-then-is_too_much-clause-refused
 returns-then-is_too_much-clause-refused c =

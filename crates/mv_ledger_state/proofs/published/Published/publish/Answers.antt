@@ -1,4 +1,4 @@
-use Rattle.mv_ledger_state.proofs.Common.{◌∙◌, ◌≤◌, List, arith, length, subst, sym, length-map, err_from_is_err_and, published_of, published_one, offers_of, PublishedModule, AllPass, IsRefusedAmong, Offered}
+use Rattle.mv_ledger_state.proofs.Common.{◌∙◌, ◌≤◌, List, arith, length, subst, sym, length-map, err_from_is_err_and, published_of, published_one, offers_of, PublishedModule, AllPass, FailsAmong, IsRefusedBy, Offered}
 use Rattle.mv_ledger_state.proofs.Bundles.Joining.{few-offers}
 use Rattle.mv_ledger_state.proofs.Bundles.Verifying.{as-many}
 use Rattle.mv_ledger_state.proofs.Phases.{accepted, kept_out, refused_among}
@@ -24,7 +24,7 @@ pub returns-in_err-news-clause-refused : goal.returns-in_err-news-clause-refused
 returns-in_err-news-clause-refused c =
     let p = err_from_is_err_and c.from_residual-in_err-news.result c.from_residual-in_err-news.ensures.1 in
     rw (p.1, p.2) (refused_among c.args.self.now.modules c.args.payload.now c.in_ok-bundle.bundle.sender (offers_of c.in_ok-bundle.bundle.offers.items) c.in_ok-bundle.ensures.asked
-    c.in_err-news.field-0.0 (subst (λ (xs : List Offered). IsRefusedAmong (offers_of xs) c.in_err-news.field-0.0) c.deref.ensures.value c.in_err-news.ensures.refused))
+    c.in_err-news.field-0.0 (subst (λ (xs : List Offered). IsRefusedBy (FailsAmong (offers_of xs)) c.in_err-news.field-0.0) c.deref.ensures.value c.in_err-news.ensures.refused))
 
 pub returns-in_err-join-clause-refused : goal.returns-in_err-join-clause-refused
 returns-in_err-join-clause-refused c =
