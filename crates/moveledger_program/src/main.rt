@@ -9,6 +9,7 @@
 //! ```
 #![tactic(auto)]
 
+mod buffered;
 mod files;
 mod following;
 mod kinds;

@@ -1,4 +1,5 @@
 // The program: its command line, its files, and what it prints.
+use crate::buffered::Buffered;
 use crate::files::{
     Output, STANDARD_INPUT, STANDARD_INPUT_FILE, advice_before, advised, expected_bytes, open,
     regular_size, shown, standard_output,
@@ -299,6 +300,7 @@ fn apply_to<R: Read + Drop>(
         Ok(None) => false,
         Err(_) => return Answered::none(End::Read),
     };
+    let mut reader = Buffered::new(reader);
     let (end, is_whole) = match size {
         None => {
             let end = report(&mut reader, &mut writer, ledger, &mut Prompt);
