@@ -8,6 +8,7 @@
 
 built=$top/crates/moveledger_program/out/moveledger_program
 dist=$top/dist/moveledger
+looker=$top/out/is_unchanged
 
 say() {
     echo "moveledger: $1" >&2
@@ -18,13 +19,27 @@ sources() {
     find crates.txt HANDLES crates -regex 'crates/[^/]*/\(out\|must-fail\)' -prune -o "$@"
 }
 
-# Whether nothing of a list has changed since it was written: each name takes one system call, also where find reads no lists.
+# Whether nothing of a list has changed since it was written: each name takes one system call, also where find reads no lists. What is
+# made of scripts/is_unchanged.c takes half of find's time; where it doesn't run, as on another machine, find is asked.
 is_unchanged_since() {
-    [ -e "$1" ] && [ -z "$(cd "$top" && {
+    [ -e "$1" ] || return 1
+    if [ -x "$looker" ]; then
+        "$looker" "$top" "$1" 2>/dev/null
+        case $? in 100) return 0 ;; 101) return 1 ;; esac
+    fi
+    [ -z "$(cd "$top" && {
         find -files0-from "$1" -maxdepth 0 \( -cnewer "$1" -o -newerct now \) -print -quit || xargs -0 sh -c '
             list=$1 && shift && exec find "$@" -maxdepth 0 \( -cnewer "$list" -o -newerct now \) -print -quit
         ' sh "$1" < "$1"
     } 2>/dev/null || echo unknown)" ]
+}
+
+# Makes what looks through lists, where there is a C compiler and one may write to the clone. Its source is in each list. It starts sooner
+# without libraries to load.
+make_looker() {
+    rm -f "$looker" && mkdir -p "$top/out" || return
+    set -- -O2 -o "$looker.$$" "$top/scripts/is_unchanged.c"
+    { cc -static "$@" || cc "$@"; } && mv -f "$looker.$$" "$looker"
 }
 
 # Writes a list of the sources. Its time lies before all that is looked at afterwards, though the clock of a file system may be behind.
@@ -36,7 +51,8 @@ write_list() {
 # Puts a list beside a program that was seen to be of these sources after the list was written, unless something has changed meanwhile.
 # From then on the program itself may not change either.
 keep_list() {
-    { cat "$1" && printf '%s\0' "$2"; } > "$1.whole" && is_unchanged_since "$1" && mv -f "$1.whole" "$2.seen" && rm -f "$1"
+    make_looker 2>/dev/null
+    { cat "$1" && printf '%s\0' scripts/is_unchanged.c "$2"; } > "$1.whole" && is_unchanged_since "$1" && mv -f "$1.whole" "$2.seen" && rm -f "$1"
 }
 
 # What dist/ says of its sources, or of its program.
@@ -112,7 +128,7 @@ is_taken() {
     for number in 1 2 3 4; do
         has_room $number || continue
         new=$room/new.$$
-        trap 'rm -f "$new" "$new.list" "$new.list.whole"' EXIT
+        trap 'rm -f "$new" "$new.list" "$new.list.whole" "$looker.$$"' EXIT
         if [ "$1" = any ]; then
             program=$room/other
             is_told "$program" || is_unpacked "$program" || continue
@@ -130,7 +146,7 @@ is_taken() {
 # Whether the program that was built here is of these sources, by their checksums.
 is_built() {
     [ -x "$built" ] || return 1
-    write_list "$built.$$" && trap 'rm -f "$built.$$" "$built.$$.whole"' EXIT
+    write_list "$built.$$" && trap 'rm -f "$built.$$" "$built.$$.whole" "$looker.$$"' EXIT
     "$top/scripts/build" --is-built && program=$built && { keep_list "$built.$$" "$built" || true; }
 }
 
