@@ -1,9 +1,9 @@
 -- What a state raises, what flows into blocks one after the other, and how the code's search goes on.
-use Rattle.std.proofs.Common.{◌≡◌, ℕ, ◌+◌, ◌-◌, ◌<◌, Bool, true, false, List, [], ◌∷◌, ◌++◌, length, set, replicate, Option, Some, None, Contains, All}
+use Rattle.std.proofs.Common.{◌≡◌, ℕ, ◌+◌, ◌-◌, ◌<◌, ◌≤◌, Bool, true, false, List, [], ◌∷◌, ◌++◌, length, get_or, set, replicate, Option, Some, None, Contains, All}
 use Rattle.std.proofs.Common.{⊎_elim, refl, sym, ap, ◌∙◌, subst, arith, slice_get}
 use Rattle.std.proofs.lemmas.Bool.{cases_eq}
 use Rattle.std.proofs.lemmas.List.Elements.{All-contains, Contains-push, Contains-push_cases, Contains-append_left, Contains-append_right, Contains-append_cases}
-use Rattle.std.proofs.lemmas.Option.{slice_get_within}
+use Rattle.std.proofs.lemmas.Option.{slice_get_read, slice_get_within}
 use Rattle.mv_bound_rules.specs.Times.{times}
 use Rattle.mv_bound_rules.proofs.TimesLemmas.{is_one, is_none}
 use Rattle.mv_cfg.specs.declared.Block.{Block}
@@ -12,7 +12,7 @@ use Rattle.mv_cfg.specs.Graph.{IsBlock, HasEdge}
 use Rattle.mv_lattice.specs.Flow.{IsAt, IsStated, through}
 use Rattle.mv_lattice.specs.Laws.{IsLawful}
 use Rattle.mv_lattice.specs.Order.{Order}
-use Rattle.mv_lattice.specs.Search.{Search, IsSameAt, Raises, nothing, lower, FlowsInto, stays, rises, FlowsIntoEach, ExceedsAt, Makes, IsVisit}
+use Rattle.mv_lattice.specs.Search.{Search, resting, IsSameAt, Raises, nothing, lower, FlowsInto, stays, rises, FlowsIntoEach, ExceedsAt, Makes, IsVisit}
 use Rattle.mv_lattice.specs.Search.{Exceeds, Reaches, begins, goes_on, IsTurn, EndsWith, MeetsLimit, too_often, too_large, MeetsNeed, need}
 use Rattle.mv_lattice.specs.Work.{AllStated, standing, IsSearch}
 use Rattle.mv_lattice.proofs.Rises.{set_same, set_other, replicate_at, contains_or_not}
@@ -22,6 +22,22 @@ one_alone m n h = ⊎_elim
     (λ (none : Contains [] n). let low : none.0 < 0 = none.1 in absurd (omega (arith, low)))
     (λ is. is)
     (Contains-push_cases [] m n h)
+
+-- the block at a place
+pub block_there : (g : Cfg) (k : ℕ) (b : Block) → k < length g.blocks.items → b ≡ get_or g.blocks.items k b → IsBlock g k b
+block_there g k b inside is = slice_get_read g.blocks.items (length g.blocks.items) k b refl inside is
+
+-- where no block before k waited, none waits before k and its successors once k was visited
+pub rests_before : {S : Type 0} (o : Order S) (g : Cfg) (k least : ℕ) (b : Block) → IsBlock g k b → least ≤ k → All (λ n. least ≤ n) b.successors.items
+    → (x y : Search S) → ((j : ℕ) → j < k → IsAt x.waiting j false) → IsVisit o g k (resting k x) y → (j : ℕ) → j < least → IsAt y.waiting j false
+rests_before o g k least b at own each x y rest visit j low =
+    (visit.flows.outside j outside).1 ∙ set_other x.waiting k j false (λ same. let n : j ≡ k = same in absurd (omega (arith, n, low, own))) ∙ rest j (omega (arith, low, own))
+  where
+    outside : HasEdge g k j → ⊥
+    outside (c, is, there) =
+        let same : c ≡ b = cc (is, at) in
+        let over : least ≤ j = All-contains (λ n. least ≤ n) b.successors.items j each (subst (λ (z : Block). Contains z.successors.items j) same there) in
+        absurd (omega (arith, over, low))
 
 module _ {S : Type 0} {o : Order S} (laws : IsLawful o) (t : S) (valid : o.is_state t) where
   -- what t raises a state to: it is a state, and above t

@@ -224,21 +224,35 @@ fn visit<D: Domain>(
     raise_each(alloc, d, states, waiting, &block.successors, &t)
 }
 
-/// The first block that waits.
-fn first_waiting(waiting: &[bool]) -> Option<usize>
+/// The first block that waits, where none before `from` does.
+fn first_waiting(waiting: &[bool], from: usize) -> Option<usize>
+    requires before { (j : ℕ) → j < from → IsAt waiting.now j false }
     ensures some { IfSome result (λ k. IsAt waiting.now k true) }
     ensures first { IfSome result (λ k. (j : ℕ) → j < k → IsAt waiting.now j false) }
     ensures none { IfNone result ((j : ℕ) → j < length waiting.now → IsAt waiting.now j false) }
 {
-    for (k, waits) in waiting.iter().enumerate() {
-        if *waits {
+    for k in from..waiting.len() {
+        if waiting[k] {
             return Some(k);
         }
     }
     None
 }
 
-/// Visits the first block that waits, unless it has been visited as often as it may be.
+/// The least of a block and its successors.
+fn least_of(k: usize, successors: &[usize]) -> usize
+    ensures own { result ≤ k }
+    ensures each { All (λ n. result ≤ n) successors.now }
+{
+    let mut least = k;
+    for n in successors {
+        least = least.min(*n);
+    }
+    least
+}
+
+/// Visits the first block that waits, unless it has been visited as often as it may be. Before the block that is returned none waits
+/// then.
 fn turn<D: Domain>(
     alloc: Global,
     d: &D,
@@ -247,7 +261,7 @@ fn turn<D: Domain>(
     states: &mut [Option<D::State>],
     waiting: &mut [bool],
     left: &mut [u16],
-) -> Result<(), SolveError>
+) -> Result<usize, SolveError>
     requires waits { IsAt waiting.old k true }
     requires first { (j : ℕ) → j < k → IsAt waiting.old j false }
     requires graph { IsGraph g.now (D.order d.now).size }
@@ -260,13 +274,15 @@ fn turn<D: Domain>(
     ensures fails { IsErrOf result SolveError.Need → OfEachStart (D.order d.now) g.now left.old states.old waiting.old (MeetsNeed (D.order d.now) g.now) }
     ensures limit { IsErrOf result SolveError.TooComplex → OfEachStart (D.order d.now) g.now left.old states.old waiting.old (MeetsLimit (D.order d.now) g.now) }
     ensures fewer { OnOk result (sum left.new < sum left.old) }
+    ensures rest { IfOk result (λ from. (j : ℕ) → j < from → IsAt waiting.new j false) }
 {
     if left[k] == 0 {
         return Err(SolveError::TooComplex);
     }
     left[k] -= 1;
     waiting[k] = false;
-    visit(alloc, d, g, k, states, waiting)
+    visit(alloc, d, g, k, states, waiting)?;
+    Ok(least_of(k, &g.blocks[k].successors))
 }
 
 /// Visits blocks, the first that waits each time, until none waits.
@@ -289,8 +305,9 @@ fn search_flow<D: Domain>(
     ensures limit { IsErrOf result SolveError.TooComplex → OfEachStart (D.order d.now) g.now left.old states.old waiting.old (MeetsLimit (D.order d.now) g.now) }
     ensures rests { OnOk result ((j : ℕ) → j < length waiting.new → IsAt waiting.new j false) }
 {
-    while let Some(k) = first_waiting(waiting) {
-        turn(alloc, d, g, k, states, waiting, left)?;
+    let mut from = 0;
+    while let Some(k) = first_waiting(waiting, from) {
+        from = turn(alloc, d, g, k, states, waiting, left)?;
     }
     Ok(())
 }

@@ -3,20 +3,20 @@ use Rattle.std.proofs.lemmas.Result.{err_from_is_err_and}
 use Rattle.mv_lattice.proofs.search.search_flow.Goals as goal
 
 pub loop-k-init : goal.loop-k-init
-loop-k-init g c = λ start has. has
+loop-k-init g c = record { search = λ start has. has; rest = λ j low. absurd (omega (arith, low)) }
 
 pub loop-k-preserved : goal.loop-k-preserved
-loop-k-preserved g c = λ start has. c.in_ok-turn.ensures.search start (c.loop-k.invariant start has)
+loop-k-preserved g c = record { search = λ start has. c.in_ok-from.ensures.search start (c.loop-k.invariant.search start has); rest = c.in_ok-from.ensures.rest }
 
-pub returns-in_err-turn-clause-fails : goal.returns-in_err-turn-clause-fails
-returns-in_err-turn-clause-fails g c = λ e start has.
+pub returns-in_err-from-clause-fails : goal.returns-in_err-from-clause-fails
+returns-in_err-from-clause-fails g c = λ e start has.
     let p = err_from_is_err_and c.from_residual.result c.from_residual.ensures.1 in
-    c.in_err-turn.ensures.fails (cc (p.1, p.2, e)) start (c.loop-k.invariant start has)
+    c.in_err-from.ensures.fails (cc (p.1, p.2, e)) start (c.loop-k.invariant.search start has)
 
-pub returns-in_err-turn-clause-limit : goal.returns-in_err-turn-clause-limit
-returns-in_err-turn-clause-limit g c = λ e start has.
+pub returns-in_err-from-clause-limit : goal.returns-in_err-from-clause-limit
+returns-in_err-from-clause-limit g c = λ e start has.
     let p = err_from_is_err_and c.from_residual.result c.from_residual.ensures.1 in
-    c.in_err-turn.ensures.limit (cc (p.1, p.2, e)) start (c.loop-k.invariant start has)
+    c.in_err-from.ensures.limit (cc (p.1, p.2, e)) start (c.loop-k.invariant.search start has)
 
 pub turn-requires-clause-graph : goal.turn-requires-clause-graph
 turn-requires-clause-graph g c = c.requires.graph
@@ -39,4 +39,4 @@ turn-requires-clause-lefts g c = omega (arith, c.loop-k.auto.left, c.requires.le
 pub turn-requires-clause-search : goal.turn-requires-clause-search
 turn-requires-clause-search g c =
     let u = c.requires.search in
-    record { start = u.start; valid = u.valid; begins = u.begins; search = c.loop-k.invariant u.start u.search }
+    record { start = u.start; valid = u.valid; begins = u.begins; search = c.loop-k.invariant.search u.start u.search }

@@ -1,11 +1,15 @@
-use Rattle.std.proofs.Common.{sum}
+use Rattle.std.proofs.Common.{ℕ, ◌<◌, false, sum}
+use Rattle.mv_lattice.specs.Flow.{IsAt}
 use Rattle.mv_lattice.specs.Work.{IsSearch, OfEachStart}
 use Rattle.mv_lattice.proofs.search.search_flow.Given as goal
 
 abbrev pub invariant-loop-k : goal.invariant-loop-k
 invariant-loop-k g l =
     let o = g.D.Domain.order l.d in
-    OfEachStart o l.g l.initial.left l.initial.states l.initial.waiting (λ start. IsSearch o l.g start l.left l.states l.waiting)
+    record {
+      search : OfEachStart o l.g l.initial.left l.initial.states l.initial.waiting (λ start. IsSearch o l.g start l.left l.states l.waiting);
+      rest : (j : ℕ) → j < l.from → IsAt l.waiting j false;
+    }
 
 abbrev pub decreases-loop-k : goal.decreases-loop-k
 decreases-loop-k g l = sum l.left

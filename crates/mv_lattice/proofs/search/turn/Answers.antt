@@ -1,12 +1,12 @@
-use Rattle.std.proofs.Common.{◌≡◌, ℕ, ◌<◌, Bool, List, arith, length, get_or, ◌∙◌, true, false}
+use Rattle.std.proofs.Common.{◌≡◌, ℕ, ◌<◌, ◌≤◌, All, Bool, List, arith, subst, length, get_or, ◌∙◌, true, false}
 use Rattle.std.proofs.lemmas.List.{length-set}
 use Rattle.std.proofs.lemmas.Option.{slice_get-get_or, slice_get_within}
-use Rattle.std.proofs.lemmas.Result.{on_ok_weaker}
+use Rattle.std.proofs.lemmas.Result.{err_from_is_err_and}
 use Rattle.mv_lattice.specs.Flow.{IsAt}
 use Rattle.mv_lattice.specs.Work.{standing}
 use Rattle.mv_lattice.proofs.Found.{reached_states, reached_active, reached_entries}
 use Rattle.mv_lattice.proofs.Rises.{fewer_left}
-use Rattle.mv_lattice.proofs.Searches.{turn_over, turn_exceeds, turn_fails, turn_done}
+use Rattle.mv_lattice.proofs.Searches.{block_there, rests_before, turn_over, turn_exceeds, turn_fails, turn_done}
 use Rattle.mv_lattice.proofs.search.turn.Goals as goal
 
 -- how many visits are left of a block that waits
@@ -26,42 +26,49 @@ returns-then-left-k-eq0-clause-limit g c = λ _ start has.
     turn_over o c.args.g.now start c.args.left.now c.args.states.now c.args.waiting.now has k l c.requires.waits c.requires.first left c.if-left-k-eq0.true
 
 pub returns-clause-search : goal.returns-clause-search
-returns-clause-search g c =
-    let d = c.args.d.now in
-    let o = g.D.Domain.order d in
+returns-clause-search g c = λ start has.
+    let o = g.D.Domain.order c.args.d.now in
     let k = c.args.k in
     let l = get_or c.args.left.now k 0 in
     let left = left_there c.args.waiting.now c.args.left.now _ k c.requires.waits c.requires.lefts c.requires.marks in
     let some : 0 < l = omega (arith, c.if-left-k-eq0.false) in
-    on_ok_weaker c.visit.result (λ visit start has. turn_done o c.args.g.now start c.args.left.now c.args.states.now c.args.waiting.now has k l c.requires.waits c.requires.first left some c.visit.new.states c.visit.new.waiting visit) c.visit.ensures.ok
+    turn_done o c.args.g.now start c.args.left.now c.args.states.now c.args.waiting.now has k l c.requires.waits c.requires.first left some c.visit.new.states c.visit.new.waiting c.in_ok-visit.ensures.ok
 
-pub returns-clause-fails : goal.returns-clause-fails
-returns-clause-fails g c = λ e start has.
-    let d = c.args.d.now in
-    let o = g.D.Domain.order d in
+pub returns-clause-rest : goal.returns-clause-rest
+returns-clause-rest g c =
+    let o = g.D.Domain.order c.args.d.now in
     let k = c.args.k in
-    let l = get_or c.args.left.now k 0 in
-    let left = left_there c.args.waiting.now c.args.left.now _ k c.requires.waits c.requires.lefts c.requires.marks in
-    let some : 0 < l = omega (arith, c.if-left-k-eq0.false) in
-    turn_fails o c.args.g.now start c.args.left.now c.args.states.now c.args.waiting.now has k l c.requires.waits c.requires.first left some (c.visit.ensures.fails e)
+    let in' : k < length c.args.waiting.now = slice_get_within c.args.waiting.now k true c.requires.waits in
+    let block = c.index.result.now in
+    rests_before o c.args.g.now k c.least_of.result block (block_there c.args.g.now k block (omega (arith, in', c.requires.marks)) c.index.ensures) c.least_of.ensures.own (subst (All (λ n. c.least_of.result ≤ n)) c.deref.ensures.value c.least_of.ensures.each)
+    (standing c.args.states.now c.args.waiting.now) (standing c.visit.new.states c.visit.new.waiting) c.requires.first c.in_ok-visit.ensures.ok
 
-pub returns-clause-limit : goal.returns-clause-limit
-returns-clause-limit g c = λ e start has.
-    let d = c.args.d.now in
-    let o = g.D.Domain.order d in
+pub returns-in_err-visit-clause-fails : goal.returns-in_err-visit-clause-fails
+returns-in_err-visit-clause-fails g c = λ e start has.
+    let p = err_from_is_err_and c.from_residual.result c.from_residual.ensures.1 in
+    let o = g.D.Domain.order c.args.d.now in
     let k = c.args.k in
     let l = get_or c.args.left.now k 0 in
     let left = left_there c.args.waiting.now c.args.left.now _ k c.requires.waits c.requires.lefts c.requires.marks in
     let some : 0 < l = omega (arith, c.if-left-k-eq0.false) in
-    turn_exceeds o c.args.g.now start c.args.left.now c.args.states.now c.args.waiting.now has k l c.requires.waits c.requires.first left some (c.visit.ensures.exceeds e)
+    turn_fails o c.args.g.now start c.args.left.now c.args.states.now c.args.waiting.now has k l c.requires.waits c.requires.first left some (c.in_err-visit.ensures.fails (cc (p.1, p.2, e)))
+
+pub returns-in_err-visit-clause-limit : goal.returns-in_err-visit-clause-limit
+returns-in_err-visit-clause-limit g c = λ e start has.
+    let p = err_from_is_err_and c.from_residual.result c.from_residual.ensures.1 in
+    let o = g.D.Domain.order c.args.d.now in
+    let k = c.args.k in
+    let l = get_or c.args.left.now k 0 in
+    let left = left_there c.args.waiting.now c.args.left.now _ k c.requires.waits c.requires.lefts c.requires.marks in
+    let some : 0 < l = omega (arith, c.if-left-k-eq0.false) in
+    turn_exceeds o c.args.g.now start c.args.left.now c.args.states.now c.args.waiting.now has k l c.requires.waits c.requires.first left some (c.in_err-visit.ensures.exceeds (cc (p.1, p.2, e)))
 
 pub returns-clause-fewer : goal.returns-clause-fewer
 returns-clause-fewer g c =
     let k = c.args.k in
     let in' : k < length c.args.waiting.now = slice_get_within c.args.waiting.now k true c.requires.waits in
     let within : k < length c.args.left.now = omega (arith, in', c.requires.lefts, c.requires.marks) in
-    let some : 0 < get_or c.args.left.now k 0 = omega (arith, c.if-left-k-eq0.false) in
-    on_ok_weaker c.visit.result (λ done. fewer_left c.args.left.now k within some) c.visit.ensures.ok
+    fewer_left c.args.left.now k within (omega (arith, c.if-left-k-eq0.false))
 
 pub visit-requires-clause-graph : goal.visit-requires-clause-graph
 visit-requires-clause-graph g c = c.requires.graph

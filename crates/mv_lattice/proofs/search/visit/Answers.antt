@@ -1,20 +1,14 @@
-use Rattle.std.proofs.Common.{◌≡◌, ℕ, ◌<◌, refl, arith, List, length, get_or, Option, Some, Err, All, sym, ◌∙◌, ap, subst}
+use Rattle.std.proofs.Common.{◌≡◌, ℕ, ◌<◌, arith, List, length, get_or, Option, Some, Err, All, sym, ◌∙◌, ap, subst}
 use Rattle.std.proofs.lemmas.Result.{on_ok_weaker, err_from_is_err_and}
-use Rattle.std.proofs.lemmas.Option.{slice_get_read, slice_get-get_or}
-use Rattle.mv_cfg.specs.declared.Block.{Block}
-use Rattle.mv_cfg.specs.declared.Cfg.{Cfg}
-use Rattle.mv_cfg.specs.Graph.{IsBlock}
+use Rattle.std.proofs.lemmas.Option.{slice_get-get_or}
 use Rattle.mv_lattice.specs.Flow.{IsStated}
 use Rattle.mv_lattice.specs.declared.search.SolveError.TheVariants.{Need, TooComplex}
 use Rattle.mv_lattice.specs.Work.{standing}
-use Rattle.mv_lattice.proofs.Searches.{visit_made, visit_exceeds, visit_fails}
+use Rattle.mv_lattice.proofs.Searches.{block_there, visit_made, visit_exceeds, visit_fails}
 use Rattle.mv_lattice.proofs.Rises.{unstated}
 use Rattle.mv_lattice.proofs.search.visit.Goals as goal
 
--- the block at a place, and the state that is stated there
-block_there : (g : Cfg) (k : ℕ) (b : Block) → k < length g.blocks.items → b ≡ get_or g.blocks.items k b → IsBlock g k b
-block_there g k b inside is = slice_get_read g.blocks.items (length g.blocks.items) k b refl inside is
-
+-- the state that is stated at a place
 stated_there : {S : Type 0} (states : List (Option S)) (n k : ℕ) (x : Option S) (s : S) → k < n → length states ≡ n → get_or states k x ≡ Some s → IsStated states k s
 stated_there states n k x s inside entries is = let within : k < length states = omega (arith, inside, entries) in slice_get-get_or states k x within ∙ ap Some is
 
