@@ -131,6 +131,9 @@ impl WayGraph {
         ensures { IfOk result (λ g. sorted (edges_of g) ≡ edges.now) }
     {
         let mut graph = WayGraph::new(alloc);
+        if edges.is_empty() {
+            return Ok(graph);
+        }
         let groups = graph.grouped(alloc, edges.as_slice())?;
         graph.refer_each(groups)?;
         Ok(graph)
