@@ -1,9 +1,8 @@
 -- One turn of a walk over a block's instructions, and one of a walk over a function's blocks.
-use Rattle.mv_type_states.proofs.Common.{[], ℕ, ◌&&◌, ◌++◌, ◌+◌, ◌-◌, ◌<◌, ◌∙◌, ◌∷◌, ◌≡◌, ◌≤◌, Bool, Err, IsSome, IsTrue, List, None, Option, Some, add-one, ap, append_assoc, arith, cond}
-use Rattle.mv_type_states.proofs.Common.{drop, false, flat_map, get_or, length, map, nat_eq, nat_le, refl, reverse, subst, sym, true, eqb-true, none-some, same_Some, list_all, slice_range}
-use Rattle.mv_type_states.proofs.Common.{FunctionDefinition, Module, ◌>>=◌, IsRefusedIn, Instruction, Refusal, Memory, Phase, Token, basic_block_of, Block, Cfg, StackEffect, block_is_level}
-use Rattle.mv_type_states.proofs.Common.{effect_of, function_is_level, height_through, Follows, types_each, Types, types_after, block_is_typed, function_is_typed, types_through}
-use Rattle.std.proofs.Common.{drop-cons}
+use Rattle.mv_type_states.proofs.Common.{[], ℕ, ◌&&◌, ◌++◌, ◌+◌, ◌-◌, ◌<◌, ◌∙◌, ◌∷◌, ◌≡◌, ◌≤◌, Bool, IsSome, IsTrue, List, None, Option, Some, ap, append_assoc, arith, cond}
+use Rattle.mv_type_states.proofs.Common.{drop, false, flat_map, get_or, length, map, nat_eq, nat_le, refl, reverse, subst, sym, true, eqb-true, same_Some, list_all, slice_range}
+use Rattle.mv_type_states.proofs.Common.{FunctionDefinition, Module, ◌>>=◌, IsRefusedBy, IsRefusedIn, Instruction, Refusal, Memory, Phase, Token, basic_block_of, Block, Cfg, StackEffect, block_is_level}
+use Rattle.mv_type_states.proofs.Common.{effect_of, function_is_level, height_through, types_each, Types, types_after, block_is_typed, function_is_typed, types_through}
 use Rattle.std.specs.Bool.{then_some}
 use Rattle.std.specs.Option.{option_map_or}
 use Rattle.std.proofs.lemmas.Bool.{le-leb, false≢true, and_parts}
@@ -67,11 +66,10 @@ module _ (m : Module) (d : FunctionDefinition) where
       append_assoc old (s ∷ []) (types_each m d rest after) ∙ ap (λ l. old ++ l) (sym each) ∙ is
 
   -- where an instruction is refused, so is what is left
-  pub carried_refused : (code : List Instruction) (n : ℕ) (i : Instruction) (s new after : Types) (whole : Option Types) (e : Refusal) → n < length code → whole ≡ types_through m d (drop n code) s
-      → Follows (Err e) (types_after m d (get_or code n i) s) new → Follows (Err e) whole after
-  carried_refused code n i s new after whole (Phase p) below is r =
-      (r.0, is ∙ ap (λ is. types_through m d is s) (drop_more code n i below) ∙ ap (λ o. o >>= λ t. cond (nat_le (length t) 128) (types_through m d (drop (n + 1) code) t) None) r.1)
-  carried_refused code n i s new after whole Memory below is r = tt
+  pub carried-none : (code : List Instruction) (n : ℕ) (i : Instruction) (s : Types) (whole : Option Types) → n < length code → whole ≡ types_through m d (drop n code) s
+      → types_after m d (get_or code n i) s ≡ None → whole ≡ None
+  carried-none code n i s whole below is none =
+      is ∙ ap (λ is. types_through m d is s) (drop_more code n i below) ∙ ap (λ o. o >>= λ t. cond (nat_le (length t) 128) (types_through m d (drop (n + 1) code) t) None) none
 
   -- where none is left, the types are as they are
   pub carried_all : (code : List Instruction) (n : ℕ) (s : Types) (whole : Option Types) → length code ≤ n → whole ≡ types_through m d (drop n code) s → whole ≡ Some s
@@ -143,11 +141,10 @@ module _ (m : Module) (d : FunctionDefinition) where
       (subst (λ (ts : List Token). IsSome (height_through m d (slice_range d.code b.first (b.last + 1)) (length (reverse ts)))) (sym empty) here)
 
   -- where the next block is refused, so is the function
-  pub block_refused : (g : Cfg) (bs : List Block) (k : ℕ) (b : Block) (code : List Instruction) (stack : List Token) (new : Types) (whole : Bool) (e : Refusal) → k < length bs → b ≡ get_or bs k b
-      → code ≡ d.code → stack ≡ []
-      → whole ≡ list_all (block_is_typed m d) (map (basic_block_of g) (drop k bs)) → Follows (Err e) (types_through m d (slice_range code b.first (b.last + 1)) (reverse stack)) new
-      → IsRefusedIn 8 (IsTrue whole) e
-  block_refused g bs k b code stack new whole (Phase p) below is_b same empty is r =
+  pub block_refused : (g : Cfg) (bs : List Block) (k : ℕ) (b : Block) (code : List Instruction) (stack : List Token) (whole : Bool) (e : Refusal) → k < length bs → b ≡ get_or bs k b
+      → code ≡ d.code → stack ≡ [] → whole ≡ list_all (block_is_typed m d) (map (basic_block_of g) (drop k bs))
+      → IsRefusedBy (λ p. (p ≡ 8) × (types_through m d (slice_range code b.first (b.last + 1)) (reverse stack) ≡ None)) e → IsRefusedIn 8 (IsTrue whole) e
+  block_refused g bs k b code stack whole (Phase p) below is_b same empty is r =
       let rest = list_all (block_is_typed m d) (map (basic_block_of g) (drop (k + 1) bs)) in
       let none : types_through m d (slice_range d.code b.first (b.last + 1)) [] ≡ None =
       ap (λ ts. types_through m d (slice_range d.code b.first (b.last + 1)) (reverse ts)) (sym empty)
@@ -156,7 +153,7 @@ module _ (m : Module) (d : FunctionDefinition) where
       is ∙ ap (λ xs. list_all (block_is_typed m d) (map (basic_block_of g) xs)) (next_block bs k b below is_b)
       ∙ ap (λ o. option_map_or (λ stack. nat_eq (length stack) 0) o false && rest) none in
       (r.0, λ yes. false≢true (sym no ∙ yes))
-  block_refused g bs k b code stack new whole Memory below is_b same empty is r = tt
+  block_refused g bs k b code stack whole Memory below is_b same empty is r = tt
 
   -- where no block is left, all are well typed and listed
   pub all_typed : (g : Cfg) (bs : List Block) (k : ℕ) (whole : Bool) → length bs ≤ k → whole ≡ list_all (block_is_typed m d) (map (basic_block_of g) (drop k bs)) → IsTrue whole

@@ -10,7 +10,7 @@ pub use Rattle.std.specs.Result.{is_ok}
 pub use Rattle.std.specs.Vec.{vec_len}
 pub use Rattle.mv_move_types.specs.Module.{FunctionDefinition, Module, local_type, result_tokens}
 pub use Rattle.mv_move_types.specs.Options.{◌>>=◌}
-pub use Rattle.mv_move_types.specs.Refusals.{IsRefusedIn}
+pub use Rattle.mv_move_types.specs.Refusals.{IsRefusedBy, IsRefusedIn}
 pub use Rattle.mv_move_types.specs.Tokens.{same_token, same_tokens, same_value_type}
 pub use Rattle.mv_move_types.specs.declared.instruction.Instruction.{Instruction}
 pub use Rattle.mv_move_types.specs.declared.refusal.Refusal.{Refusal}

@@ -1,17 +1,11 @@
 -- What a table has at an index, or hasn't.
-use Rattle.mv_type_states.proofs.Common.{ℕ, ◌++◌, ◌∙◌, ◌≡◌, Err, List, Option, Some, ap, reverse, slice_get, sym, Module, ◌>>=◌, Refusal, Memory, Phase}
-use Rattle.mv_type_states.proofs.Common.{Token, Follows, Types, taken, takes_gives}
+use Rattle.mv_type_states.proofs.Common.{ℕ, ◌∙◌, ◌≡◌, Err, List, Option, ap, slice_get, sym, Module, ◌>>=◌, Refusal, Memory, Phase, Token}
 use Rattle.mv_type_states.specs.Answers.{Finds}
 pub use Rattle.mv_bound_rules.proofs.Entries.{got, missed}
 
 -- the signature at an index, if there is one
 pub signature_at : (m n : Module) (i j : ℕ) (o : Option (List Token)) → n ≡ m → j ≡ i → o ≡ slice_get n.signatures j → slice_get m.signatures i ≡ o
 signature_at m n i j o same at is = sym (is ∙ ap (λ (n : Module). slice_get n.signatures j) same ∙ ap (slice_get m.signatures) at)
-
--- where types can't be taken, none are given in their place
-pub takes_refused : (e : Refusal) (wanted given : List Token) (s new after : Types) → Follows (Err e) (taken wanted s) new → Follows (Err e) (takes_gives wanted given s) after
-takes_refused (Phase p) wanted given s new after r = (r.0, ap (λ o. o >>= λ below. Some (reverse given ++ below)) r.1)
-takes_refused Memory wanted given s new after r = tt
 
 -- where what comes first isn't found, nothing is
 pub finds_refused : {A B : Type 0} (e : Refusal) (o : Option A) (f : A → Option B) → Finds (Err e) o → Finds (Err e) (o >>= f)

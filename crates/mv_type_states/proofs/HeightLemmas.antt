@@ -1,8 +1,8 @@
 -- A type rule changes the height of the stack by the instruction's effect.
-use Rattle.mv_type_states.proofs.Common.{[], ℕ, ◌++◌, ◌+◌, ◌∷◌, ◌≡◌, ◌≤◌, Bool, List, None, Option, Some, ap, arith, drop, false, length, length-append, length-drop, map, refl, reverse}
-use Rattle.mv_type_states.proofs.Common.{slice_get, take, true, length-map, length-reverse, length-take, none-some, same_Some, FunctionDefinition, Module, local_type, ◌>>=◌, same_tokens}
+use Rattle.mv_type_states.proofs.Common.{[], ℕ, ◌++◌, ◌+◌, ◌∷◌, ◌≡◌, ◌≤◌, List, Some, ap, arith, drop, length, length-append, length-drop, map, refl, reverse}
+use Rattle.mv_type_states.proofs.Common.{slice_get, take, length-map, length-reverse, length-take, same_Some, FunctionDefinition, Module, local_type, ◌>>=◌, same_tokens}
 use Rattle.mv_type_states.proofs.Common.{same_value_type, Instruction, Field, FunctionHandle, Signer, Token, MutableReference, Plain, Reference, ValueType, OfLeaf, OfStruct, U64, U8}
-use Rattle.mv_type_states.proofs.Common.{StackEffect, effect_of, Types, of_return, provided, taken, takes_gives, types_after}
+use Rattle.mv_type_states.proofs.Common.{StackEffect, effect_of, Types, of_return, taken, takes_gives, types_after}
 use Rattle.mv_move_types.specs.declared.token.Width.{Width}
 use Rattle.mv_move_types.specs.declared.instruction.Instruction.TheVariants.{Pop, Ret, BrTrue, BrFalse, Branch, LdU64, LdConst, LdTrue, LdFalse, CopyLoc, MoveLoc, StLoc, MutBorrowLoc}
 use Rattle.mv_move_types.specs.declared.instruction.Instruction.TheVariants.{ImmBorrowLoc, MutBorrowField, ImmBorrowField, Call, Pack, Unpack, ReadRef, WriteRef, Or, And, Not, Eq, Neq}

@@ -1,9 +1,10 @@
 -- Stacks with the topmost last, and what is taken from them.
-use Rattle.mv_type_states.proofs.Common.{[], ℕ, ◌&&◌, ◌++◌, ◌+◌, ◌<◌, ◌∙◌, ◌∷◌, ◌≡◌, Bool, Err, IsTrue, List, None, Option, Result, Some, add-one, ap, append_assoc, arith, drop, false}
-use Rattle.mv_type_states.proofs.Common.{get_or, length, length-append, map, nat_eq, refl, reverse, slice_get, subst, suc, sym, take, true, length-reverse, length-take, map-append}
-use Rattle.mv_type_states.proofs.Common.{reverse-append, take_all, take_more, same_Some, list_all, vec_len, ◌>>=◌, same_token, same_tokens, Refusal, Memory, Phase, Field, Token}
+use Rattle.mv_type_states.proofs.Common.{[], ℕ, ◌&&◌, ◌++◌, ◌+◌, ◌<◌, ◌∙◌, ◌∷◌, ◌≡◌, Bool, List, None, Option, Result, Some, add-one, ap, append_assoc, arith, drop, false}
+use Rattle.mv_type_states.proofs.Common.{get_or, length, length-append, map, nat_eq, refl, reverse, subst, suc, sym, take, true, length-reverse, length-take, map-append}
+use Rattle.mv_type_states.proofs.Common.{reverse-append, take_all, take_more, same_Some, vec_len, ◌>>=◌, same_token, same_tokens, IsRefusedBy, Refusal, Field, Token}
 use Rattle.mv_type_states.proofs.Common.{Follows, Types, provided, taken, takes_gives}
 use Rattle.std.proofs.Common.{set, Vec, Global}
+use Rattle.mv_move_types.proofs.Refusals.{refused-weaker}
 use Rattle.std.proofs.lemmas.List.{reverse-reverse}
 use Rattle.std.proofs.Math.Seq.{set-append_seam}
 use Rattle.std.proofs.lemmas.Bool.{ne_eqb, eqb-false}
@@ -27,11 +28,13 @@ pub taken-last : (ws : List Token) (w : Token) (s : Types) → taken (ws ++ w �
 taken-last ws w [] = rw (reverse-push ws w, length_push ws w) refl
 taken-last ws w (t ∷ s) = rw (reverse-push ws w, length_push ws w) (one_and_others (same_token t w) ws s)
 
+-- types that are not there are refused as others that are then not there either
+pub none-after : (e : Refusal) (o q : Option Types) → (o ≡ None → q ≡ None) → IsRefusedBy (λ p. (p ≡ 8) × (o ≡ None)) e → IsRefusedBy (λ p. (p ≡ 8) × (q ≡ None)) e
+none-after e o q so = refused-weaker (λ p. (p ≡ 8) × (o ≡ None)) (λ p. (p ≡ 8) × (q ≡ None)) e (λ p r. (r.0, so r.1))
+
 -- where one can't be taken, two can't
-pub two_refused : (e : Refusal) (w given : Token) (s new after : Types) → Follows (Err e) (taken (w ∷ []) s) new → Follows (Err e) (takes_gives (w ∷ w ∷ []) (given ∷ []) s) after
-two_refused (Phase p) w given s new after r =
-    (r.0, ap (λ o. o >>= λ below. Some (reverse (given ∷ []) ++ below)) (taken-last (w ∷ []) w s ∙ ap (λ o. o >>= λ below. taken (w ∷ []) below) r.1))
-two_refused Memory w given s new after r = tt
+pub two-none : (w given : Token) (s : Types) → taken (w ∷ []) s ≡ None → takes_gives (w ∷ w ∷ []) (given ∷ []) s ≡ None
+two-none w given s none = ap (λ o. o >>= λ below. Some (reverse (given ∷ []) ++ below)) (taken-last (w ∷ []) w s ∙ ap (λ o. o >>= λ below. taken (w ∷ []) below) none)
 
 -- two are exchanged where one is taken and the next one exchanged
 pub two_exchanged : (done : Result (Unit {0}) Refusal) (w given : Token) (s below new : Types) → taken (w ∷ []) s ≡ Some below → Follows done (takes_gives (w ∷ []) (given ∷ []) below) new
@@ -48,11 +51,8 @@ taken_turn left others last s new whole cut is one =
     sym (ap (λ ws. taken ws s) cut ∙ taken-last others last s ∙ ap (λ o. o >>= λ below. taken others below) one) ∙ is
 
 -- where the last of them can't be taken, they can't
-pub taken_refused : (e : Refusal) (left others : List Token) (last : Token) (s new after : Types) (whole : Option Types) → left ≡ others ++ last ∷ [] → taken left s ≡ whole
-    → Follows (Err e) (taken (last ∷ []) s) new → Follows (Err e) whole after
-taken_refused (Phase p) left others last s new after whole cut is r =
-    (r.0, sym is ∙ ap (λ ws. taken ws s) cut ∙ taken-last others last s ∙ ap (λ o. o >>= λ below. taken others below) r.1)
-taken_refused Memory left others last s new after whole cut is r = tt
+pub taken-none : (left others : List Token) (last : Token) (s : Types) (whole : Option Types) → left ≡ others ++ last ∷ [] → taken left s ≡ whole → taken (last ∷ []) s ≡ None → whole ≡ None
+taken-none left others last s whole cut is none = sym is ∙ ap (λ ws. taken ws s) cut ∙ taken-last others last s ∙ ap (λ o. o >>= λ below. taken others below) none
 
 -- the types of fields, the last of them apart
 pub tokens-last : (left others : List Field) (last : Field) → left ≡ others ++ last ∷ [] → map (λ f. f.token) left ≡ map (λ f. f.token) others ++ last.token ∷ []
@@ -103,9 +103,8 @@ alone rs s =
     ap (λ b. provided b []) front ∙ provided_both (same_tokens (take (length rs) s) (reverse rs)) (drop (length rs) s)
 
 -- where the types can't be taken, they aren't alone on the stack
-pub alone-refused : (e : Refusal) (rs : List Token) (s new : Types) → Follows (Err e) (taken rs s) new → Follows (Err e) (provided (same_tokens s (reverse rs)) []) new
-alone-refused (Phase p) rs s new r = (r.0, rw (alone rs s, r.1) refl)
-alone-refused Memory rs s new r = tt
+pub alone-none : (rs : List Token) (s : Types) → taken rs s ≡ None → provided (same_tokens s (reverse rs)) [] ≡ None
+alone-none rs s none = rw (alone rs s, none) refl
 
 -- something is left below them
 pub alone-left : (rs : List Token) (s : Types) (new : List Token) → taken rs s ≡ Some (reverse new) → 0 < length new → provided (same_tokens s (reverse rs)) [] ≡ None

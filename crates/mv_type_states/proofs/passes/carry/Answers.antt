@@ -1,5 +1,6 @@
 use Rattle.mv_type_states.proofs.Common.{[], ◌++◌, ◌+◌, ◌∙◌, ◌∷◌, ap, drop, reverse, err_from_is_err_and, types_each}
-use Rattle.mv_type_states.proofs.BlockLemmas.{carried, listed, carried_refused, carried_all, listed_all}
+use Rattle.mv_type_states.proofs.BlockLemmas.{carried, listed, carried-none, carried_all, listed_all}
+use Rattle.mv_type_states.proofs.Stacks.{none-after}
 use Rattle.mv_type_states.proofs.passes.carry.Goals as goal
 
 pub loop-instruction-preserved : goal.loop-instruction-preserved
@@ -20,8 +21,9 @@ pub returns-in_err-step-clause-types : goal.returns-in_err-step-clause-types
 returns-in_err-step-clause-types c =
     let p = err_from_is_err_and c.from_residual-in_err-step.result c.from_residual-in_err-step.ensures.1 in
     rw (p.1, p.2)
-    (carried_refused c.args.scope.now.module.now c.args.scope.now.function.now c.args.code.now c.loop-instruction.instruction-index _ (reverse c.loop-instruction.stack.items) _ _ _ _ c.loop-instruction-test.true
-    c.loop-instruction.invariant.leads c.in_err-step.ensures)
+    (none-after _ _ _
+    (carried-none c.args.scope.now.module.now c.args.scope.now.function.now c.args.code.now c.loop-instruction.instruction-index _ (reverse c.loop-instruction.stack.items) _ c.loop-instruction-test.true
+    c.loop-instruction.invariant.leads) c.in_err-step.ensures)
 
 pub returns-clause-types : goal.returns-clause-types
 returns-clause-types c =

@@ -87,7 +87,7 @@ returns-in_err-carry-clause-refused c =
     let is_b = subst (λ (bs : List Block). b ≡ get_or bs k b) same c.block-item.is in
     let p = err_from_is_err_and c.from_residual-in_err-carry.result c.from_residual-in_err-carry.ensures.1 in
     rw (p.1, p.2)
-    (block_refused m d c.args.g.now bs k b c.args.code.now c.loop-block.stack.items _ _ _ below is_b c.requires.code c.loop-block.invariant.empty c.loop-block.invariant.decide c.in_err-carry.ensures.types)
+    (block_refused m d c.args.g.now bs k b c.args.code.now c.loop-block.stack.items _ _ below is_b c.requires.code c.loop-block.invariant.empty c.loop-block.invariant.decide c.in_err-carry.ensures.types)
 
 pub returns-clause-ok : goal.returns-clause-ok
 returns-clause-ok c =

@@ -1,11 +1,11 @@
 use Rattle.mv_type_states.proofs.Common.{reverse, err_from_is_err_and}
-use Rattle.mv_type_states.proofs.Stacks.{two_refused, two_exchanged}
+use Rattle.mv_type_states.proofs.Stacks.{none-after, two-none, two_exchanged}
 use Rattle.mv_type_states.proofs.stack.exchange_two.Goals as goal
 
 pub returns-in_err-pop-clause-types : goal.returns-in_err-pop-clause-types
 returns-in_err-pop-clause-types c =
     let p = err_from_is_err_and c.from_residual.result c.from_residual.ensures.1 in
-    rw (p.1, p.2) (two_refused _ c.args.wanted c.args.given (reverse c.args.stack.now.items) _ _ c.in_err-pop.ensures.types)
+    rw (p.1, p.2) (none-after _ _ _ (two-none c.args.wanted c.args.given (reverse c.args.stack.now.items)) c.in_err-pop.ensures.types)
 
 pub returns-in_err-pop-clause-phase : goal.returns-in_err-pop-clause-phase
 returns-in_err-pop-clause-phase c =

@@ -1,5 +1,6 @@
-use Rattle.mv_type_states.proofs.Common.{◌∙◌, ◌≡◌, ap, refl, reverse, err_from_is_err_and, Module}
-use Rattle.mv_type_states.proofs.Found.{got, missed, signature_at, takes_refused}
+use Rattle.mv_type_states.proofs.Common.{◌++◌, ◌∙◌, ◌≡◌, Some, ap, refl, reverse, err_from_is_err_and, Module, ◌>>=◌}
+use Rattle.mv_type_states.proofs.Found.{got, missed, signature_at}
+use Rattle.mv_type_states.proofs.Stacks.{none-after}
 use Rattle.mv_type_states.proofs.rules.control.call.Goals as goal
 
 pub returns-in_default : goal.returns-in_default
@@ -38,7 +39,7 @@ returns-in_err-pop_all c =
     let results = signature_at m _ _ _ _ home c.from-3.ensures c.in-Some-signature-2.ensures.value in
     let p = err_from_is_err_and c.from_residual.result c.from_residual.ensures.1 in
     rw (p.1, p.2, handle, parameters, results)
-    (takes_refused _ c.in-Some-signature.parameters.now c.in-Some-signature-2.results.now (reverse c.args.stack.now.items) _ _ c.in_err-pop_all.ensures.types)
+    (none-after _ _ _ (λ none. ap (λ o. o >>= λ below. Some (reverse c.in-Some-signature-2.results.now ++ below)) none) c.in_err-pop_all.ensures.types)
 
 pub returns : goal.returns
 returns c =
