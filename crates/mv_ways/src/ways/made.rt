@@ -19,6 +19,12 @@ struct Group {
 /// How many slots there are. Nodes that share none are found with one look.
 const SLOTS: usize = 64;
 
+/// The most groups for which there is room from the start. They take less than 1,024 bytes: a larger allocation takes longer.
+const FEW_GROUPS: usize = 31;
+
+/// How many sources, ways and references more there is room for from the start: those of the next instructions.
+const MORE: usize = 4;
+
 /// The most leads of a node for which there is room from the start.
 const FEW_LEADS: u8 = 8;
 
@@ -94,7 +100,8 @@ impl WayGraph {
         ensures inside { IfOk result (λ groups. IsTrue (are_inside (length self.new.sources) groups.items)) }
         ensures same { OnOk result (edges_of self.new ≡ edges_of self.old) }
     {
-        let mut groups = Vec::with_capacity(alloc, SLOTS)?;
+        let mut groups = Vec::with_capacity(alloc, edges.len().min(FEW_GROUPS))?;
+        self.sources.reserve(edges.len().min(SLOTS) + MORE)?;
         let counts = counts_of(edges);
         let mut places = [usize::MAX; SLOTS];
         for number in 0..edges.len() {
@@ -118,8 +125,9 @@ impl WayGraph {
         requires { IsTrue (are_inside (length self.old.sources) groups.items) }
         ensures { OnOk result (edges_of self.new ≡ edges_of self.old ++ grouped self.old.sources groups.items) }
     {
-        self.ways.reserve(groups.len())?;
-        self.references.reserve(groups.len())?;
+        let room = groups.len().saturating_add(MORE);
+        self.ways.reserve(room)?;
+        self.references.reserve(room)?;
         for group in groups {
             self.refer(group.to, Way::Stated(group.leads))?;
         }
