@@ -1,5 +1,5 @@
 -- The keys that are remembered with their places.
-use Rattle.mv_storage.proofs.Common.{ℕ, ⊎_elim, ◌∙◌, ◌≡◌, ◌⊎◌, List, None, Option, Some, ap, cond, false, slice_get, sym, true, get, key_cmp, same_key, Key, Places}
+use Rattle.mv_storage.proofs.Common.{ℕ, ⊎_elim, ◌∙◌, ◌≡◌, List, None, Option, Some, ap, cond, false, slice_get, sym, true, get, key_cmp, same_key, Key, Places}
 use Rattle.std.proofs.lemmas.Bool.{cases_Bool}
 use Rattle.std.specs.Prelude.{MatchOption}
 use Rattle.std.specs.BTreeMap.{BTreeMap}

@@ -1,10 +1,10 @@
 -- Keys that keep their places.
-use Rattle.mv_storage.proofs.Common.{ℕ, ⊎_elim, ◌∙◌, ◌≡◌, None, Some, ap, cond, false, refl, slice_index_or, sym, true, get, Key, same_key, key_cmp, slot_at, IsSound}
-use Rattle.mv_storage.proofs.Common.{inl, Places, Slot}
+use Rattle.mv_storage.proofs.Common.{ℕ, ⊎_elim, ◌∙◌, ◌≡◌, None, Some, ap, cond, false, refl, sym, true, get, Key, same_key, key_cmp, slot_at}
+use Rattle.mv_storage.proofs.Common.{Places, Slot}
 use Rattle.std.proofs.lemmas.Bool.{cases_Bool}
 use Rattle.mv_storage.specs.Slots.{is_pinned, keeps_place, KeepsPinned}
 use Rattle.mv_storage.proofs.Keys.{same_key-to}
-use Rattle.mv_storage.proofs.PlaceLemmas.{HasAt, HasPlace, place-read}
+use Rattle.mv_storage.proofs.PlaceLemmas.{HasAt, HasPlace}
 
 -- each key that has a place has it still
 abbrev pub KeepsPlaces : Places → Places → Type 0

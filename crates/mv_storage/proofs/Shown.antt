@@ -1,5 +1,5 @@
 -- What slots show, as a map.
-use Rattle.mv_storage.proofs.Common.{[], ℕ, ⊎_elim, ◌++◌, ◌∙◌, ◌∷◌, ◌≡◌, ◌≤◌, Bool, List, None, Option, Some, ap, arith, cond, false, length, refl, slice_get, subst, suc, sym, take, true}
+use Rattle.mv_storage.proofs.Common.{[], ℕ, ⊎_elim, ◌∙◌, ◌∷◌, ◌≡◌, ◌≤◌, List, None, Option, Some, ap, arith, cond, false, length, refl, slice_get, subst, suc, sym, true}
 use Rattle.mv_storage.proofs.Common.{IsOrdered, is_at, lookup, option_and_then, is_eq, is_lt, Less, Key, FlatEntry, key_before, same_key, with_words, without_words, words_under, Ascends}
 use Rattle.mv_storage.proofs.Common.{IsBelow, is_changed, key_cmp, layer_at, shown, value_at, Places, Layer, Committed, Current, Slot, Vacant}
 use Rattle.std.specs.Map.{keys_of}

@@ -1,6 +1,6 @@
 -- What a step of the code on its slots does to what they show.
 use Rattle.mv_storage.proofs.Common.{[], ℕ, ⊎_elim, ◌++◌, ◌||◌, ◌∙◌, ◌∷◌, ◌≡◌, ◌≤◌, Bool, List, None, Option, Some, ap, arith, cond, false, inl, inr, is_some, refl, slice_get}
-use Rattle.mv_storage.proofs.Common.{slice_index_or, slice_set, subst, sym, true, IsOrdered, get, is_at, lookup, option_and_then, Key, FlatEntry, same_key, words_under, AreNoted}
+use Rattle.mv_storage.proofs.Common.{slice_index_or, slice_set, subst, sym, true, IsOrdered, get, is_at, option_and_then, Key, FlatEntry, same_key, words_under, AreNoted}
 use Rattle.mv_storage.proofs.Common.{IsSettling, IsSound, IsTracked, ShowsSame, is_changed, is_vacant, key_cmp, layer_at, of_layer, slot_at, value_at, Places, Layer}
 use Rattle.mv_storage.proofs.Common.{Committed, Current, Slot, Vacant}
 use Rattle.std.specs.BTreeMap.{BTreeMap}

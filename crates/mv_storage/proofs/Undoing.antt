@@ -10,7 +10,7 @@ use Rattle.std.proofs.lemmas.Bool.{cases_Bool}
 use Rattle.mv_undo.specs.Undo.{undone, marks_of, AreMarks}
 use Rattle.mv_undo.proofs.Lasts.{last-same, last-some}
 use Rattle.mv_undo.proofs.Undoing.{marks-noted, marks-append-of, marks-same, undone-none, back-same, AreMarks-back, AreMarks-more, all-append, all-before, all-behind}
-use Rattle.mv_storage.specs.Slots.{keeps_place, ArePlaced, AreKept, IsForgotten, IsPinned, KeepsPinned, IsSettled, ShowsAt}
+use Rattle.mv_storage.specs.Slots.{keeps_place, ArePlaced, AreKept, IsForgotten, IsPinned, IsRemembered, KeepsPinned, IsSettled, ShowsAt}
 use Rattle.mv_storage.specs.Work.{IsAtWork}
 use Rattle.mv_storage.specs.declared.slots.Work.{Work}
 use Rattle.mv_storage.specs.declared.overlay.Overlay.{Overlay}
@@ -200,11 +200,11 @@ settled-tracked n touched s = record {
   placed = subst (ArePlaced n.tree) (sym s.none) tt;
 }
 
-pub settled-at_work : (w : Work) → IsSettled w.places w.touched.items → IsForgotten w.known.lines → IsAtWork w
-settled-at_work w s forgotten = record { tracked = settled-tracked w.places w.touched.items s; remembered = forgotten w.places.tree }
+pub settled-at_work : (w : Work) → IsSettled w.places w.touched.items → IsRemembered w.places.tree w.known.lines → IsAtWork w
+settled-at_work w s remembered = record { tracked = settled-tracked w.places w.touched.items s; remembered = remembered }
 
 pub kept-at_work : (w : Work) → IsSound w.places → AreKept w.places → w.touched.items ≡ [] → IsForgotten w.known.lines → IsAtWork w
-kept-at_work w sound kept none forgotten = settled-at_work w (record { sound = sound; kept = kept; none = none }) forgotten
+kept-at_work w sound kept none forgotten = settled-at_work w (record { sound = sound; kept = kept; none = none }) (forgotten w.places.tree)
 
 -- what places show stays, and so does what was committed at the marks
 pub contents-same : (m n : Places) (us : List Undone) (ms : List ℕ) → IsSound m → IsSound n → ShowsSame Committed m n → ShowsSame Current m n → contents n us ms ≡ contents m us ms

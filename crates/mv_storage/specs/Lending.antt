@@ -6,7 +6,7 @@ use mathlib.Core.Option as maybe
 use mir.Syntax.{named}
 use Rattle.mv_move_types.specs.declared.tables.Key.{Key}
 use Rattle.mv_storage.specs.WordLists.{laid_over}
-use Rattle.mv_storage.specs.Map.{Layers, overwritten, written_if}
+use Rattle.mv_storage.specs.Map.{overwritten, written_if}
 use Rattle.mv_storage.specs.Slots.{written_versions, written_slot, written_at}
 use Rattle.mv_storage.specs.declared.slot.Slot.{Slot}
 use Rattle.mv_storage.specs.declared.slot.Versions.{Versions}

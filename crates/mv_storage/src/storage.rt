@@ -226,6 +226,7 @@ impl Storage {
         self.work.settle(Layer::Committed);
         match self.marks.end() {
             Some(mark) => {
+                self.work.known.forget();
                 take_back(&mut self.work.places, &mut self.undo, mark);
                 close(
                     &mut self.work.places,
@@ -249,6 +250,7 @@ impl Storage {
         self.work.settle(Layer::Committed);
         match self.marks.end() {
             Some(_mark) => {
+                self.work.known.forget();
                 close(
                     &mut self.work.places,
                     &mut self.undo,

@@ -4,9 +4,10 @@ use Rattle.mv_storage.proofs.slots.settle_all.Goals as goal
 
 pub loop-key-init : goal.loop-key-init
 loop-key-init c = record {
-  sound = c.requires.sound;
-  noted = c.requires.noted;
-  settling = settling-placed c.args.places.now c.args.touched.now.items c.requires.placed;
+  sound = c.requires.tracked.sound;
+  noted = c.requires.tracked.noted;
+  remembered = c.requires.remembered;
+  settling = settling-placed c.args.places.now c.args.touched.now.items c.requires.tracked.placed;
   same = λ q. refl;
   pinned = λ is q place h. h;
 }
@@ -22,9 +23,10 @@ loop-key-preserved c =
     let n = c.settle_one.new.places in
     let rest = c.pop.new.self.items in
     record {
-      sound = c.settle_one.ensures.sound;
-      noted = noted-rest p n rest (c.in-Some.key, c.in-Some.place) (subst (AreNoted p) c.in-Some.ensures.items c.loop-key.invariant.noted) c.settle_one.ensures.settled c.settle_one.ensures.others;
-      settling = settling-rest p n rest (c.in-Some.key, c.in-Some.place) c.settle_one.ensures.settling (subst (AreSettling p) c.in-Some.ensures.items c.loop-key.invariant.settling);
-      same = λ q. c.settle_one.ensures.same q ∙ c.loop-key.invariant.same q;
-      pinned = λ is q place h. c.settle_one.ensures.pinned is q place (c.loop-key.invariant.pinned is q place h);
+      sound = c.settle_one.ensures.at.sound;
+      remembered = c.settle_one.ensures.remembered;
+      noted = noted-rest p n rest (c.in-Some.key, c.in-Some.place) (subst (AreNoted p) c.in-Some.ensures.items c.loop-key.invariant.noted) c.settle_one.ensures.at.settled c.settle_one.ensures.at.others;
+      settling = settling-rest p n rest (c.in-Some.key, c.in-Some.place) c.settle_one.ensures.at.settling (subst (AreSettling p) c.in-Some.ensures.items c.loop-key.invariant.settling);
+      same = λ q. c.settle_one.ensures.at.same q ∙ c.loop-key.invariant.same q;
+      pinned = λ is q place h. c.settle_one.ensures.at.pinned is q place (c.loop-key.invariant.pinned is q place h);
     }

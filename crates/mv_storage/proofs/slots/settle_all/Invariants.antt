@@ -1,12 +1,13 @@
 use Rattle.mv_storage.proofs.Common.{◌≡◌, length, AreNoted, IsSound, ShowsSame, Committed}
-use Rattle.mv_storage.specs.Slots.{KeepsPinned}
+use Rattle.mv_storage.specs.Slots.{IsRemembered, KeepsPinned}
 use Rattle.mv_storage.proofs.slots.settle_all.Given as goal
 use Rattle.mv_storage.proofs.Steps.{AreSettling}
 
--- what is left to touch holds each slot that is changed, and the layer shows what it showed
+-- what is left to touch holds each slot that is changed, the layer shows what it showed, and what is remembered is so
 abbrev pub invariant-loop-key : goal.invariant-loop-key
 invariant-loop-key l = record {
   sound : IsSound l.places;
+  remembered : IsRemembered l.places.tree l.known.lines;
   noted : AreNoted l.places l.touched.items;
   settling : AreSettling l.places l.touched.items;
   same : ShowsSame l.layer l.initial.places l.places;

@@ -6,13 +6,13 @@ use Rattle.mv_storage.proofs.PlaceLemmas.{place-read}
 use Rattle.mv_storage.proofs.Steps.{settles-none, settles-kept, settles-removed}
 use Rattle.mv_storage.proofs.slots.settle_one.Goals as goal
 
-pub returns-then-is_vacant : goal.returns-then-is_vacant
-returns-then-is_vacant c =
+pub returns-then-is_vacant-clause-at : goal.returns-then-is_vacant-clause-at
+returns-then-is_vacant-clause-at c =
     settles-none c.args.layer c.args.places.now _ c.args.key.now c.args.place c.index_mut-slot.result.now c.requires.sound c.requires.settling c.index_mut-slot.ensures.value
     c.if-is_vacant.ensures refl refl
 
-pub returns-then-settle : goal.returns-then-settle
-returns-then-settle c =
+pub returns-then-settle-clause-at : goal.returns-then-settle-clause-at
+returns-then-settle-clause-at c =
     settles-kept c.args.layer c.args.places.now _ c.args.key.now c.args.place c.index_mut-slot.result.now c.settle.new.self c.requires.sound c.requires.settling c.index_mut-slot.ensures.value
     c.if-is_vacant.ensures refl refl c.settle.ensures.used (c.settle.ensures.kept c.if-settle.true) c.settle.ensures.same (λ is was. (c.settle.ensures.pinned is was).1)
 
@@ -23,8 +23,8 @@ remove-requires c =
     let read = place-read c.args.places.now c.args.key.now c.args.place s c.requires.sound c.requires.settling c.index_mut-slot.ensures.value in
     omega (arith, length-set slots c.args.place c.settle.new.self, slice_get_within slots c.args.place s read)
 
-pub returns : goal.returns
-returns c =
+pub returns-clause-at : goal.returns-clause-at
+returns-clause-at c =
     settles-removed c.args.layer c.args.places.now c.remove.new.self c.args.key.now c.args.place c.index_mut-slot.result.now c.settle.new.self c.requires.sound c.requires.settling c.index_mut-slot.ensures.value
     c.if-is_vacant.ensures (c.settle.ensures.there c.if-settle.false) loose c.remove.ensures.ordered c.remove.ensures.tree c.remove.ensures.slots
   where

@@ -14,7 +14,7 @@ use Rattle.mv_storage.proofs.overlay.Overlay.commit.Goals as goal
 
 pub invariant_of-storage : goal.invariant_of-storage
 invariant_of-storage c = (
-  settled-at_work c.settle.new.self c.settle.ensures.settled c.settle.ensures.forgotten,
+  settled-at_work c.settle.new.self c.settle.ensures.settled c.settle.ensures.remembered,
   undoable-none c.settle.new.self.places c.storage.inside.undo.items (c.storage.invariant.3 (c.if-is_empty.ensures.empty refl)),
   c.storage.invariant.2,
   c.storage.invariant.3,
@@ -58,7 +58,7 @@ note_all-requires-clause-undoable c = subst (IsUndoable c.storage.inside.work.pl
 pub invariant_of-storage-2 : goal.invariant_of-storage-2
 invariant_of-storage-2 c =
     let more = subst (λ (us : List Undone). AreMarks c.storage.inside.marks (length us)) (sym c.reserve.ensures.items) c.storage.invariant.2 in (
-      settled-at_work _ c.note_all.ensures.settled c.forget.ensures,
+      settled-at_work _ c.note_all.ensures.settled (c.forget.ensures c.note_all.new.places.tree),
       c.note_all.ensures.noted.undoable,
       AreMarks-more c.storage.inside.marks (length c.reserve.new.self.items) (length c.note_all.new.undo.items) c.note_all.ensures.noted.more more,
       λ none. (let no : false ≡ true = c.if-is_empty.ensures.open none in absurd (let x : ⊥ = cc in x)),

@@ -1,5 +1,5 @@
 use Rattle.mv_storage.proofs.Common.{ℕ, ◌<◌, ◌∙◌, ◌≡◌, List, None, Some, ap, arith, cond, inr, refl, subst, sym, slice_get_within, get, is_at, lookup, option_and_then, slice_get, IsTracked}
-use Rattle.mv_storage.proofs.Common.{Key, same_key, key_cmp, layer_at, slot_at, Places}
+use Rattle.mv_storage.proofs.Common.{Key, key_cmp, layer_at, slot_at, Places}
 use Rattle.mv_storage.specs.declared.slot.Slot.{Slot}
 use Rattle.mv_storage.specs.declared.slot.Slot.TheVariants.{Empty}
 use Rattle.mv_storage.proofs.Keys.{same_key-refl}

@@ -1,4 +1,4 @@
-use Rattle.mv_storage.proofs.Common.{◌∙◌, ◌≡◌, None, Some, ap, cond, false, inl, refl, subst, sym, on_err_weaker, on_ok_weaker, with_item, layer_at, of_layer, same_key, is_vacant, slot_at, Places, Slot, Committed, Current}
+use Rattle.mv_storage.proofs.Common.{◌∙◌, ◌≡◌, Some, ap, cond, false, inl, refl, subst, sym, on_err_weaker, on_ok_weaker, with_item, layer_at, of_layer, same_key, is_vacant, slot_at, Places, Slot, Committed, Current}
 use Rattle.mv_storage.proofs.PlaceLemmas.{place-read}
 use Rattle.mv_storage.proofs.SlotReads.{at-err, place-within}
 use Rattle.mv_storage.proofs.Steps.{slot-read, wrote}

@@ -1,4 +1,4 @@
-use Rattle.mv_storage.proofs.Common.{[], ◌++◌, ◌∙◌, ◌∷◌, ◌≡◌, ℕ, List, ap, length, refl, subst, sym, on_err_weaker, on_ok_weaker, Committed}
+use Rattle.mv_storage.proofs.Common.{[], ◌++◌, ◌∙◌, ◌∷◌, ◌≡◌, ℕ, List, ap, length, subst, sym, on_err_weaker, on_ok_weaker, Committed}
 use Rattle.std.proofs.Common.{ap₂}
 use Rattle.std.specs.Prelude.{OnErr, OnOk, Result, Ok, Err}
 use Rattle.std.specs.declared.alloc.AllocError.{AllocError}

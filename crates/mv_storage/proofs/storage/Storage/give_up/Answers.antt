@@ -8,7 +8,7 @@ use Rattle.mv_storage.proofs.storage.Storage.give_up.Goals as goal
 
 pub invariant_of-self : goal.invariant_of-self
 invariant_of-self c = (
-  settled-at_work c.settle.new.self c.settle.ensures.settled c.settle.ensures.forgotten,
+  settled-at_work c.settle.new.self c.settle.ensures.settled c.settle.ensures.remembered,
   keeps-undoable c.self.inside.work.places c.settle.new.self.places c.self.inside.undo.items (c.settle.ensures.pinned refl) c.self.invariant.1,
   c.self.invariant.2,
   c.self.invariant.3,

@@ -15,7 +15,7 @@ pub invariant_of-self : goal.invariant_of-self
 invariant_of-self c =
     let n = length c.self.inside.undo.items in
     let marks = c.end.new.self in (
-      kept-at_work _ c.close.ensures.sound c.close.ensures.kept c.settle.ensures.settled.none c.settle.ensures.forgotten,
+      kept-at_work _ c.close.ensures.sound c.close.ensures.kept c.settle.ensures.settled.none c.forget.ensures,
       c.close.ensures.undoable,
       c.close.ensures.fits (AreMarks-before marks c.in-Some._mark n (subst (λ (ms : List ℕ). AreMarks ms n) c.in-Some.ensures c.self.invariant.2)),
       c.close.ensures.none,
@@ -23,7 +23,7 @@ invariant_of-self c =
 
 pub invariant_of-self-in-None : goal.invariant_of-self-in-None
 invariant_of-self-in-None c = (
-  settled-at_work c.settle.new.self c.settle.ensures.settled c.settle.ensures.forgotten,
+  settled-at_work c.settle.new.self c.settle.ensures.settled c.settle.ensures.remembered,
   keeps-undoable c.self.inside.work.places c.settle.new.self.places c.self.inside.undo.items (c.settle.ensures.pinned refl) c.self.invariant.1,
   subst (λ (ms : List ℕ). AreMarks ms (length c.self.inside.undo.items)) (sym c.in-None.ensures.1) tt,
   λ e. c.self.invariant.3 c.in-None.ensures.0,
