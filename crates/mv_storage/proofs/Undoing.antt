@@ -1,7 +1,7 @@
 -- Changes of storage that are noted and taken back.
 use Rattle.mv_storage.proofs.Common.{[], ℕ, ⊎_elim, ◌++◌, ◌∙◌, ◌∷◌, ◌≡◌, ◌≤◌, ◌⊎◌, List, None, Option, Some, ap, arith, cond, false, inl, inr, length, refl, subst, sym, true, get, IsOrdered, Bool, Key, FlatEntry}
 use Rattle.mv_storage.proofs.Common.{same_key, key_cmp, words_under, Ascends, slot_at, value_at, is_changed, ShowsSame, IsSound, IsSettling, IsTracked}
-use Rattle.mv_storage.proofs.Common.{Places, Slot, Committed, Current}
+use Rattle.mv_storage.proofs.Common.{layer_at, of_layer, option_and_then, slice_get, slice_index_or, with_words, without_words, Places, Slot, Committed, Current}
 use Rattle.std.proofs.Common.{◌+◌, drop, length-append}
 use Rattle.std.specs.Prelude.{◌&&◌, nat_lt}
 use Rattle.mv_storage.specs.Map.{Layers, written, written_if}
@@ -20,7 +20,7 @@ use Rattle.mv_storage.proofs.Keys.{same_key-to}
 use Rattle.mv_storage.proofs.Maps.{words_under-with_words, words_under-without_words, Ascends-with_words, Ascends-without_words, entries_from_words}
 use Rattle.mv_storage.proofs.PlaceLemmas.{HasAt}
 use Rattle.mv_storage.proofs.Shown.{shown_of, words_under-shown, shown-same, shown-with, shown-without, layers-same, Ascends-shown}
-use Rattle.mv_storage.proofs.Steps.{layers-equal}
+use Rattle.mv_storage.proofs.Steps.{layers-equal, reads, slot-read}
 
 -- ---- a value under one key, or none
 
@@ -215,6 +215,50 @@ contents-same m n us ms s t committed current =
 -- an overlay over storage that is seen so
 abbrev pub over : Overlay → Layers → Overlay
 over o l = record o { storage = record (o.storage) { now = l } }
+
+-- ---- what a run sees, and what a step of it leaves
+
+pub seen : (m : Places) (us : List Undone) (ms : List ℕ) (was : Layers) (k : Key) → IsSound m → contents m us ms ≡ was → value_at Current m k ≡ words_under was.current k
+seen m us ms was k sound is = sym (reads Current m k (slot_at m k) sound.ordered refl) ∙ ap (λ (l : Layers). words_under l.current k) is
+
+-- a slot that the code has read
+pub seen-in : (m : Places) (us : List Undone) (ms : List ℕ) (was : Layers) (k : Key) (p : ℕ) (s : Slot) → IsSound m → get key_cmp m.tree k ≡ Some p → s ≡ slice_index_or m.slots.items p s → contents m us ms ≡ was
+    → of_layer Current s ≡ words_under was.current k
+seen-in m us ms was k p s sound at read is = ap (layer_at Current) (sym (slot-read m k p s sound at read)) ∙ seen m us ms was k sound is
+
+-- a key that has no place
+pub seen-none : (m : Places) (us : List Undone) (ms : List ℕ) (was : Layers) (k : Key) → IsSound m → get key_cmp m.tree k ≡ None → contents m us ms ≡ was → None ≡ words_under was.current k
+seen-none m us ms was k sound none is = ap (λ o. layer_at Current (option_and_then (slice_get m.slots.items) o)) (sym none) ∙ seen m us ms was k sound is
+
+-- what holds of storage where a run is at work
+abbrev pub Holds : Work → List Undone → List ℕ → Type 0
+Holds w us ms = IsAtWork w × IsUndoable w.places us × AreMarks ms (length us) × (ms ≡ [] → us ≡ [])
+
+-- what was seen of storage before the step, and what is seen of it now
+pub record Stepped (old new : Work) (us : List Undone) (ms : List ℕ) (was : Layers) : Type 0 where
+  pub holds : Holds new us ms
+  pub committed : (contents new.places us ms).committed ≡ was.committed
+  pub marks : (contents new.places us ms).marks ≡ was.marks
+  pub same : ShowsSame Current old.places new.places → contents new.places us ms ≡ was
+  pub put : (k : Key) (words : List ℕ) → ShowsAt Current k (Some words) old.places new.places → (contents new.places us ms).current ≡ with_words was.current k words
+  pub taken : (k : Key) → ShowsAt Current k None old.places new.places → (contents new.places us ms).current ≡ without_words was.current k
+
+pub stepped : (old new : Work) (us : List Undone) (ms : List ℕ) (was : Layers) → Holds old us ms → IsAtWork new → KeepsPinned old.places new.places → ShowsSame Committed old.places new.places
+    → contents old.places us ms ≡ was → Stepped old new us ms was
+stepped old new us ms was had now keeps committed is =
+    let m = old.places in
+    let n = new.places in
+    let s = had.0.tracked.sound in
+    let t = now.tracked.sound in
+    let left = shown-same Committed Committed m n s.ordered t.ordered committed in
+    record {
+      holds = (now, keeps-undoable m n us keeps had.1, had.2, had.3);
+      committed = left ∙ ap (λ (l : Layers). l.committed) is;
+      marks = ap (marks_of back us ms) left ∙ ap (λ (l : Layers). l.marks) is;
+      same = λ current. contents-same m n us ms s t committed current ∙ is;
+      put = λ k words shows. shown-with Current m n k words s.ordered t.ordered shows ∙ ap (λ (l : Layers). with_words l.current k words) is;
+      taken = λ k shows. shown-without Current m n k s.ordered t.ordered shows ∙ ap (λ (l : Layers). without_words l.current k) is;
+    }
 
 -- ---- keys that are left to take out
 

@@ -4,12 +4,13 @@ ghost use Rattle.mv_move_types.specs.declared.tables.Key.{Key};
 ghost use Rattle.mv_storage.specs.WordLists.{piece};
 ghost use Rattle.mv_storage.specs.FlatStorage.{words_under, with_words, without_words};
 ghost use Rattle.mv_storage.specs.Map.{Ascends};
-ghost use Rattle.std.specs.Prelude.{ℕ, true, false, nat_lt, Some, Ok, Err};
+ghost use Rattle.std.specs.Prelude.{true, false, Some, Ok, Err};
 ghost use Rattle.std.specs.Borrow.{sem};
 ghost use Rattle.mv_storage.specs.Lending.{LendsLent, LendsWords, lent_words};
 
 use crate::blocks::note_all;
 use crate::slot::Layer;
+use crate::slots::{own_place, part};
 use crate::{Room, Storage, Value};
 use mv_move_types::Key;
 use std::alloc::{AllocError, Global};
@@ -30,45 +31,6 @@ impl Drop for Overlay<'_> {
         let Self { storage } = self;
         storage.give_up();
     }
-}
-
-// The words so far after a place, so many.
-#[inline]
-fn part(words: &[u128], from: usize, width: usize) -> &[u128]
-    requires { from + width ≤ length words.now }
-    ensures { result.now ≡ take width (drop from words.now) }
-{
-    &words[from..from + width]
-}
-
-// The place of words that the run has to itself, if any are wanted; and whether so many are there, and whether the run has them.
-#[inline(always)]
-fn own_place(
-    own: Result<Option<usize>, AllocError>,
-    width: usize,
-    there: &mut bool,
-    lent: &mut bool,
-) -> Option<usize>
-    ensures there { IfOk own (λ found. there.new ≡ is_some found) }
-    ensures refused { OnErr own (there.new ≡ true) }
-    ensures lent { lent.new ≡ true → (p : ℕ) × (own ≡ Ok (Some p)) }
-    ensures place { MatchOption result (nat_lt 0 width ≡ true → lent.new ≡ false) (λ p. (own ≡ Ok (Some p)) × (1 ≤ width) × (lent.new ≡ true)) }
-{
-    let found = match own {
-        Ok(found) => {
-            *there = found.is_some();
-            found
-        }
-        Err(_) => {
-            *there = true;
-            None
-        }
-    };
-    *lent = found.is_some();
-    if width == 0 {
-        return None;
-    }
-    found
 }
 
 // The answer where words are lent.

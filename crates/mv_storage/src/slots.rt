@@ -1,6 +1,6 @@
 // What a run does to the slots of keys, and the keys of those that it has changed, each with its place. The keys that were
 // looked up last are remembered with their places, so that no search is needed as long as few of them take turns.
-ghost use Rattle.std.specs.Prelude.{◌≡◌, ℕ, None, Some, IfOk, OnOk, OnErr, false, true, is_some, option_and_then};
+ghost use Rattle.std.specs.Prelude.{◌≡◌, ◌≤◌, ◌+◌, ℕ, nat_lt, length, take, drop, None, Some, Ok, MatchOption, IfOk, IfSome, OnOk, OnErr, false, true, is_some, option_and_then};
 ghost use Rattle.std.specs.List.{list_any};
 ghost use Rattle.std.specs.BTreeMap.{BTreeMap, get};
 ghost use Rattle.mv_move_types.specs.declared.tables.Key.{Key};
@@ -8,7 +8,6 @@ ghost use Rattle.mv_machine.specs.State.{same_key};
 ghost use Rattle.mv_storage.specs.WordLists.{piece};
 ghost use Rattle.mv_storage.specs.Slots.{key_cmp, value_at, ShowsSame, ShowsAt, is_change, KeepsPinned, IsRemembered, IsSound, ArePlaced, IsSettling, IsSettledAt, IsTracked, IsSettled, IsOwnAt};
 ghost use Rattle.mv_storage.specs.Work.{IsAtWork};
-ghost use Rattle.std.specs.Prelude.{◌≤◌, IfSome};
 ghost use Rattle.mv_storage.specs.declared.slot.Layer.{Layer};
 ghost use Rattle.mv_storage.specs.declared.slot.Layer.TheVariants.{Committed, Current};
 
@@ -44,6 +43,45 @@ fn note(
         touched.push((key, place))?;
     }
     Ok(())
+}
+
+// The words so far after a place, so many.
+#[inline]
+pub(crate) fn part(words: &[u128], from: usize, width: usize) -> &[u128]
+    requires { from + width ≤ length words.now }
+    ensures { result.now ≡ take width (drop from words.now) }
+{
+    &words[from..from + width]
+}
+
+// The place of words that the run has to itself, if any are wanted; and whether so many are there, and whether the run has them.
+#[inline(always)]
+pub(crate) fn own_place(
+    own: Result<Option<usize>, AllocError>,
+    width: usize,
+    there: &mut bool,
+    lent: &mut bool,
+) -> Option<usize>
+    ensures there { IfOk own (λ found. there.new ≡ is_some found) }
+    ensures refused { OnErr own (there.new ≡ true) }
+    ensures lent { lent.new ≡ true → (p : ℕ) × (own ≡ Ok (Some p)) }
+    ensures place { MatchOption result (nat_lt 0 width ≡ true → lent.new ≡ false) (λ p. (own ≡ Ok (Some p)) × (1 ≤ width) × (lent.new ≡ true)) }
+{
+    let found = match own {
+        Ok(found) => {
+            *there = found.is_some();
+            found
+        }
+        Err(_) => {
+            *there = true;
+            None
+        }
+    };
+    *lent = found.is_some();
+    if width == 0 {
+        return None;
+    }
+    found
 }
 
 impl Work {

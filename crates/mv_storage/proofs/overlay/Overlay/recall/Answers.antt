@@ -1,19 +1,14 @@
-use Rattle.mv_storage.proofs.Common.{◌∙◌, ◌≡◌, None, Some, ap, is_some, option_and_then, slice_get, sym, Current, slot_at}
-use Rattle.mv_storage.proofs.Steps.{reads, slot-read}
+use Rattle.mv_storage.proofs.Common.{◌∙◌, ap, is_some, sym}
+use Rattle.mv_storage.proofs.Undoing.{seen-in, seen-none}
 use Rattle.mv_storage.proofs.overlay.Overlay.recall.Goals as goal
 
 pub returns-in-Some-clause-found : goal.returns-in-Some-clause-found
 returns-in-Some-clause-found c =
-    let m = c.storage.inside.work.places in
-    let k = c.args.key.now in
-    let s = c.index.result.now in
-    let sound = c.storage.invariant.0.tracked.sound in
-    let is : slot_at m k ≡ Some s = slot-read m k c.in-Some.place s sound (sym c.in-Some.ensures.place) c.index.ensures in
-    rw (← c.storage.view_is) (c.is_seen.ensures ∙ ap is_some (sym (reads Current m k (Some s) sound.ordered (sym is))))
+    let s = c.storage.inside in
+    c.is_seen.ensures
+    ∙ ap is_some (seen-in s.work.places s.undo.items s.marks _ c.args.key.now c.in-Some.place c.index.result.now c.storage.invariant.0.tracked.sound (sym c.in-Some.ensures.place) c.index.ensures c.storage.view_is)
 
 pub returns-in-None-clause-found : goal.returns-in-None-clause-found
 returns-in-None-clause-found c =
-    let m = c.storage.inside.work.places in
-    let k = c.args.key.now in
-    let none : slot_at m k ≡ None = ap (option_and_then (slice_get m.slots.items)) (sym c.recall.ensures.place ∙ c.in-None.is) in
-    rw (← c.storage.view_is) (ap is_some (sym (reads Current m k None c.storage.invariant.0.tracked.sound.ordered (sym none))))
+    let s = c.storage.inside in
+    ap is_some (seen-none s.work.places s.undo.items s.marks _ c.args.key.now c.storage.invariant.0.tracked.sound (sym c.recall.ensures.place ∙ c.in-None.is) c.storage.view_is)
