@@ -70,3 +70,13 @@ pub struct Tally {
     pub packs: u128,
     pub unpacks: u128,
 }
+
+/// How often a run made values of a struct, and took them apart. The struct is named by its module's place in the order of
+/// publication and its definition's index.
+#[derive(Clone, Copy, PartialEq, Eq, Debug)]
+pub struct StructTally {
+    pub place: u16,
+    pub index: u16,
+    pub packs: u64,
+    pub unpacks: u64,
+}

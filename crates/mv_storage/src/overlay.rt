@@ -59,7 +59,7 @@ impl Overlay<'_> {
         storage.alloc
     }
 
-    /// Takes out the memory that is kept for the words of a run. Nothing else changes.
+    /// Takes out the memory that is kept for the words of a run, and for its tally. Nothing else changes.
     pub fn take_room(&mut self) -> Room
         ensures same { self.new ≡ self.old }
     {
@@ -67,7 +67,8 @@ impl Overlay<'_> {
         replace(&mut storage.room, Room::new(storage.alloc))
     }
 
-    /// Keeps memory for the words of the next run: 64 MiB for locals and 1 MiB for operands at most. Nothing else changes.
+    /// Keeps memory for the words of the next run, 64 MiB for locals and 1 MiB for operands at most, and for its tally. Nothing else
+    /// changes.
     pub fn keep_room(&mut self, room: Room)
         ensures same { self.new ≡ self.old }
     {

@@ -12,10 +12,11 @@ use crate::blocks::{Undone, close, take_back};
 use crate::changes::{Changes, firsts, newest};
 use crate::known::Known;
 use crate::places::Places;
-use crate::room::Room;
+use crate::room::{MOST_TALLIED, Room};
 use crate::slot::Layer;
 use crate::slots::Work;
 use crate::{Entries, Overlay};
+use mv_machine::StructTally;
 use mv_move_types::{Address, Key};
 use mv_undo::Marks;
 use std::alloc::{AllocError, Global};
@@ -28,7 +29,7 @@ use std::ops::RangeBounds;
 #[derive(Drop)]
 pub struct Storage {
     pub(crate) work: Work,
-    // memory for the words of the next run
+    // memory for the words of the next run, and for its tally
     pub(crate) room: Room,
     // what was committed since the oldest open block was begun, and how much of it when each open block was
     pub(crate) undo: Vec<Undone>,
@@ -180,6 +181,16 @@ impl Storage {
         ensures { Ascends self.now.committed }
     {
         let _work = &self.work;
+    }
+
+    /// Keeps a list for the tally of the next run, unless it has room for more than 4,096 structs. What it holds means nothing.
+    /// Nothing else changes.
+    pub fn keep_tally(&mut self, tally: Vec<StructTally>)
+        ensures same { self.new ≡ self.old }
+    {
+        if tally.capacity() <= MOST_TALLIED {
+            self.room.tally = tally;
+        }
     }
 
     /// The storage for a run to change. It is lent to the overlay, and holds what was committed by then once that is gone.
