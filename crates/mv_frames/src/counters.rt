@@ -6,53 +6,42 @@ ghost use Rattle.mv_frames.specs.Counters.{count_in, one_more, one_more_in, tall
 ghost use Rattle.mv_frames.specs.Counters.{counts_in, IsIndexed};
 
 use crate::Halt;
+use mv_machine::StructTally;
 use mv_move_types::Definition;
 use std::alloc::{AllocError, Global};
 use std::collections::BTreeMap;
 use std::marker::Model;
 
-/// How often a run made values of a struct, and took them apart. The struct is named by its module's place in the order of
-/// publication and its definition's index.
-#[derive(Clone, Copy, PartialEq, Eq, Debug)]
-pub struct StructTally {
-    pub place: u16,
-    pub index: u16,
-    pub packs: u64,
-    pub unpacks: u64,
+// The first value of a struct.
+fn first(is_pack: bool, d: Definition) -> StructTally
+    ensures { result ≡ tally_of d (one_more is_pack no_count) }
+{
+    StructTally {
+        place: d.place,
+        index: d.index,
+        packs: u64::from(is_pack),
+        unpacks: u64::from(!is_pack),
+    }
 }
 
-impl StructTally {
-    // The first value of a struct.
-    fn first(is_pack: bool, d: Definition) -> Self
-        ensures { result ≡ tally_of d (one_more is_pack no_count) }
-    {
-        StructTally {
-            place: d.place,
-            index: d.index,
-            packs: u64::from(is_pack),
-            unpacks: u64::from(!is_pack),
-        }
-    }
+// Whether a tally is a struct's.
+#[inline(always)]
+fn is_of(tally: &StructTally, d: Definition) -> bool
+    ensures { result ≡ is_tally_at d.place d.index tally.now }
+{
+    tally.place == d.place && tally.index == d.index
+}
 
-    // Whether it is a struct's.
-    #[inline(always)]
-    fn is_of(&self, d: Definition) -> bool
-        ensures { result ≡ is_tally_at d.place d.index self.now }
-    {
-        self.place == d.place && self.index == d.index
-    }
-
-    // Counts one value more.
-    #[inline(always)]
-    fn add(&mut self, is_pack: bool)
-        requires { IsBelow (2 ^ 64 - 1) (count_in self.old) }
-        ensures { self.new ≡ one_more_in is_pack self.old }
-    {
-        if is_pack {
-            self.packs += 1;
-        } else {
-            self.unpacks += 1;
-        }
+// Counts one value more.
+#[inline(always)]
+fn add(tally: &mut StructTally, is_pack: bool)
+    requires { IsBelow (2 ^ 64 - 1) (count_in tally.old) }
+    ensures { tally.new ≡ one_more_in is_pack tally.old }
+{
+    if is_pack {
+        tally.packs += 1;
+    } else {
+        tally.unpacks += 1;
     }
 }
 
@@ -83,7 +72,7 @@ fn find_first(tallies: &[StructTally], d: Definition) -> Option<usize>
     ensures { MatchOption result ((i : ℕ) → i < first_few → IsAt (map struct_of tallies.now) d i → ⊥) (IsAt (map struct_of tallies.now) d) }
 {
     for place in 0..tallies.len().min(FIRST_FEW) {
-        if tallies[place].is_of(d) {
+        if is_of(&tallies[place], d) {
             return Some(place);
         }
     }
@@ -150,7 +139,7 @@ fn count_first(
     let place = tallies.len();
     tallies.reserve(1)?;
     note_place(places, d, place)?;
-    tallies.push_reserved(StructTally::first(is_pack, d));
+    tallies.push_reserved(first(is_pack, d));
     Ok(())
 }
 
@@ -165,7 +154,7 @@ pub struct Counters {
 
 impl Model for Counters {
     ghost use Rattle.std.specs.Prelude.{List};
-    ghost use Rattle.mv_frames.specs.declared.counters.StructTally.{StructTally};
+    ghost use Rattle.mv_machine.specs.declared.StructTally.{StructTally};
     ghost use Rattle.mv_frames.specs.Counters.{placed_in, IsIndexed};
 
     ghost Value = { List StructTally };
@@ -186,6 +175,17 @@ impl Counters {
         }
     }
 
+    /// Nothing is counted, in the memory of a list. What the list holds means nothing.
+    pub fn with_list(alloc: Global, mut list: Vec<StructTally>) -> Self
+        ensures { result ≡ [] }
+    {
+        list.clear();
+        Counters {
+            tallies: list,
+            places: BTreeMap::new(alloc),
+        }
+    }
+
     /// Counts one more value of a struct, made or taken apart. It takes memory only for the first value of a struct.
     ///
     /// # Errors
@@ -199,7 +199,7 @@ impl Counters {
     {
         match find(&self.tallies, &self.places, d) {
             Some(place) => {
-                self.tallies[place].add(is_pack);
+                add(&mut self.tallies[place], is_pack);
                 Ok(())
             }
             None => count_first(&mut self.tallies, &mut self.places, is_pack, d),

@@ -21,7 +21,8 @@ mod frame;
 mod halt;
 mod words;
 
-pub use counters::{Counters, StructTally};
+pub use counters::Counters;
 pub use frame::{Frame, Top};
 pub use halt::Halt;
+pub use mv_machine::StructTally;
 pub use words::Words;

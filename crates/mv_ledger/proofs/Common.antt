@@ -29,7 +29,7 @@ pub use Rattle.mv_binary_format.proofs.Fitting.{few_structs}
 pub use Rattle.mv_binary_format.specs.Laws.{IsReadByText}
 pub use Rattle.mv_module_text.specs.Fits.{address_fits}
 pub use Rattle.mv_frames.specs.Counters.{AtMost, Count, packs_at, unpacks_at}
-pub use Rattle.mv_frames.specs.declared.counters.StructTally.{StructTally}
+pub use Rattle.mv_machine.specs.declared.StructTally.{StructTally}
 pub use Rattle.mv_storage.specs.Map.{Layers}
 pub use Rattle.mv_machine.specs.Count.{count}
 pub use Rattle.mv_machine.specs.Flat.{FlatEntry, storage_of}

@@ -78,7 +78,7 @@ pub use Rattle.mv_module_text.specs.Laws.{AreBytes}
 pub use Rattle.mv_module_text.specs.Parsing.{Read, address_from, byte_from, bytes_from, counted_from, entries_from, identifier_from, kind_of}
 pub use Rattle.mv_module_text.specs.Reads.{Reads}
 pub use Rattle.mv_frames.specs.Counters.{AtMost, is_tally_at}
-pub use Rattle.mv_frames.specs.declared.counters.StructTally.{StructTally}
+pub use Rattle.mv_machine.specs.declared.StructTally.{StructTally}
 pub use Rattle.mv_storage.proofs.Keys.{before-apart, before-trans, same_key-refl, same_key-to}
 pub use Rattle.mv_machine.proofs.Binds.{WhereOk, WhereSome, entry-is, map-is, on_some, place-written, then-is}
 pub use Rattle.mv_machine.proofs.Coin.{coin, coin_module, mint, one_coin}

@@ -17,7 +17,7 @@ use Rattle.mv_move_types.specs.Published.{PublishedModule}
 use Rattle.mv_machine.specs.Ledger.{scarce_structs, tally_of}
 use Rattle.mv_link_rules.specs.Link.{tables_in}
 use Rattle.mv_frames.specs.Counters.{is_tally_at, packs_at, unpacks_at}
-use Rattle.mv_frames.specs.declared.counters.StructTally.{StructTally}
+use Rattle.mv_machine.specs.declared.StructTally.{StructTally}
 use Rattle.mv_machine.specs.declared.Tally.{Tally}
 use Rattle.mv_ledger_state.specs.declared.tallies.Placed.{Placed}
 use Rattle.mv_ledger_state.specs.View.{scarce_indices}

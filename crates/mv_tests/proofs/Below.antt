@@ -2,7 +2,7 @@
 use Rattle.std.proofs.Common.{◌≡◌, ℕ, ◌+◌, ◌≤◌, Bool, true, false, List, [], Ok, sym, subst, ⊎_elim, arith}
 use Rattle.std.proofs.lemmas.Bool.{cases_Bool}
 use Rattle.mv_move_types.specs.declared.tables.Definition.{Definition}
-use Rattle.mv_frames.specs.declared.counters.StructTally.{StructTally}
+use Rattle.mv_machine.specs.declared.StructTally.{StructTally}
 use Rattle.mv_frames.specs.Counters.{Count, Counts, counts_in, one_more, is_same_definition, IsBelow, IsCounted, AreBelow}
 
 -- where nothing is counted, each count is below one

@@ -1,5 +1,5 @@
 use Rattle.std.proofs.Common.{◌≡◌, ◌++◌, ◌∷◌, [], length, List, ℕ, sym, ap, ◌∙◌, subst}
-use Rattle.mv_frames.specs.declared.counters.StructTally.{StructTally}
+use Rattle.mv_machine.specs.declared.StructTally.{StructTally}
 use Rattle.mv_frames.specs.Counters.{placed_in, IsIndexed, IsPlaced}
 use Rattle.mv_frames.proofs.Counts.{indexed-push, first}
 use Rattle.mv_frames.proofs.counters.count_first.Goals as goal

@@ -1,5 +1,5 @@
 use Rattle.std.proofs.Common.{◌∙◌, List, ap}
-use Rattle.mv_frames.specs.declared.counters.StructTally.{StructTally}
+use Rattle.mv_machine.specs.declared.StructTally.{StructTally}
 use Rattle.mv_frames.specs.Counters.{counts_in, placed_in, tallies_of}
 use Rattle.mv_frames.proofs.Tallied.{indexed-tallied}
 use Rattle.mv_frames.proofs.counters.Counters.into_tally.Goals as goal
