@@ -34,7 +34,7 @@ pub use Rattle.mv_move_types.specs.Named.{declared, declared_in, definition_of, 
 pub use Rattle.mv_move_types.specs.Names.{ModuleName, StructName, same_module, same_struct}
 pub use Rattle.mv_move_types.specs.Options.{◌>>=◌, find_index}
 pub use Rattle.mv_move_types.specs.Published.{PublishedModule, has_name_of, with_module, with_modules}
-pub use Rattle.mv_move_types.specs.Refusals.{IsRefusedBy, IsRefusedIn}
+pub use Rattle.mv_move_types.specs.Refusals.{IsRefusedBy}
 pub use Rattle.mv_move_types.specs.Results.{for_each}
 pub use Rattle.mv_move_types.specs.Scarce.{is_scarce_struct, is_scarce_at, is_scarce_in}
 pub use Rattle.mv_move_types.specs.Tags.{LeafTag, ReferenceTag, StructTag, Tag, same_tag}
