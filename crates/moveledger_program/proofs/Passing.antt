@@ -14,8 +14,8 @@ use Rattle.moveledger.proofs.Unfinished.{NoWhole-cut, length-fails}
 use Rattle.moveledger.proofs.Whole.{IsText-from, NoWhole-length, NoWhole-payload}
 use Rattle.moveledger_program.specs.Following.{EndsCut, EndsWhole, IsBehind, Lacks, Leads, SaysWhole, StandsAt}
 use Rattle.moveledger_program.specs.declared.following.LengthBytes.{LengthBytes}
-use Rattle.moveledger_program.specs.declared.following.Standing.{Standing}
-use Rattle.moveledger_program.specs.declared.following.Standing.TheVariants as standing
+use Rattle.moveledger_program.specs.declared.following.ParseState.{ParseState}
+use Rattle.moveledger_program.specs.declared.following.ParseState.TheVariants as state
 
 AreRecords-push : (rs : List Record) (xs rest more : List ℕ) (r : Record) → AreRecords xs rs rest → Begins rest r more → AreRecords xs (rs ++ r ∷ []) more
 AreRecords-push [] xs rest more r e b = (more, subst (λ z. Begins z r more) (sym e) b, refl)
@@ -35,16 +35,16 @@ more-bytes : (given whole part bytes : List ℕ) → given ≡ whole ++ part →
 more-bytes given whole part bytes e = ap (λ z. z ++ bytes) e ∙ append_assoc whole part bytes
 
 -- where none are missing there is no part
-nothing-behind : (part : List ℕ) → IsBehind (standing.Record 0) part → part ≡ []
+nothing-behind : (part : List ℕ) → IsBehind (state.Record 0) part → part ≡ []
 nothing-behind part (inl h) = h.1
 nothing-behind part (inr lacks) = absurd (omega (arith, lacks.some))
 
-lacking : (missing : ℕ) (part : List ℕ) → 0 < missing → IsBehind (standing.Record missing) part → Lacks missing part
+lacking : (missing : ℕ) (part : List ℕ) → 0 < missing → IsBehind (state.Record missing) part → Lacks missing part
 lacking missing part some (inl h) = absurd (omega (arith, some, h.0))
 lacking missing part some (inr lacks) = lacks
 
 -- a kind
-leads-kind : (new : LengthBytes) (kind : ℕ) → length new.bytes ≡ 10 → new.count ≡ 0 → Leads (standing.Record 0) (kind ∷ []) (standing.Length new)
+leads-kind : (new : LengthBytes) (kind : ℕ) → length new.bytes ≡ 10 → new.count ≡ 0 → Leads (state.Record 0) (kind ∷ []) (state.Length new)
 leads-kind new kind ten none given h =
     let nil : h.1 ≡ [] = nothing-behind h.1 h.4 in
     let all : given ++ kind ∷ [] ≡ h.0 ++ kind ∷ [] = more-bytes given h.0 h.1 (kind ∷ []) h.3 ∙ ap (λ z. h.0 ++ (z ++ kind ∷ [])) nil in
@@ -75,7 +75,7 @@ part-lacks missing left part bytes lacks count some = record {
   text = part-more missing part bytes lacks;
 }
 
-leads-payload : (missing left : ℕ) (bytes : List ℕ) → 0 < missing → length bytes + left ≡ missing → Leads (standing.Record missing) bytes (standing.Record left)
+leads-payload : (missing left : ℕ) (bytes : List ℕ) → 0 < missing → length bytes + left ≡ missing → Leads (state.Record missing) bytes (state.Record left)
 leads-payload missing left bytes some count given h =
     let lacks : Lacks missing h.1 = lacking missing h.1 some h.4 in
     let all = more-bytes given h.0 h.1 bytes h.3 in
@@ -97,7 +97,7 @@ module _ (old : LengthBytes) (byte : ℕ) where
   text-more part kind e = ap (λ z. z ++ byte ∷ []) e
 
   pub leads-high : (new : LengthBytes) → old.count < 10 → new.count ≡ old.count + 1 → new.bytes ≡ set old.bytes old.count byte → 128 ≤ byte
-      → Leads (standing.Length old) (byte ∷ []) (standing.Length new)
+      → Leads (state.Length old) (byte ∷ []) (state.Length new)
   leads-high new room count bytes ge given h =
       let b = h.4 in
       let taken : take new.count new.bytes ≡ take old.count old.bytes ++ byte ∷ [] =
@@ -109,7 +109,7 @@ module _ (old : LengthBytes) (byte : ℕ) where
 
   -- it is the last, and the length is known
   pub leads-found : (size used : ℕ) → old.count < 10 → byte < 128 → IsUleb (take used (take (old.count + 1) (set old.bytes old.count byte))) size
-      → size ≤ most_payload_bytes → Leads (standing.Length old) (byte ∷ []) (standing.Record size)
+      → size ≤ most_payload_bytes → Leads (state.Length old) (byte ∷ []) (state.Record size)
   leads-found size used room lt u small given h =
       let b = h.4 in
       let len : List ℕ = take old.count old.bytes ++ byte ∷ [] in
@@ -138,7 +138,7 @@ module _ (old : LengthBytes) (byte : ℕ) where
 
   -- it is the last, and there is no length
   pub leads-refused : old.count < 10 → byte < 128 → number_from most_payload_bytes (take (old.count + 1) (set old.bytes old.count byte)) ≡ None
-      → Leads (standing.Length old) (byte ∷ []) standing.NoLength
+      → Leads (state.Length old) (byte ∷ []) state.NoLength
   leads-refused room lt refused given h =
       let b = h.4 in
       let none : number_from most_payload_bytes (take old.count old.bytes ++ byte ∷ []) ≡ None =
@@ -150,7 +150,7 @@ module _ (old : LengthBytes) (byte : ℕ) where
       (h.0, h.1 ++ byte ∷ [], h.2, more-bytes given h.0 h.1 (byte ∷ []) h.3, (b.0, len, [], fails, text))
 
   -- there were ten before it
-  pub leads-beyond : 10 ≤ old.count → Leads (standing.Length old) (byte ∷ []) standing.NoLength
+  pub leads-beyond : 10 ≤ old.count → Leads (state.Length old) (byte ∷ []) state.NoLength
   leads-beyond many given h =
       let b = h.4 in
       let size : length (take old.count old.bytes) ≡ old.count = length-take-le old.count old.bytes (omega (arith, b.1, b.2)) in
@@ -158,14 +158,14 @@ module _ (old : LengthBytes) (byte : ℕ) where
       (h.0, h.1 ++ byte ∷ [], h.2, more-bytes given h.0 h.1 (byte ∷ []) h.3, (b.0, take old.count old.bytes, byte ∷ [], fails, text-more h.1 b.0 b.4))
 
 -- where there is no length
-leads-nowhere : (bytes : List ℕ) → Leads standing.NoLength bytes standing.NoLength
+leads-nowhere : (bytes : List ℕ) → Leads state.NoLength bytes state.NoLength
 leads-nowhere bytes given h =
     let b = h.4 in
     let text : h.1 ++ bytes ≡ b.0 ∷ (b.1 ++ (b.2 ++ bytes)) = ap (λ z. z ++ bytes) b.4 ∙ ap (λ z. b.0 ∷ z) (append_assoc b.1 b.2 bytes) in
     (h.0, h.1 ++ bytes, h.2, more-bytes given h.0 h.1 bytes h.3, (b.0, b.1, b.2 ++ bytes, b.3, text))
 
 -- by some bytes, and then by more
-leads-on : (a b c : Standing) (xs ys : List ℕ) → Leads a xs b → Leads b ys c → Leads a (xs ++ ys) c
+leads-on : (a b c : ParseState) (xs ys : List ℕ) → Leads a xs b → Leads b ys c → Leads a (xs ++ ys) c
 leads-on a b c xs ys p q given h = subst (StandsAt c) (append_assoc given xs ys) (q (given ++ xs) (p given h))
 
 -- the first of some bytes
@@ -173,12 +173,12 @@ first-byte : (bytes : List ℕ) → 0 < length bytes → take 1 bytes ≡ get_or
 first-byte [] some = absurd (omega (arith, some))
 first-byte (b ∷ bytes) some = refl
 
-by-first : (old new : Standing) (bytes : List ℕ) → 0 < length bytes → Leads old (get_or bytes 0 0 ∷ []) new → Leads old (take 1 bytes) new
+by-first : (old new : ParseState) (bytes : List ℕ) → 0 < length bytes → Leads old (get_or bytes 0 0 ∷ []) new → Leads old (take 1 bytes) new
 by-first old new bytes some leads = subst (λ z. Leads old z new) (sym (first-byte bytes some)) leads
 
 -- a kind, and a length of one byte
 leads-short : (begun : LengthBytes) (kind byte : ℕ) → length begun.bytes ≡ 10 → begun.count ≡ 0 → byte < 128
-    → Leads (standing.Record 0) (kind ∷ byte ∷ []) (standing.Record byte)
+    → Leads (state.Record 0) (kind ∷ byte ∷ []) (state.Record byte)
 leads-short begun kind byte ten none lt =
     let room : begun.count < 10 = omega (arith, none) in
     let within : 0 < length begun.bytes = omega (arith, ten) in
@@ -186,58 +186,58 @@ leads-short begun kind byte ten none lt =
     let here : take 1 (take (begun.count + 1) (set begun.bytes begun.count byte)) ≡ byte ∷ [] =
     ap (λ n. take 1 (take (n + 1) (set begun.bytes n byte))) none ∙ ap (take 1) one in
     let spelled : IsUleb (take 1 (take (begun.count + 1) (set begun.bytes begun.count byte))) byte = subst (λ z. IsUleb z byte) (sym here) (lt, refl) in
-    leads-on (standing.Record 0) (standing.Length begun) (standing.Record byte) (kind ∷ []) (byte ∷ []) (leads-kind begun kind ten none)
+    leads-on (state.Record 0) (state.Length begun) (state.Record byte) (kind ∷ []) (byte ∷ []) (leads-kind begun kind ten none)
     (leads-found begun byte byte 1 room lt spelled (omega (arith, lt)))
 
 -- where an old place is known to be one of the three
-from : (old same new : Standing) (bytes : List ℕ) → old ≡ same → Leads same bytes new → Leads old bytes new
+from : (old same new : ParseState) (bytes : List ℕ) → old ≡ same → Leads same bytes new → Leads old bytes new
 from old same new bytes is leads = subst (λ s. Leads s bytes new) (sym is) leads
 
-pub from-between : (old : Standing) (new : LengthBytes) (bytes : List ℕ) → old ≡ standing.Record 0 → length new.bytes ≡ 10 → new.count ≡ 0 → 0 < length bytes
-    → Leads old (take 1 bytes) (standing.Length new)
+pub from-between : (old : ParseState) (new : LengthBytes) (bytes : List ℕ) → old ≡ state.Record 0 → length new.bytes ≡ 10 → new.count ≡ 0 → 0 < length bytes
+    → Leads old (take 1 bytes) (state.Length new)
 from-between old new bytes is ten none some =
-    from old (standing.Record 0) (standing.Length new) (take 1 bytes) is
-    (by-first (standing.Record 0) (standing.Length new) bytes some (leads-kind new (get_or bytes 0 0) ten none))
+    from old (state.Record 0) (state.Length new) (take 1 bytes) is
+    (by-first (state.Record 0) (state.Length new) bytes some (leads-kind new (get_or bytes 0 0) ten none))
 
 -- no byte of a length
 abbrev no-length : LengthBytes
 no-length = record { bytes = 0 ∷ 0 ∷ 0 ∷ 0 ∷ 0 ∷ 0 ∷ 0 ∷ 0 ∷ 0 ∷ 0 ∷ []; count = 0 }
 
-pub from-short : (old : Standing) (bytes : List ℕ) (size : ℕ) → old ≡ standing.Record 0 → 2 ≤ length bytes → get_or bytes 1 0 < 128 → size ≡ get_or bytes 1 0
-    → Leads old (take 2 bytes) (standing.Record size)
+pub from-short : (old : ParseState) (bytes : List ℕ) (size : ℕ) → old ≡ state.Record 0 → 2 ≤ length bytes → get_or bytes 1 0 < 128 → size ≡ get_or bytes 1 0
+    → Leads old (take 2 bytes) (state.Record size)
 from-short old [] size is some lt at = absurd (omega (arith, some))
 from-short old (kind ∷ []) size is some lt at = absurd (omega (arith, some))
 from-short old (kind ∷ byte ∷ bytes) size is some lt at =
-    subst (λ n. Leads old (kind ∷ byte ∷ []) (standing.Record n)) (sym at)
-    (from old (standing.Record 0) (standing.Record byte) (kind ∷ byte ∷ []) is (leads-short no-length kind byte refl refl lt))
+    subst (λ n. Leads old (kind ∷ byte ∷ []) (state.Record n)) (sym at)
+    (from old (state.Record 0) (state.Record byte) (kind ∷ byte ∷ []) is (leads-short no-length kind byte refl refl lt))
 
-pub from-payload : (old : Standing) (missing count : ℕ) (bytes : List ℕ) → old ≡ standing.Record missing → 0 < missing → count ≤ missing → count ≤ length bytes
-    → Leads old (take count bytes) (standing.Record (missing - count))
+pub from-payload : (old : ParseState) (missing count : ℕ) (bytes : List ℕ) → old ≡ state.Record missing → 0 < missing → count ≤ missing → count ≤ length bytes
+    → Leads old (take count bytes) (state.Record (missing - count))
 from-payload old missing count bytes is some few within =
     let size : length (take count bytes) ≡ count = length-take-le count bytes within in
-    from old (standing.Record missing) (standing.Record (missing - count)) (take count bytes) is
+    from old (state.Record missing) (state.Record (missing - count)) (take count bytes) is
     (leads-payload missing (missing - count) (take count bytes) some (omega (arith, size, few)))
 
-pub from-length : (old new : Standing) (begun : LengthBytes) (bytes : List ℕ) → old ≡ standing.Length begun → 0 < length bytes
-    → Leads (standing.Length begun) (get_or bytes 0 0 ∷ []) new → Leads old (take 1 bytes) new
-from-length old new begun bytes is some leads = from old (standing.Length begun) new (take 1 bytes) is (by-first (standing.Length begun) new bytes some leads)
+pub from-length : (old new : ParseState) (begun : LengthBytes) (bytes : List ℕ) → old ≡ state.Length begun → 0 < length bytes
+    → Leads (state.Length begun) (get_or bytes 0 0 ∷ []) new → Leads old (take 1 bytes) new
+from-length old new begun bytes is some leads = from old (state.Length begun) new (take 1 bytes) is (by-first (state.Length begun) new bytes some leads)
 
-pub from-nowhere : (old : Standing) (bytes : List ℕ) → old ≡ standing.NoLength → Leads old bytes standing.NoLength
-from-nowhere old bytes is = from old standing.NoLength standing.NoLength bytes is (leads-nowhere bytes)
+pub from-nowhere : (old : ParseState) (bytes : List ℕ) → old ≡ state.NoLength → Leads old bytes state.NoLength
+from-nowhere old bytes is = from old state.NoLength state.NoLength bytes is (leads-nowhere bytes)
 
 -- by the first bytes of some, and then by further ones
-pub leads-further : (a b c : Standing) (bytes : List ℕ) (passed count : ℕ) → Leads a (take passed bytes) b
+pub leads-further : (a b c : ParseState) (bytes : List ℕ) (passed count : ℕ) → Leads a (take passed bytes) b
     → Leads b (take count (take (length bytes - passed) (drop passed bytes))) c → Leads a (take (passed + count) bytes) c
 leads-further a b c bytes passed count p q =
     let rest : take (length bytes - passed) (drop passed bytes) ≡ drop passed bytes = take_all (length bytes - passed) (drop passed bytes) (omega (arith, length-drop passed bytes)) in
     let q2 : Leads b (take count (drop passed bytes)) c = subst (λ z. Leads b (take count z) c) rest q in
     subst (λ z. Leads a z c) (sym (take-add passed count bytes)) (leads-on a b c (take passed bytes) (take count (drop passed bytes)) p q2)
 
-pub leads-all : (a b : Standing) (bytes : List ℕ) (passed : ℕ) → length bytes ≤ passed → Leads a (take passed bytes) b → Leads a bytes b
+pub leads-all : (a b : ParseState) (bytes : List ℕ) (passed : ℕ) → length bytes ≤ passed → Leads a (take passed bytes) b → Leads a bytes b
 leads-all a b bytes passed end leads = subst (λ z. Leads a z b) (take_all passed bytes end) leads
 
 -- what was read is whole records where none are missing
-is-whole : (given : List ℕ) → StandsAt (standing.Record 0) given → EndsWhole given
+is-whole : (given : List ℕ) → StandsAt (state.Record 0) given → EndsWhole given
 is-whole given h =
     let nil : h.1 ≡ [] = nothing-behind h.1 h.4 in
     subst EndsWhole (sym (h.3 ∙ ap (λ z. h.0 ++ z) nil ∙ append-nil h.0)) h.2
@@ -248,30 +248,30 @@ cut-by given whole part more kind w e text none =
     let some : part ≢ [] = λ bad. cc in
     (whole, part, w, e, some, subst NoWhole (sym text) none)
 
-is-cut-in-payload : (given : List ℕ) (missing : ℕ) → 0 < missing → StandsAt (standing.Record missing) given → EndsCut given
+is-cut-in-payload : (given : List ℕ) (missing : ℕ) → 0 < missing → StandsAt (state.Record missing) given → EndsCut given
 is-cut-in-payload given missing some h =
     let lacks : Lacks missing h.1 = lacking missing h.1 some h.4 in
     let less : length lacks.took < lacks.size = omega (arith, lacks.counted, some) in
     cut-by given h.0 h.1 (lacks.len ++ lacks.took) lacks.kind h.2 h.3 lacks.text (NoWhole-payload lacks.kind lacks.size lacks.len lacks.took lacks.spelled less)
 
-is-cut-in-length : (given : List ℕ) (begun : LengthBytes) → StandsAt (standing.Length begun) given → EndsCut given
+is-cut-in-length : (given : List ℕ) (begun : LengthBytes) → StandsAt (state.Length begun) given → EndsCut given
 is-cut-in-length given begun h =
     let b = h.4 in
     cut-by given h.0 h.1 (take begun.count begun.bytes) b.0 h.2 h.3 b.4 (NoWhole-length b.0 (take begun.count begun.bytes) (NoLength-high (take begun.count begun.bytes) b.3))
 
-is-cut-behind : (given : List ℕ) → StandsAt standing.NoLength given → EndsCut given
+is-cut-behind : (given : List ℕ) → StandsAt state.NoLength given → EndsCut given
 is-cut-behind given h =
     let b = h.4 in
     cut-by given h.0 h.1 (b.1 ++ b.2) b.0 h.2 h.3 b.4 (NoWhole-cut (b.0 ∷ b.1) b.2 (at_length b.0 b.1 b.2 b.3))
 
-pub tells-record : (old : Standing) (missing : ℕ) (given : List ℕ) → old ≡ standing.Record missing → StandsAt old given → SaysWhole given (nat_eq missing 0)
+pub tells-record : (old : ParseState) (missing : ℕ) (given : List ℕ) → old ≡ state.Record missing → StandsAt old given → SaysWhole given (nat_eq missing 0)
 tells-record old missing given is at =
-    let h : StandsAt (standing.Record missing) given = subst (λ s. StandsAt s given) is at in
+    let h : StandsAt (state.Record missing) given = subst (λ s. StandsAt s given) is at in
     elim (cases_eq missing 0) [
-      | inl none ↦ subst (λ m. StandsAt (standing.Record m) given → SaysWhole given (nat_eq m 0)) (sym none) (is-whole given) h
+      | inl none ↦ subst (λ m. StandsAt (state.Record m) given → SaysWhole given (nat_eq m 0)) (sym none) (is-whole given) h
       | inr some ↦ subst (SaysWhole given) (sym (ne_eqb missing 0 some)) (is-cut-in-payload given missing (omega (arith, some)) h)
     ]
 
-pub tells-cut : (old : Standing) (given : List ℕ) → ((begun : LengthBytes) × (old ≡ standing.Length begun)) ⊎ (old ≡ standing.NoLength) → StandsAt old given → EndsCut given
+pub tells-cut : (old : ParseState) (given : List ℕ) → ((begun : LengthBytes) × (old ≡ state.Length begun)) ⊎ (old ≡ state.NoLength) → StandsAt old given → EndsCut given
 tells-cut old given (inl is) at = is-cut-in-length given is.0 (subst (λ s. StandsAt s given) is.1 at)
 tells-cut old given (inr is) at = is-cut-behind given (subst (λ s. StandsAt s given) is at)

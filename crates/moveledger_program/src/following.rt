@@ -27,27 +27,27 @@ impl LengthBytes {
     }
 
     /// One more byte: where it, the last of these, ends.
-    fn more(mut self, byte: u8) -> Standing
-        ensures { Leads (Standing.Length self) (byte ∷ []) result }
+    fn more(mut self, byte: u8) -> ParseState
+        ensures { Leads (ParseState.Length self) (byte ∷ []) result }
     {
         if self.count >= self.bytes.len() {
-            return Standing::NoLength;
+            return ParseState::NoLength;
         }
         self.bytes[self.count] = byte;
         self.count += 1;
         if byte >= 128 {
-            return Standing::Length(self);
+            return ParseState::Length(self);
         }
         match mv_uleb::read(&self.bytes[..self.count], MOST_PAYLOAD_BYTES) {
-            Ok((missing, _)) => Standing::Record(missing),
-            Err(_) => Standing::NoLength,
+            Ok((missing, _)) => ParseState::Record(missing),
+            Err(_) => ParseState::NoLength,
         }
     }
 }
 
 /// Where bytes end, among the records that they are.
 #[derive(Clone, Copy)]
-enum Standing {
+enum ParseState {
     /// So many bytes before the end of a record. Behind a whole record, and before the first one, none are missing.
     Record(u64),
     /// Within the length of a record, or before it.
@@ -56,41 +56,41 @@ enum Standing {
     NoLength,
 }
 
-impl Standing {
+impl ParseState {
     /// Where the first of these bytes end, which go on from here, and how many these are: one, a kind with a length of one byte, or
     /// those of a payload.
-    fn after_first(self, bytes: &[u8]) -> (Standing, usize)
+    fn after_first(self, bytes: &[u8]) -> (ParseState, usize)
         requires { 0 < length bytes.now }
         ensures some { 0 < result.1 }
         ensures within { result.1 ≤ length bytes.now }
         ensures leads { Leads self (take result.1 bytes.now) result.0 }
     {
         match self {
-            Standing::Record(0) => match bytes {
-                [_, length, ..] if *length < 128 => (Standing::Record(u64::from(*length)), 2),
-                _ => (Standing::Length(LengthBytes::none()), 1),
+            ParseState::Record(0) => match bytes {
+                [_, length, ..] if *length < 128 => (ParseState::Record(u64::from(*length)), 2),
+                _ => (ParseState::Length(LengthBytes::none()), 1),
             },
-            Standing::Record(missing) => {
+            ParseState::Record(missing) => {
                 let count = missing.min(bytes.len() as u64);
-                (Standing::Record(missing - count), count as usize)
+                (ParseState::Record(missing - count), count as usize)
             }
-            Standing::Length(begun) => (begun.more(bytes[0]), 1),
-            Standing::NoLength => (Standing::NoLength, bytes.len()),
+            ParseState::Length(begun) => (begun.more(bytes[0]), 1),
+            ParseState::NoLength => (ParseState::NoLength, bytes.len()),
         }
     }
 
     /// Where these bytes end, which go on from here.
-    fn after(self, bytes: &[u8]) -> Standing
+    fn after(self, bytes: &[u8]) -> ParseState
         ensures { Leads self bytes.now result }
     {
-        let mut standing = self;
+        let mut state = self;
         let mut passed = 0;
         while passed < bytes.len() {
-            let (next, count) = standing.after_first(&bytes[passed..]);
-            standing = next;
+            let (next, count) = state.after_first(&bytes[passed..]);
+            state = next;
             passed += count;
         }
-        standing
+        state
     }
 
     /// Whether the bytes that end here are whole records.
@@ -98,8 +98,8 @@ impl Standing {
         ensures { TellsWhole self result }
     {
         match self {
-            Standing::Record(missing) => missing == 0,
-            Standing::Length(_) | Standing::NoLength => false,
+            ParseState::Record(missing) => missing == 0,
+            ParseState::Length(_) | ParseState::NoLength => false,
         }
     }
 }
@@ -108,26 +108,26 @@ impl Standing {
 #[derive(Drop)]
 pub struct Followed<R> {
     inner: R,
-    standing: Standing,
+    state: ParseState,
 }
 
 impl<R: Read> Followed<R> {
     /// It follows from here on, where the first record begins.
     pub fn new(inner: R) -> Self
         ensures remaining { R.remaining result.inner ≡ R.remaining inner }
-        ensures stands { StandsAt result.standing [] }
+        ensures stands { StandsAt result.state [] }
     {
         Followed {
             inner,
-            standing: Standing::Record(0),
+            state: ParseState::Record(0),
         }
     }
 
     /// Whether the bytes that it gave are whole records.
     pub fn is_whole(&self) -> bool
-        ensures { TellsWhole self.now.standing result }
+        ensures { TellsWhole self.now.state result }
     {
-        self.standing.is_whole()
+        self.state.is_whole()
     }
 }
 
@@ -137,11 +137,11 @@ impl<R: Read> Read for Followed<R> {
     fn read(&mut self, buf: &mut [u8]) -> io::Result<usize>
         ensures bound { ReadsAtMost result buf.new }
         ensures bytes { ReadConsumes (R.remaining self.old.inner) (R.remaining self.new.inner) result buf.new }
-        ensures leads { IfOk result (λ n. Leads self.old.standing (take n buf.new) self.new.standing) }
-        ensures stays { OnErr result (self.new.standing ≡ self.old.standing) }
+        ensures leads { IfOk result (λ n. Leads self.old.state (take n buf.new) self.new.state) }
+        ensures stays { OnErr result (self.new.state ≡ self.old.state) }
     {
         let n = self.inner.read(buf)?;
-        self.standing = self.standing.after(&buf[..n]);
+        self.state = self.state.after(&buf[..n]);
         Ok(n)
     }
 }

@@ -7,7 +7,7 @@ use Rattle.mv_cfg.specs.Graph.{IsGraph}
 use Rattle.mv_lattice.specs.Flow.{IsFlow}
 use Rattle.mv_lattice.specs.Order.{Order}
 use Rattle.mv_certificate.proofs.Whole.{same_marks}
-use Rattle.mv_edges.proofs.Settled.{same_truth}
+use Rattle.mv_edges.proofs.AsSets.{same_truth}
 
 there : {S : Type 0} (o : Option S) → is_some o ≡ true → (s : S) × (o ≡ Some s)
 there None h = absurd (true≢false (sym h))

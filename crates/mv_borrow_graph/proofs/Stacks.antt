@@ -16,7 +16,7 @@ use Rattle.mv_cfg.proofs.Tiling.{Tiles, blocks-tile}
 use Rattle.mv_type_rules.specs.TypeRules.{Types, types_after}
 use Rattle.mv_type_rules.specs.TypesHold.{Point, types_through, block_is_typed, function_is_typed, TypesHold, point_at}
 use Rattle.mv_type_rules.specs.Sound.{types_each, types_in, types_before}
-use Rattle.mv_borrow_graph.specs.Laws.Standing.{length-types_each, length-range, tiles_within, typed_some}
+use Rattle.mv_borrow_graph.specs.Laws.BlockTypes.{length-types_each, length-range, tiles_within, typed_some}
 use Rattle.mv_borrow_graph.specs.Domain.{is_low, ordered, edges_step}
 use Rattle.mv_certificate_rules.specs.BorrowRules.{edges_after}
 use Rattle.mv_edges.specs.Edges.{Edge}

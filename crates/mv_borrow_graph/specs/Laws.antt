@@ -10,7 +10,7 @@
 --   There         edges between nodes that are there, before and after such an exchange
 --   RowsThere     each rule for edges leaves edges between nodes that are there; of a call CallThere
 --   KeptThere     the table of all instructions over these
---   Standing      the types before the instructions of a block stand among those of the function
+--   BlockTypes    the types before the instructions of a block stand among those of the function
 --   BlocksThere   a block that goes on leads to edges between nodes that are there, and so past the operands
 pub mod Rising
 pub mod Places
@@ -19,7 +19,7 @@ pub mod There
 pub mod RowsThere
 pub mod CallThere
 pub mod KeptThere
-pub mod Standing
+pub mod BlockTypes
 pub mod BlocksThere
 use Rattle.std.specs.Prelude.{◌≡◌, List, [], ◌++◌, true, Option, Some, None, slice_get, IsTrue}
 use Rattle.std.proofs.Common.{refl, subst}

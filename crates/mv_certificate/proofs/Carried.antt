@@ -8,7 +8,7 @@ use Rattle.mv_type_rules.specs.TypeRules.{types_after}
 use Rattle.mv_type_rules.specs.TypesHold.{types_through, block_is_typed}
 use Rattle.mv_type_rules.specs.Sound.{types_each}
 use Rattle.mv_lattice.specs.Flow.{carried}
-use Rattle.mv_borrow_graph.specs.Laws.Standing.{Stands, Stands-head, Stands-tail, Stands-range, Stands-types, length-range, some-height, typed_some}
+use Rattle.mv_borrow_graph.specs.Laws.BlockTypes.{Stands, Stands-head, Stands-tail, Stands-range, Stands-types, length-range, some-height, typed_some}
 
 -- both are there and related, or neither is
 abbrev pub Alike : {S T : Type 0} → (S → T → Type 0) → Option S → Option T → Type 0

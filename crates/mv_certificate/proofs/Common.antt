@@ -46,7 +46,7 @@ pub use Rattle.mv_type_rules.specs.TypesHold.{Point, function_is_typed}
 pub use Rattle.mv_locals_safety.specs.Domain.{IsOfLocals}
 pub use Rattle.mv_certificate_rules.specs.BorrowRules.{edges_after}
 pub use Rattle.mv_borrow_graph.specs.Domain.{ordered}
-pub use Rattle.mv_borrow_graph.specs.Laws.Standing.{block_at}
+pub use Rattle.mv_borrow_graph.specs.Laws.BlockTypes.{block_at}
 pub use Rattle.mv_certificate_rules.specs.Certificate.{Certificate, Known, Rule, Stated, all_edges_hold, all_locals_hold, flow_holds, instructions_of, through}
 pub use Rattle.mv_certificate_rules.specs.CertificateText.{IsCertificateText, availability_code, certificate_text, edge_text, known_text, node_text, stated_text}
 pub use Rattle.mv_certificate.specs.Functions.{EdgesHoldAt, LocalsHoldAt}

@@ -11,7 +11,7 @@ use Rattle.mv_cfg.proofs.Tiling.{Tiles, blocks-tile}
 use Rattle.mv_lattice.specs.Flow.{IsClosedAt, through as carried_through}
 use Rattle.mv_lattice.specs.Order.{Order}
 use Rattle.mv_certificate_rules.specs.Certificate.{stated_at, flows_into, block_holds}
-use Rattle.mv_borrow_graph.specs.Laws.Standing.{tiles_after}
+use Rattle.mv_borrow_graph.specs.Laws.BlockTypes.{tiles_after}
 use Rattle.mv_certificate.proofs.Carried.{Alike, DoAlike, Ends, block_alike}
 use Rattle.mv_certificate.proofs.Marks.{block_of}
 use Rattle.mv_bound_rules.proofs.Entries.{element_at}

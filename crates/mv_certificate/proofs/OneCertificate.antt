@@ -7,7 +7,7 @@ use Rattle.mv_module_text.specs.Fits.{signature_fits, token_fits}
 use Rattle.mv_binary_format.specs.ModuleText.{HasText}
 use Rattle.mv_binary_format.proofs.Fitting.{few_structs}
 use Rattle.mv_certificate.proofs.Whole.{stated-whole, same_marks}
-use Rattle.mv_edges.proofs.Settled.{same_truth}
+use Rattle.mv_edges.proofs.AsSets.{same_truth}
 use Rattle.mv_bound_rules.proofs.Entries.{all_at, element_at}
 
 -- a signature that is there is short

@@ -13,7 +13,7 @@ use Rattle.mv_module_text.proofs.Texts.{Whole, number-whole, index-whole, entrie
 use Rattle.mv_certificate_rules.specs.Nodes.{has_local, leads_in, leads_out, edge_is_there}
 use Rattle.mv_borrow_graph.specs.Laws.There.{there_parts}
 use Rattle.mv_certificate.proofs.Texts.{availability_text, any, node_fits, is_small, path_fits, openness_text, label_text, label_fits, edge_as, edges_fit, block_fits}
-use Rattle.mv_edges.proofs.Settled.{same_truth}
+use Rattle.mv_edges.proofs.AsSets.{same_truth}
 use Rattle.mv_type_rules.specs.TypesHold.{point_at}
 
 -- a step that gives something

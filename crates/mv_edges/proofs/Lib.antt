@@ -15,5 +15,5 @@ pub mod Order
 pub mod Passed
 pub mod Related
 pub mod Searches
-pub mod Settled
+pub mod AsSets
 pub mod Sorting

@@ -12,7 +12,7 @@ use Rattle.mv_edges.proofs.EdgeOrder.{edge_strict, not_later, same_start}
 use Rattle.mv_edges.proofs.Insertion.{all_contains}
 use Rattle.mv_edges.proofs.Lexicographic.{before_cases, before_first, before_later, total}
 use Rattle.mv_edges.proofs.Related.{related_parts}
-use Rattle.mv_edges.proofs.Settled.{same_truth}
+use Rattle.mv_edges.proofs.AsSets.{same_truth}
 use Rattle.mv_edges.proofs.Sorting.{ascending_above, ascending_tail}
 
 kind_few : (n : Node) → node_kind n ≤ 3

@@ -16,7 +16,7 @@ use Rattle.mv_lattice.specs.Order.{Order}
 use Rattle.mv_lattice.specs.Flow.{IsAt, IsStated, IsFlow, IsClosed, IsFlowBelow, IsRisen, through}
 use Rattle.mv_lattice.specs.Search.{Search, resting, IsSameAt, Raises, FlowsInto, stays, rises, IsNext, IsVisit}
 use Rattle.mv_lattice.specs.Search.{Reaches, begins, goes_on, EndsWith, MeetsLimit, large_start, too_often, too_large, MeetsNeed, need}
-use Rattle.mv_lattice.specs.Work.{HasLarge, HasChain, AllStated, IsLeastFlow, standing}
+use Rattle.mv_lattice.specs.Work.{HasLarge, HasChain, AllStated, IsLeastFlow, search_of}
 use Rattle.mv_lattice.proofs.Rises.{set_same, set_other, replicate_at, no_longer, contains_or_not, waits_or_not, through_keeps, through_monotone, risen_start, risen_more, risen_higher}
 use Rattle.mv_lattice.proofs.Searches.{raised_state, raised_above, raised_begins, raised_over, raised_least}
 
@@ -25,8 +25,8 @@ module _ {S : Type 0} (o : Order S) (g : Cfg) (start : S) where
   Begins s = o.is_state s × o.may_begin s
 
   -- the block carries s to a state which what is stated of each successor is above
-  abbrev IsSettled : List (Option S) → Block → S → Type 0
-  IsSettled flow b s = (t : S) × ((through o.steps b s ≡ Some t) × ((n : ℕ) → Contains b.successors.items n → (u : S) × (IsStated flow n u × o.below t u)))
+  abbrev IsStable : List (Option S) → Block → S → Type 0
+  IsStable flow b s = (t : S) × ((through o.steps b s ≡ Some t) × ((n : ℕ) → Contains b.successors.items n → (u : S) × (IsStated flow n u × o.below t u)))
 
   -- what holds wherever a search comes to, after these visits
   record Holds (visited : List ℕ) (x : Search S) : Type 0 where
@@ -36,7 +36,7 @@ module _ {S : Type 0} (o : Order S) (g : Cfg) (start : S) where
     small : AllStated o.is_small x.flow
     reached : (k : ℕ) (s : S) → IsStated x.flow k s → IsReached g k
     entry : (s : S) × (IsStated x.flow 0 s × o.below start s)
-    settled : (k : ℕ) (b : Block) (s : S) → IsBlock g k b → IsStated x.flow k s → (IsAt x.waiting k true → ⊥) → IsSettled x.flow b s
+    stable : (k : ℕ) (b : Block) (s : S) → IsBlock g k b → IsStated x.flow k s → (IsAt x.waiting k true → ⊥) → IsStable x.flow b s
     active : (k : ℕ) → IsAt x.waiting k true → (s : S) × IsStated x.flow k s
     unseen : (k : ℕ) → IsAt x.flow k None → times k visited ≡ 0
     waits : (k : ℕ) (s : S) → IsStated x.flow k s → IsAt x.waiting k true → IsRisen Begins o.below (times k visited) s
@@ -76,7 +76,7 @@ module _ {S : Type 0} {o : Order S} (laws : IsLawful o) (g : Cfg) (graph : IsGra
   start_waits : (k : ℕ) (s : S) → IsStated flow0 k s → IsAt waiting0 k true
   start_waits k s e = subst (λ i. IsAt waiting0 i true) (sym (start_at k s e).0) (first_is (length g.blocks.items) false true graph.has_entry)
 
-  at_first : o.is_small start → At [] (standing flow0 waiting0)
+  at_first : o.is_small start → At [] (search_of flow0 waiting0)
   at_first little = record {
     entries = length-set (replicate (length g.blocks.items) None) 0 (Some start) ∙ length-replicate (length g.blocks.items) None;
     states = λ k s e. subst o.is_state (start_at k s e).1 valid;
@@ -84,7 +84,7 @@ module _ {S : Type 0} {o : Order S} (laws : IsLawful o) (g : Cfg) (graph : IsGra
     small = λ k s e. subst o.is_small (start_at k s e).1 little;
     reached = λ k s e. subst (IsReached g) (sym (start_at k s e).0) at_entry;
     entry = (start, (first_is (length g.blocks.items) None (Some start) graph.has_entry, laws.reflexive start valid));
-    settled = λ k b s block e rest. absurd (rest (start_waits k s e));
+    stable = λ k b s block e rest. absurd (rest (start_waits k s e));
     active = λ k w.
         let is : k ≡ 0 = first_alone (length g.blocks.items) k false true true (λ no. cc) w in
         (start, subst (λ i. IsStated flow0 i start) (sym is) (first_is (length g.blocks.items) None (Some start) graph.has_entry));
@@ -236,10 +236,10 @@ module _ {S : Type 0} {o : Order S} (laws : IsLawful o) (g : Cfg) (graph : IsGra
     times_there : (n : ℕ) → (n ≡ k → ⊥) → times n (k ∷ visited) ≡ times n visited
     times_there n other = let none = is_none k n (λ is. other (sym is)) in omega (arith, none)
 
-    new_settled : (n : ℕ) (c : Block) (r : S) → IsBlock g n c → IsStated y.flow n r → (IsAt y.waiting n true → ⊥) → IsSettled o g start y.flow c r
-    new_settled n c r is_c e rest = by_turn (turns n)
+    new_stable : (n : ℕ) (c : Block) (r : S) → IsBlock g n c → IsStated y.flow n r → (IsAt y.waiting n true → ⊥) → IsStable o g start y.flow c r
+    new_stable n c r is_c e rest = by_turn (turns n)
       where
-        by_turn : Turns n → IsSettled o g start y.flow c r
+        by_turn : Turns n → IsStable o g start y.flow c r
         by_turn (raised old u edge is raises little now waits) = absurd (rest waits)
         by_turn (same_as same) = ⊎_elim
             (λ (is : n ≡ k).
@@ -249,11 +249,11 @@ module _ {S : Type 0} {o : Order S} (laws : IsLawful o) (g : Cfg) (graph : IsGra
             let is_here = here in
             let c_is : b ≡ c = cc (is_block, block') in
             let r_is : s ≡ r = cc (is_here, here') in
-            subst (λ z. IsSettled o g start y.flow z r) c_is
-            (subst (λ z. IsSettled o g start y.flow b z) r_is (t, (out, above))))
+            subst (λ z. IsStable o g start y.flow z r) c_is
+            (subst (λ z. IsStable o g start y.flow b z) r_is (t, (out, above))))
             (λ (other : n ≡ k → ⊥).
             let stated : IsStated x.flow n r = sym same.0 ∙ e in
-            let was = at.settled n c r is_c stated (rested n other same rest) in
+            let was = at.stable n c r is_c stated (rested n other same rest) in
             let o_state : o.is_state was.0 = through_keeps laws c r was.0 (graph.starts n c is_c) (graph.ends n c is_c) (at.states n r stated) was.1.0 in (
               was.0,
               (
@@ -358,7 +358,7 @@ module _ {S : Type 0} {o : Order S} (laws : IsLawful o) (g : Cfg) (graph : IsGra
           let was = at.entry in
           let up = higher 0 was.0 was.1.0 in
           (up.0, (up.1.0, laws.transitive start was.0 up.0 valid (at.states 0 was.0 was.1.0) (new_states 0 up.0 up.1.0) was.1.1 up.1.1));
-      settled = new_settled;
+      stable = new_stable;
       active = new_active;
       unseen = new_unseen;
       waits = new_waits;
@@ -383,15 +383,15 @@ module _ {S : Type 0} {o : Order S} (laws : IsLawful o) (g : Cfg) (graph : IsGra
 
   -- ---- what a search ends with
 
-  module _ (flow : List (Option S)) (at : (visited : List ℕ) × ((waiting : List Bool) × (At visited (standing flow waiting) × ((k : ℕ) → IsAt waiting k true → ⊥)))) where
-    abbrev last : At at.0 (standing flow at.1.0)
+  module _ (flow : List (Option S)) (at : (visited : List ℕ) × ((waiting : List Bool) × (At visited (search_of flow waiting) × ((k : ℕ) → IsAt waiting k true → ⊥)))) where
+    abbrev last : At at.0 (search_of flow at.1.0)
     last = at.1.1.0
 
     stated_there : (k : ℕ) → IsReached g k → (s : S) × IsStated flow k s
     stated_there _ at_entry = (last.entry.0, last.entry.1.0)
     stated_there _ (along {k} {n} before edge) =
         let s = stated_there k before in
-        let out = last.settled k edge.0 s.0 edge.1 s.1 (at.1.1.1 k) in
+        let out = last.stable k edge.0 s.0 edge.1 s.1 (at.1.1.1 k) in
         let up = out.1.1 n edge.2 in
         (up.0, up.1.0)
 
@@ -401,7 +401,7 @@ module _ {S : Type 0} {o : Order S} (laws : IsLawful o) (g : Cfg) (graph : IsGra
       closed = record {
         entry = λ s e. let there = last.entry.1.0 in let same : last.entry.0 ≡ s = cc (there, e) in subst (o.below start) same last.entry.1.1;
         closed = λ k b s block e.
-            let out = last.settled k b s block e (at.1.1.1 k) in (
+            let out = last.stable k b s block e (at.1.1.1 k) in (
               out.0,
               (
                 out.1.0,

@@ -14,7 +14,7 @@ use Rattle.mv_lattice.specs.Laws.{IsLawful}
 use Rattle.mv_lattice.specs.Order.{Order}
 use Rattle.mv_lattice.specs.Search.{Search, resting, IsSameAt, Raises, nothing, lower, FlowsInto, stays, rises, FlowsIntoEach, ExceedsAt, Makes, IsVisit}
 use Rattle.mv_lattice.specs.Search.{Exceeds, Reaches, begins, goes_on, IsTurn, EndsWith, MeetsLimit, too_often, too_large, MeetsNeed, need}
-use Rattle.mv_lattice.specs.Work.{AllStated, standing, IsSearch}
+use Rattle.mv_lattice.specs.Work.{AllStated, search_of, IsSearch}
 use Rattle.mv_lattice.proofs.Rises.{set_same, set_other, replicate_at, contains_or_not}
 
 one_alone : (m n : ℕ) → Contains (m ∷ []) n → m ≡ n
@@ -172,7 +172,7 @@ module _ {S : Type 0} (o : Order S) where
 
   -- one block: its state stays, or it gets another
   pub flows_stays : (t : S) (n : ℕ) (s : S) (states : List (Option S)) (waiting : List Bool) → IsStated states n s → o.below t s
-      → FlowsIntoEach o (Contains (n ∷ [])) t (standing states waiting) (standing states waiting)
+      → FlowsIntoEach o (Contains (n ∷ [])) t (search_of states waiting) (search_of states waiting)
   flows_stays t n s states waiting is above = record {
     inside = λ k h. stays s (subst (λ i. IsStated states i s) (one_alone n k h) is) above (refl, refl);
     outside = λ k no. (refl, refl);
@@ -180,9 +180,9 @@ module _ {S : Type 0} (o : Order S) where
 
   pub flows_rises : (t : S) (n : ℕ) (old : Option S) (u : S) (states : List (Option S)) (waiting : List Bool) → n < length states → n < length waiting
       → IsAt states n old → Raises o t old u → o.is_small u
-      → FlowsIntoEach o (Contains (n ∷ [])) t (standing states waiting) (standing (set states n (Some u)) (set waiting n true))
+      → FlowsIntoEach o (Contains (n ∷ [])) t (search_of states waiting) (search_of (set states n (Some u)) (set waiting n true))
   flows_rises t n old u states waiting inside marked at raised small = record {
-    inside = λ k h. subst (λ i. FlowsInto o t i (standing states waiting) (standing (set states n (Some u)) (set waiting n true))) (one_alone n k h)
+    inside = λ k h. subst (λ i. FlowsInto o t i (search_of states waiting) (search_of (set states n (Some u)) (set waiting n true))) (one_alone n k h)
         (rises old u at raised small (set_same states n (Some u) inside) (set_same waiting n true marked));
     outside = λ k no.
         let other : k ≡ n → ⊥ = λ is. no (0, omega arith, sym is) in
@@ -231,8 +231,8 @@ module _ {S : Type 0} (o : Order S) where
         let waiting_is : waiting ≡ set (replicate (length g.blocks.items) false) 0 true = marks ∙ ap (λ m. set (replicate m false) 0 true) long in
         record {
           visited = [];
-          reached = subst (λ xs. Reaches o g start [] (standing xs waiting)) (sym states_are)
-              (subst (λ ws. Reaches o g start [] (standing (set (replicate (length g.blocks.items) None) 0 (Some start)) ws)) (sym waiting_is) (begins small));
+          reached = subst (λ xs. Reaches o g start [] (search_of xs waiting)) (sym states_are)
+              (subst (λ ws. Reaches o g start [] (search_of (set (replicate (length g.blocks.items) None) 0 (Some start)) ws)) (sym waiting_is) (begins small));
           count = λ k l at.
               let l_is : 256 ≡ l = replicate_at n k 256 l (subst (λ ls. IsAt ls k l) full at) in
               omega (arith, l_is);
@@ -240,7 +240,7 @@ module _ {S : Type 0} (o : Order S) where
 
     module _ (left : List ℕ) (states : List (Option S)) (waiting : List Bool) (has : IsSearch o g start left states waiting)
         (k l : ℕ) (waits : IsAt waiting k true) (first : (j : ℕ) → j < k → IsAt waiting j false) (at : IsAt left k l) where
-      next : IsTurn o g start has.visited k (standing states waiting)
+      next : IsTurn o g start has.visited k (search_of states waiting)
       next = record { reached = has.reached; next = record { waits = waits; first = first } }
 
       few : 0 < l → times k has.visited < 256
@@ -256,7 +256,7 @@ module _ {S : Type 0} (o : Order S) where
         pub turn_fails : Makes o g k states None → MeetsNeed o g start
         turn_fails e = need next (few some) e
 
-        pub turn_done : (new : List (Option S)) (new_waiting : List Bool) → IsVisit o g k (standing states (set waiting k false)) (standing new new_waiting)
+        pub turn_done : (new : List (Option S)) (new_waiting : List Bool) → IsVisit o g k (search_of states (set waiting k false)) (search_of new new_waiting)
             → IsSearch o g start (set left k (l - 1)) new new_waiting
         turn_done new new_waiting visit = record {
           visited = k ∷ has.visited;
@@ -282,7 +282,7 @@ module _ {S : Type 0} (o : Order S) where
         → EndsWith o g start states
     search_ends left states waiting has rests = record {
       visited = has.visited;
-      last = standing states waiting;
+      last = search_of states waiting;
       reached = has.reached;
       stated = refl;
       rests = λ k waits. let rest = rests k (slice_get_within waiting k true waits) in cc (waits, rest);

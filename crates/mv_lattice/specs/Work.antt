@@ -3,7 +3,7 @@
 --   HasLarge, HasChain        why a limit may be met: a state that is too large, or 257 states that rise
 --   IsLeastFlow ..            the least closed flow, which a search ends with
 --   IsNewState ..             what the code puts in a stated state's place
---   standing states waiting   a search by its parts
+--   search_of states waiting  a search by its parts
 --   IsSearch, IsUnderway      the code has come to these states and marks by visits from a start state
 --   OfEachStart ..            what holds of each start state from which it may have come to them
 -- AllStated is a part of these.
@@ -40,13 +40,13 @@ IsNewState {S} o old t None = (s : S) × ((old ≡ Some s) × o.below t s)
 IsNewState {S} o old t (Some u) = Raises o t old u × o.is_small u
 
 -- where a search stands, by its parts
-abbrev pub standing : {S : Type 0} → List (Option S) → List Bool → Search S
-standing states waiting = record { flow = states; waiting = waiting }
+abbrev pub search_of : {S : Type 0} → List (Option S) → List Bool → Search S
+search_of states waiting = record { flow = states; waiting = waiting }
 
 -- a search from the start state has come to these states and marks, and each block has been visited as often as its visits left say
 pub record IsSearch {S : Type 0} (o : Order S) (g : Cfg) (start : S) (left : List ℕ) (states : List (Option S)) (waiting : List Bool) : Type 0 where
   pub visited : List ℕ
-  pub reached : Reaches o g start visited (standing states waiting)
+  pub reached : Reaches o g start visited (search_of states waiting)
   pub count : (k l : ℕ) → IsAt left k l → times k visited + l ≡ 256
 
 -- some search that begins with a start state has

@@ -3,7 +3,7 @@ ghost use Rattle.std.specs.Prelude.{◌≡◌, ℕ, ◌<◌, ◌≤◌, Option, 
 ghost use Rattle.mv_cfg.specs.Graph.{IsGraph};
 ghost use Rattle.mv_lattice.specs.Flow.{IsAt, IsFlow, IsClosed, IsStated};
 ghost use Rattle.mv_lattice.specs.Search.{Raises, ExceedsAt, FlowsIntoEach, Exceeds, IsVisit, Makes, EndsWith, MeetsLimit, MeetsNeed};
-ghost use Rattle.mv_lattice.specs.Work.{HasLarge, HasChain, AllStated, IsLeastFlow, IsNewState, standing, IsSearch, IsUnderway, OfEachStart};
+ghost use Rattle.mv_lattice.specs.Work.{HasLarge, HasChain, AllStated, IsLeastFlow, IsNewState, search_of, IsSearch, IsUnderway, OfEachStart};
 
 use crate::flow::carry;
 use crate::{Domain, StepError};
@@ -103,7 +103,7 @@ fn raise<D: Domain>(
     requires marked { n < length waiting.old }
     requires state { (D.order d.now).is_state t.now }
     requires states { AllStated (D.order d.now).is_state states.old }
-    ensures ok { OnOk result (FlowsIntoEach (D.order d.now) (Contains (n ∷ [])) t.now (standing states.old waiting.old) (standing states.new waiting.new)) }
+    ensures ok { OnOk result (FlowsIntoEach (D.order d.now) (Contains (n ∷ [])) t.now (search_of states.old waiting.old) (search_of states.new waiting.new)) }
     ensures need { ¬ IsErrOf result SolveError.Need }
     ensures exceeds { IsErrOf result SolveError.TooComplex → ExceedsAt (D.order d.now) t.now n states.old }
 {
@@ -127,7 +127,7 @@ fn raise_all<D: Domain>(
     requires marked { length waiting.old ≡ length states.old }
     requires state { (D.order d.now).is_state t.now }
     requires states { AllStated (D.order d.now).is_state states.old }
-    ensures ok { OnOk result (FlowsIntoEach (D.order d.now) (Contains blocks.now) t.now (standing states.old waiting.old) (standing states.new waiting.new)) }
+    ensures ok { OnOk result (FlowsIntoEach (D.order d.now) (Contains blocks.now) t.now (search_of states.old waiting.old) (search_of states.new waiting.new)) }
     ensures need { ¬ IsErrOf result SolveError.Need }
     ensures exceeds { IsErrOf result SolveError.TooComplex → (n : ℕ) × (Contains blocks.now n × ExceedsAt (D.order d.now) t.now n states.old) }
 {
@@ -184,7 +184,7 @@ fn raise_each<D: Domain>(
     requires marked { length waiting.old ≡ length states.old }
     requires state { (D.order d.now).is_state t.now }
     requires states { AllStated (D.order d.now).is_state states.old }
-    ensures ok { OnOk result (FlowsIntoEach (D.order d.now) (Contains blocks.now) t.now (standing states.old waiting.old) (standing states.new waiting.new)) }
+    ensures ok { OnOk result (FlowsIntoEach (D.order d.now) (Contains blocks.now) t.now (search_of states.old waiting.old) (search_of states.new waiting.new)) }
     ensures need { ¬ IsErrOf result SolveError.Need }
     ensures exceeds { IsErrOf result SolveError.TooComplex → (n : ℕ) × (Contains blocks.now n × ExceedsAt (D.order d.now) t.now n states.old) }
 {
@@ -211,7 +211,7 @@ fn visit<D: Domain>(
     requires marks { length waiting.old ≡ length g.now.blocks.items }
     requires states { AllStated (D.order d.now).is_state states.old }
     requires stated { (s : D.State) × IsAt states.old k (Option.Some s) }
-    ensures ok { OnOk result (IsVisit (D.order d.now) g.now k (standing states.old waiting.old) (standing states.new waiting.new)) }
+    ensures ok { OnOk result (IsVisit (D.order d.now) g.now k (search_of states.old waiting.old) (search_of states.new waiting.new)) }
     ensures fails { IsErrOf result SolveError.Need → Makes (D.order d.now) g.now k states.old Option.None }
     ensures exceeds { IsErrOf result SolveError.TooComplex → Exceeds (D.order d.now) g.now k states.old }
 {

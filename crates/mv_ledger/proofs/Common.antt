@@ -34,7 +34,7 @@ pub use Rattle.mv_storage.specs.Map.{Layers}
 pub use Rattle.mv_machine.specs.Count.{count}
 pub use Rattle.mv_machine.specs.Flat.{FlatEntry, storage_of}
 pub use Rattle.mv_machine.specs.Ledger.{Answers, AreRead, AsJson, AsText, Audit, Bad, BadRun, Format, LedgerState, Offer, Publish, Request, Run, RunRequest, Show, admitted, are_arguments}
-pub use Rattle.mv_machine.specs.Ledger.{attempted, audited, modules_of, scarce_structs, settled, shown, tally_of, tally_with, with_bundle}
+pub use Rattle.mv_machine.specs.Ledger.{attempted, audited, modules_of, scarce_structs, applied, shown, tally_of, tally_with, with_bundle}
 pub use Rattle.mv_machine.specs.Ledger.{with_signer, with_signer as with_sender}
 pub use Rattle.mv_machine.specs.Lines.{RanOut, RanToAbort, Published as ToldPublished, count_line}
 pub use Rattle.mv_machine.specs.Lines.{Refused as ToldRefused, Rejected as ToldRejected, Reply, Reply as Told, RanToEnd, Tallied, Told as ToldLines, count_object}
@@ -63,7 +63,7 @@ pub use Rattle.mv_ledger_state.specs.Judging.{IsAcceptedBy, IsRefusedOver}
 pub use Rattle.mv_saved_text.specs.Parts.Saving.{IsWritable}
 pub use Rattle.mv_ledger_state.specs.Publishing.{AllPass, Spells}
 pub use Rattle.mv_ledger_state.specs.RecordText.{Asks, IsShaped, IsShapeless, argument_fits, format_text, offer_fits, run_fits}
-pub use Rattle.mv_ledger.specs.Running.{IsAdmission, IsAdmitted, IsSettled, run_of}
+pub use Rattle.mv_ledger.specs.Running.{IsAdmission, IsAdmitted, IsApplied, run_of}
 pub use Rattle.mv_saved_text.specs.SavedLaws.{IsSavable}
 pub use Rattle.mv_ledger_state.specs.Tallying.{AddsTallies, tally_after}
 pub use Rattle.mv_ledger_state.proofs.TallyWords.{IsNamed}

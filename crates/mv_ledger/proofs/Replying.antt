@@ -1,16 +1,16 @@
 -- What the ledger's calls reply, from what their parts say.
 use Rattle.mv_ledger.proofs.Common.{[], ◌+◌, ◌∙◌, ◌∷◌, ◌≡◌, Err, List, None, Ok, Option, Result, Some, ap, arith, false, map, refl, subst, sym, true, ℕ, is_some, PublishedModule, with_modules}
 use Rattle.mv_ledger.proofs.Common.{Phase, FlatEntry, storage_of, Answers, AreRead, Bad, BadRun, LedgerState, Offer, Publish, Run, RunRequest, admitted, attempted, modules_of, scarce_structs}
-use Rattle.mv_ledger.proofs.Common.{settled, tally_of, with_bundle, RanToAbort, RanOut, ToldPublished, ToldRefused, ToldRejected, Told, RanToEnd, Tallied, FunctionCall, run, Storage}
+use Rattle.mv_ledger.proofs.Common.{applied, tally_of, with_bundle, RanToAbort, RanOut, ToldPublished, ToldRefused, ToldRejected, Told, RanToEnd, Tallied, FunctionCall, run, Storage}
 use Rattle.mv_ledger.proofs.Common.{IsStore, tables_in, call_of, IsSoundLedger, AnswersRecord, Replies, Leaves, RunsTo, IsAccepted, IsRefused, failing, no_bundle, IsAcceptedBy, IsRefusedOver}
-use Rattle.mv_ledger.proofs.Common.{AllPass, Spells, IsShaped, IsShapeless, IsAdmission, IsAdmitted, IsSettled, AddsTallies, LedgerView, state_of, tallied, view_of, Rejected, BarredRejected, Call}
+use Rattle.mv_ledger.proofs.Common.{AllPass, Spells, IsShaped, IsShapeless, IsAdmission, IsAdmitted, IsApplied, AddsTallies, LedgerView, state_of, tallied, view_of, Rejected, BarredRejected, Call}
 use Rattle.mv_ledger.proofs.Common.{Tally}
 use Rattle.mv_ledger.specs.Changes.{IsKept}
 use Rattle.mv_ledger_state.proofs.Bundles.Verifying.{as-many}
 use Rattle.mv_ledger_state.proofs.Accepted.Sound.{published_sound, attempted_sound}
 use Rattle.mv_ledger.proofs.Records.{asked_fits, answers_record}
 
--- ---- what the machine's ledger answers to a run record: a rejection, or what the admitted call settles
+-- ---- what the machine's ledger answers to a run record: a rejection, or the reply to the admitted call's outcome
 
 module _ (published : List PublishedModule) (stored new : List FlatEntry) (before after : List Tally) (runs : ℕ) (r : RunRequest) where
   -- the ledger before a run, and after it
@@ -28,15 +28,15 @@ module _ (published : List PublishedModule) (stored new : List FlatEntry) (befor
       by_admission (Ok call) e = absurd e
       by_admission (Err own) e = ap (λ (n : ℕ). Some (ToldRejected n, old_state)) (sym e)
 
-  -- a call that is admitted is answered by what it settles
-  pub answered-run : (call : Call) (reply : Told) → IsAdmitted published runs r (Ok call) → IsSettled published call (Some reply) stored new before after
+  -- a call that is admitted is answered by its outcome, applied to the ledger
+  pub answered-run : (call : Call) (reply : Told) → IsAdmitted published runs r (Ok call) → IsApplied published call (Some reply) stored new before after
       → Answers Spells old_state (Run r) reply new_state
-  answered-run call reply h settles = by_admission (admitted old_state r) (h old_state refl refl)
+  answered-run call reply h applies = by_admission (admitted old_state r) (h old_state refl refl)
     where
       by_admission : (a : Result FunctionCall ℕ) → IsAdmission r.budget a (Ok call) → attempted old_state r.budget a ≡ Some (reply, new_state)
       by_admission (Ok asked) e =
-          subst (λ (f : FunctionCall). settled old_state (run (modules_of old_state) old_state.storage f r.budget) ≡ Some (reply, new_state)) e.0
-          (subst (λ (b : ℕ). settled old_state (run (modules_of old_state) old_state.storage (call_of call.function call.arguments.items) b) ≡ Some (reply, new_state)) e.1 (settles runs))
+          subst (λ (f : FunctionCall). applied old_state (run (modules_of old_state) old_state.storage f r.budget) ≡ Some (reply, new_state)) e.0
+          (subst (λ (b : ℕ). applied old_state (run (modules_of old_state) old_state.storage (call_of call.function call.arguments.items) b) ≡ Some (reply, new_state)) e.1 (applies runs))
       by_admission (Err reason) e = absurd e
 
 -- what passed was read from its text, one module for each offer
@@ -140,26 +140,26 @@ module _ (published : List PublishedModule) (payload : List ℕ) (stored : List 
     leaves_for _ h = absurd h
 
     -- a run that was had leaves a sound ledger
-    sound_had : (t : Told) → IsSettled published call (Some t) stored new tallies after → IsSoundLedger (state_of holds)
-    sound_had t settled =
-        attempted_sound (state_of held) (state_of holds) t r sound (asked_fits 2 payload (Run r) asked) (answered-run published stored new tallies after runs r call t is settled)
+    sound_had : (t : Told) → IsApplied published call (Some t) stored new tallies after → IsSoundLedger (state_of holds)
+    sound_had t applied =
+        attempted_sound (state_of held) (state_of holds) t r sound (asked_fits 2 payload (Run r) asked) (answered-run published stored new tallies after runs r call t is applied)
 
-    run_replies : (t : Told) → IsSettled published call (Some t) stored new tallies after → RunsTo (Some t) stored new tallies after → Replies 2 payload (Some t) held holds
-    run_replies t settled kept = record {
-      answers = answers_record 2 payload (Run r) t (state_of held) (state_of holds) asked (answered-run published stored new tallies after runs r call t is settled) (sound_had t settled);
+    run_replies : (t : Told) → IsApplied published call (Some t) stored new tallies after → RunsTo (Some t) stored new tallies after → Replies 2 payload (Some t) held holds
+    run_replies t applied kept = record {
+      answers = answers_record 2 payload (Run r) t (state_of held) (state_of holds) asked (answered-run published stored new tallies after runs r call t is applied) (sound_had t applied);
       leaves = leaves_for t kept;
       rightly = λ kind. absurd (omega (arith, kind));
     }
 
     -- what is answered to a run that was admitted; it is counted where something is told of it
-    pub had_sound : (reply : Option Told) → is_some reply ≡ true → IsSettled published call reply stored new tallies after → IsSoundLedger (state_of holds)
-    had_sound None told settled = cc
-    had_sound (Some t) told settled = sound_had t settled
+    pub had_sound : (reply : Option Told) → is_some reply ≡ true → IsApplied published call reply stored new tallies after → IsSoundLedger (state_of holds)
+    had_sound None told applied = cc
+    had_sound (Some t) told applied = sound_had t applied
 
-    pub had_replies : (reply : Option Told) → is_some reply ≡ true → IsSettled published call reply stored new tallies after → RunsTo reply stored new tallies after
+    pub had_replies : (reply : Option Told) → is_some reply ≡ true → IsApplied published call reply stored new tallies after → RunsTo reply stored new tallies after
         → Replies 2 payload reply held holds
-    had_replies None told settled kept = cc
-    had_replies (Some t) told settled kept = run_replies t settled kept
+    had_replies None told applied kept = cc
+    had_replies (Some t) told applied kept = run_replies t applied kept
 
 -- where nothing is told nothing changed
 pub unchanged : (reply : Option Told) (old new : List FlatEntry) (before after : List Tally) → is_some reply ≡ false → RunsTo reply old new before after → IsKept old new before after

@@ -4,7 +4,7 @@ use Rattle.mv_move_types.specs.Published.{PublishedModule}
 use Rattle.mv_machine.specs.Flat.{FlatEntry, storage_of}
 use Rattle.mv_machine.specs.Run.{FunctionCall, RunOutcome, run}
 use Rattle.mv_machine.specs.Lines.{Reply as Told}
-use Rattle.mv_machine.specs.Ledger.{LedgerState, RunRequest, settled, admitted}
+use Rattle.mv_machine.specs.Ledger.{LedgerState, RunRequest, applied, admitted}
 use Rattle.mv_link_rules.specs.Link.{tables_in}
 use Rattle.mv_interpreter.specs.Runs.{call_of}
 use Rattle.mv_ledger.specs.declared.executing.Call.{Call}
@@ -32,8 +32,8 @@ run_of published stored call =
     run (tables_in published) (storage_of (tables_in published) stored) (call_of call.function call.arguments.items) call.budget
 
 -- what a call changed, and what was told of it, is what the machine's run asks for; nothing is asked where memory ran out
-abbrev pub IsSettled : List PublishedModule → Call → Option Told → List FlatEntry → List FlatEntry → List Tally → List Tally → Type 0
-IsSettled published call None stored new before after = ⊤
-IsSettled published call (Some reply) stored new before after =
-    (runs : ℕ) → settled (state_of (view_of published stored before runs)) (run_of published stored call)
+abbrev pub IsApplied : List PublishedModule → Call → Option Told → List FlatEntry → List FlatEntry → List Tally → List Tally → Type 0
+IsApplied published call None stored new before after = ⊤
+IsApplied published call (Some reply) stored new before after =
+    (runs : ℕ) → applied (state_of (view_of published stored before runs)) (run_of published stored call)
     ≡ Some (reply, state_of (view_of published new after (runs + 1)))

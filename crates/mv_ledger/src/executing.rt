@@ -13,7 +13,7 @@ ghost use Rattle.mv_ledger.specs.Changes.{RunsTo};
 ghost use Rattle.mv_ledger.specs.Answering.{told};
 ghost use Rattle.mv_ledger_state.specs.Asking.{request_of};
 ghost use Rattle.mv_ledger.specs.ParameterTypes.{asked_type};
-ghost use Rattle.mv_ledger.specs.Running.{IsAdmitted, IsSettled, run_of};
+ghost use Rattle.mv_ledger.specs.Running.{IsAdmitted, IsApplied, run_of};
 ghost use Rattle.mv_ledger_state.specs.Tallying.{HasRoomLeft};
 ghost use Rattle.mv_ledger_state.specs.View.{CanCount, IsSmall};
 ghost use Rattle.mv_machine.specs.Tallies.{all_of};
@@ -205,7 +205,7 @@ pub fn execute(published: &mut Published, storage: &mut Storage, call: &Call) ->
     ensures storage_marks { storage.new.marks ≡ storage.old.marks }
     ensures stored { All (IsFineWords (tables_in published.old.modules)) storage.new.committed }
     ensures small { (runs : ℕ) → All (IsSmall runs) (all_of published.old.tallies) → All (IsSmall (runs + 1)) (all_of published.new.tallies) }
-    ensures settled { IsSettled published.old.modules call.now (told result) storage.old.committed storage.new.committed (all_of published.old.tallies) (all_of published.new.tallies) }
+    ensures applied { IsApplied published.old.modules call.now (told result) storage.old.committed storage.new.committed (all_of published.old.tallies) (all_of published.new.tallies) }
     ensures kept { RunsTo (told result) storage.old.committed storage.new.committed (all_of published.old.tallies) (all_of published.new.tallies) }
 {
     // For the prover: the tallies are those of the modules.

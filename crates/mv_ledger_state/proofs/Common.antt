@@ -90,7 +90,7 @@ pub use Rattle.mv_machine.proofs.Empty.{empty_ledger}
 pub use Rattle.mv_machine.specs.Count.{count, count_in, count_in_fields}
 pub use Rattle.mv_machine.specs.Flat.{FlatEntry, fields_from, storage_of, struct_from, value_from, value_under}
 pub use Rattle.mv_machine.specs.Ledger.{Answers, Audit, Bad, BadRun, LedgerState, Offer, Publish, Request, Run, RunRequest, Show, admitted, are_arguments, attempted, is_argument, modules_of}
-pub use Rattle.mv_machine.specs.Ledger.{scarce_name, scarce_structs, settled, tally_of, tally_with, untouched_tally, with_bundle, with_returned, with_run, with_signer}
+pub use Rattle.mv_machine.specs.Ledger.{scarce_name, scarce_structs, applied, tally_of, tally_with, untouched_tally, with_bundle, with_returned, with_run, with_signer}
 pub use Rattle.mv_machine.specs.Lines.{Published, Refused, Reply, Tallied}
 pub use Rattle.mv_machine.specs.Returns.{AtReturn}
 pub use Rattle.mv_machine.specs.Run.{Aborted, Exhausted, Faulted, FunctionCall, Returned, RunOutcome, first_state, outcome_from, packs, run, turns, unpacks}

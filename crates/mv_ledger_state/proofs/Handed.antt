@@ -5,4 +5,4 @@ pub use Rattle.mv_type_rules.proofs.Functions.{if_found}
 pub use Rattle.mv_soundness.proofs.Words.Decoding.{storage_decoded}
 pub use Rattle.mv_soundness.proofs.Words.Sizes.{sizes}
 pub use Rattle.mv_soundness.specs.Words.{flat_entry}
-pub use Rattle.mv_soundness.proofs.Borrows.Standing.{Among}
+pub use Rattle.mv_soundness.proofs.Borrows.Premises.{Among}

@@ -7,7 +7,7 @@ ghost use Rattle.mv_move_types.specs.Published.{with_modules};
 ghost use Rattle.mv_link_rules.specs.Link.{tables_in};
 ghost use Rattle.mv_linker.specs.News.{AreTexts, published_of};
 ghost use Rattle.mv_frames.specs.Counters.{AtMost};
-ghost use Rattle.mv_ledger_state.specs.declared.tallies.Placed.{Placed as Standing};
+ghost use Rattle.mv_ledger_state.specs.declared.tallies.Placed.{Placed as PlacedRecord};
 ghost use Rattle.mv_ledger_state.specs.Judging.{IsKeptOut, MayFollow};
 ghost use Rattle.mv_ledger_state.specs.Tallying.{tally_after, AddsTallies, ArePlacedFor, HasRoomLeft};
 ghost use Rattle.mv_ledger_state.specs.View.{none_published, ArePlaced, CanCount, IsTalliedStore};
@@ -64,7 +64,7 @@ fn place_of(store: &Store, m: &Module<'_>) -> Option<usize>
 
 /// How many of these modules are to stand behind so many that are there.
 fn count_behind(placed: &[Placed], count: usize) -> usize
-    ensures count { result ≡ count_by (λ (p : Standing). nat_le count p.place) placed.now }
+    ensures count { result ≡ count_by (λ (p : PlacedRecord). nat_le count p.place) placed.now }
     ensures few { result ≤ length placed.now }
 {
     placed.iter().filter(|p| p.place >= count).count()
@@ -73,7 +73,7 @@ fn count_behind(placed: &[Placed], count: usize) -> usize
 /// Whether a bundle makes more modules than a ledger may have of so many that are there.
 fn is_too_much(placed: &[Placed], count: usize) -> bool
     requires { count + length placed.now < 2 ^ 63 }
-    ensures { result ≡ nat_lt most_modules (count + count_by (λ (p : Standing). nat_le count p.place) placed.now) }
+    ensures { result ≡ nat_lt most_modules (count + count_by (λ (p : PlacedRecord). nat_le count p.place) placed.now) }
 {
     count + count_behind(placed, count) > MOST_MODULES
 }

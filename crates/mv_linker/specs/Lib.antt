@@ -12,7 +12,7 @@ pub mod DependencyGraph
 pub mod Places
 pub mod Questions
 pub mod ScopeDependencies
-pub mod Settled
+pub mod Finished
 pub mod Relinked
 pub mod Scope
 pub mod Sizes

@@ -7,7 +7,7 @@
 --   with_bundle s bundle                   the ledger after a bundle
 --   AreRead                                published modules are the offered ones
 --   admitted s r                           the call that a run asks for, or the first reason against it
---   settled s outcome                      the reply to a run, and the ledger after it
+--   applied s outcome                      the reply to a run, and the ledger after it
 --   shown, audited                         the lines of a show and of an audit
 --   Answers IsText old request reply new   what the ledger may reply to a request, and where it goes on to
 -- The others are parts of these.
@@ -143,15 +143,15 @@ abbrev pub with_returned : LedgerState → Storage → List Event → LedgerStat
 with_returned s storage events = record (with_run s) { storage = storage; tallies = map (tally_with events) s.tallies }
 
 -- the reply to a run with this outcome, and the ledger after it; a fault has none
-abbrev pub settled : LedgerState → RunOutcome → Option (Reply × LedgerState)
-settled s (Returned steps storage events) = Some (RanToEnd steps, with_returned s storage events)
-settled s (Aborted kind number steps) = Some (RanToAbort kind number steps, with_run s)
-settled s (Exhausted stop steps) = Some (RanOut stop steps, with_run s)
-settled s (Faulted fault steps) = None
+abbrev pub applied : LedgerState → RunOutcome → Option (Reply × LedgerState)
+applied s (Returned steps storage events) = Some (RanToEnd steps, with_returned s storage events)
+applied s (Aborted kind number steps) = Some (RanToAbort kind number steps, with_run s)
+applied s (Exhausted stop steps) = Some (RanOut stop steps, with_run s)
+applied s (Faulted fault steps) = None
 
 -- the reply to a run, which is rejected where there is a reason against it
 abbrev pub attempted : LedgerState → ℕ → Result FunctionCall ℕ → Option (Reply × LedgerState)
-attempted s budget (Ok call) = settled s (run (modules_of s) s.storage call budget)
+attempted s budget (Ok call) = applied s (run (modules_of s) s.storage call budget)
 attempted s budget (Err reason) = Some (Rejected reason, s)
 
 -- the lines of a show

@@ -15,7 +15,7 @@ pub use Rattle.mv_machine.specs.Flat.{FlatEntry}
 pub use Rattle.mv_machine.specs.State.{key_before, same_key}
 pub use Rattle.mv_storage.specs.FlatStorage.{with_words, without_words, words_under}
 pub use Rattle.mv_storage.specs.Map.{Ascends, IsBelow}
-pub use Rattle.mv_storage.specs.Slots.{AreNoted, IsSettling, IsSound, IsTracked, ShowsSame, is_changed, is_vacant, key_cmp, layer_at, of_layer, seen, shown, slot_at}
+pub use Rattle.mv_storage.specs.Slots.{AreNoted, IsResolving, IsSound, IsTracked, ShowsSame, is_changed, is_vacant, key_cmp, layer_at, of_layer, seen, shown, slot_at}
 pub use Rattle.mv_storage.specs.Slots.{value_at}
 pub use Rattle.mv_storage.specs.declared.places.Places.{Places}
 pub use Rattle.mv_storage.specs.declared.slot.Layer.{Layer}

@@ -2,7 +2,7 @@
 --   put-at      a slot stands at a key's place, or at a free one that the key gets
 --   removed-at  a key is gone, and its place is free
 use Rattle.mv_storage.proofs.Common.{[], ℕ, ⊎_elim, ◌++◌, ◌<◌, ◌∙◌, ◌∷◌, ◌≡◌, List, None, Option, Some, ap, cond, false, inl, inr, is_some, length, refl, slice_get}
-use Rattle.mv_storage.proofs.Common.{slice_index_or, slice_set, subst, suc, sym, true, slice_get_within, IsOrdered, get, is_at, lookup, option_and_then, Key, same_key, IsSettling}
+use Rattle.mv_storage.proofs.Common.{slice_index_or, slice_set, subst, suc, sym, true, slice_get_within, IsOrdered, get, is_at, lookup, option_and_then, Key, same_key, IsResolving}
 use Rattle.mv_storage.proofs.Common.{IsSound, is_vacant, key_cmp, slot_at, Places, Slot}
 use Rattle.std.proofs.Common.{zero}
 use Rattle.std.proofs.lemmas.Option.{slice_get_read}
@@ -46,14 +46,14 @@ slice_set-read (z ∷ xs) (suc p) x e = ap (λ ys. z ∷ ys) (slice_set-read xs 
 -- ---- places
 
 -- a key's place, or a free one, is in the list
-pub settling-within : (m : Places) (k : Key) (p : ℕ) → IsSound m → IsSettling m k p → (s : Slot) × (slice_get m.slots.items p ≡ Some s)
-settling-within m k p sound (inl e) = let u = sound.used k p e in (u.0, u.1)
-settling-within m k p sound (inr v) = (v.1.0, v.1.1)
+pub resolving-within : (m : Places) (k : Key) (p : ℕ) → IsSound m → IsResolving m k p → (s : Slot) × (slice_get m.slots.items p ≡ Some s)
+resolving-within m k p sound (inl e) = let u = sound.used k p e in (u.0, u.1)
+resolving-within m k p sound (inr v) = (v.1.0, v.1.1)
 
 -- what the code has read there
-pub place-read : (m : Places) (k : Key) (p : ℕ) (s : Slot) → IsSound m → IsSettling m k p → s ≡ slice_index_or m.slots.items p s → slice_get m.slots.items p ≡ Some s
-place-read m k p s sound settling is =
-    let there = settling-within m k p sound settling in
+pub place-read : (m : Places) (k : Key) (p : ℕ) (s : Slot) → IsSound m → IsResolving m k p → s ≡ slice_index_or m.slots.items p s → slice_get m.slots.items p ≡ Some s
+place-read m k p s sound resolving is =
+    let there = resolving-within m k p sound resolving in
     slice_get_read m.slots.items (length m.slots.items) p s refl (slice_get_within m.slots.items p there.0 there.1) is
 
 pub used-not_vacant : (slots : List Slot) (p : ℕ) → IsUsedAt slots p → IsVacantAt slots p → ⊥
@@ -64,12 +64,12 @@ used-not_vacant slots p u v =
     cc
 
 -- a place in use is the key's
-pub settling-used : (m : Places) (k : Key) (p : ℕ) (s : Slot) → slice_get m.slots.items p ≡ Some s → is_vacant s ≡ false → IsSettling m k p → get key_cmp m.tree k ≡ Some p
-settling-used m k p s at used (inl e) = e
-settling-used m k p s at used (inr v) = absurd (used-not_vacant m.slots.items p (s, at, used) v.1)
+pub resolving-used : (m : Places) (k : Key) (p : ℕ) (s : Slot) → slice_get m.slots.items p ≡ Some s → is_vacant s ≡ false → IsResolving m k p → get key_cmp m.tree k ≡ Some p
+resolving-used m k p s at used (inl e) = e
+resolving-used m k p s at used (inr v) = absurd (used-not_vacant m.slots.items p (s, at, used) v.1)
 
 -- no other key is there
-pub elsewhere : (m : Places) (k : Key) (p : ℕ) → IsSound m → IsSettling m k p → (q : Key) (r : ℕ) → same_key k q ≡ false → get key_cmp m.tree q ≡ Some r → p ≡ r → ⊥
+pub elsewhere : (m : Places) (k : Key) (p : ℕ) → IsSound m → IsResolving m k p → (q : Key) (r : ℕ) → same_key k q ≡ false → get key_cmp m.tree q ≡ Some r → p ≡ r → ⊥
 elsewhere m k p sound (inl e) q r off at same =
     let one : same_key k q ≡ true = sound.apart k q p e (at ∙ ap Some (sym same)) in
     let b : true ≡ false = sym one ∙ off in
@@ -92,23 +92,23 @@ place-off : (m n : Places) (k : Key) (o : Option ℕ) → HasPlace m n k o → (
 place-off m n k o gets q off = gets q ∙ ap (λ b. cond b o (get key_cmp m.tree q)) off
 
 -- each other key has its slot
-slot-off : (m n : Places) (k : Key) (p : ℕ) (t : Slot) (o : Option ℕ) → IsSound m → IsSettling m k p → HasPlace m n k o → n.slots.items ≡ slice_set m.slots.items p t
+slot-off : (m n : Places) (k : Key) (p : ℕ) (t : Slot) (o : Option ℕ) → IsSound m → IsResolving m k p → HasPlace m n k o → n.slots.items ≡ slice_set m.slots.items p t
     → (q : Key) → same_key k q ≡ false → slot_at n q ≡ slot_at m q
-slot-off m n k p t o sound settling gets slots q off =
+slot-off m n k p t o sound resolving gets slots q off =
     ap (λ x. option_and_then (slice_get n.slots.items) x) (place-off m n k o gets q off)
     ∙ ap (λ xs. option_and_then (slice_get xs) (get key_cmp m.tree q)) slots
     ∙ by (get key_cmp m.tree q) refl
   where
     by : (r : Option ℕ) → get key_cmp m.tree q ≡ r → option_and_then (slice_get (slice_set m.slots.items p t)) r ≡ option_and_then (slice_get m.slots.items) r
     by None e = refl
-    by (Some r) e = slice_get-set_other m.slots.items p r t (elsewhere m k p sound settling q r off e)
+    by (Some r) e = slice_get-set_other m.slots.items p r t (elsewhere m k p sound resolving q r off e)
 
-used-off : (m n : Places) (k : Key) (p : ℕ) (t : Slot) (o : Option ℕ) → IsSound m → IsSettling m k p → HasPlace m n k o → n.slots.items ≡ slice_set m.slots.items p t
+used-off : (m n : Places) (k : Key) (p : ℕ) (t : Slot) (o : Option ℕ) → IsSound m → IsResolving m k p → HasPlace m n k o → n.slots.items ≡ slice_set m.slots.items p t
     → (q : Key) → same_key k q ≡ false → (r : ℕ) → get key_cmp n.tree q ≡ Some r → IsUsedAt n.slots.items r
-used-off m n k p t o sound settling gets slots q off r e =
+used-off m n k p t o sound resolving gets slots q off r e =
     let had : get key_cmp m.tree q ≡ Some r = sym (place-off m n k o gets q off) ∙ e in
     let u = sound.used q r had in
-    (u.0, ap (λ xs. slice_get xs r) slots ∙ slice_get-set_other m.slots.items p r t (elsewhere m k p sound settling q r off had) ∙ u.1, u.2)
+    (u.0, ap (λ xs. slice_get xs r) slots ∙ slice_get-set_other m.slots.items p r t (elsewhere m k p sound resolving q r off had) ∙ u.1, u.2)
 
 both-same : (k q r : Key) → same_key k q ≡ true → same_key k r ≡ true → same_key q r ≡ true
 both-same k q r x y = ap (λ z. same_key z r) (sym (same_key-to k q x)) ∙ y
@@ -117,10 +117,10 @@ pub record Put (m n : Places) (k : Key) (t : Slot) : Type 0 where
   pub sound : IsSound n
   pub has : HasAt m n k (Some t)
 
-pub put-at : (m n : Places) (k : Key) (p : ℕ) (t : Slot) → IsSound m → IsSettling m k p → k.place < 65536 → is_vacant t ≡ false
+pub put-at : (m n : Places) (k : Key) (p : ℕ) (t : Slot) → IsSound m → IsResolving m k p → k.place < 65536 → is_vacant t ≡ false
     → IsOrdered key_cmp n.tree → HasPlace m n k (Some p) → n.slots.items ≡ slice_set m.slots.items p t
     → Put m n k t
-put-at m n k p t sound settling small used order gets slots = record {
+put-at m n k p t sound resolving small used order gets slots = record {
   sound = record {
     ordered = order;
     fits = λ q h.
@@ -131,18 +131,18 @@ put-at m n k p t sound settling small used order gets slots = record {
     used = λ q r e.
         ⊎_elim
         (λ (here : same_key k q ≡ true). subst (IsUsedAt n.slots.items) (at-p q r here e) (t, stands, used))
-        (λ (off : same_key k q ≡ false). used-off m n k p t (Some p) sound settling gets slots q off r e)
+        (λ (off : same_key k q ≡ false). used-off m n k p t (Some p) sound resolving gets slots q off r e)
         (cases_Bool (same_key k q));
     apart = λ q r x e f.
         ⊎_elim
         (λ (here : same_key k q ≡ true).
         ⊎_elim
         (λ (there : same_key k r ≡ true). both-same k q r here there)
-        (λ (off : same_key k r ≡ false). absurd (elsewhere m k p sound settling r x off (sym (place-off m n k (Some p) gets r off) ∙ f) (at-p q x here e)))
+        (λ (off : same_key k r ≡ false). absurd (elsewhere m k p sound resolving r x off (sym (place-off m n k (Some p) gets r off) ∙ f) (at-p q x here e)))
         (cases_Bool (same_key k r)))
         (λ (off : same_key k q ≡ false).
         ⊎_elim
-        (λ (there : same_key k r ≡ true). absurd (elsewhere m k p sound settling q x off (sym (place-off m n k (Some p) gets q off) ∙ e) (at-p r x there f)))
+        (λ (there : same_key k r ≡ true). absurd (elsewhere m k p sound resolving q x off (sym (place-off m n k (Some p) gets q off) ∙ e) (at-p r x there f)))
         (λ (gone : same_key k r ≡ false). sound.apart q r x (sym (place-off m n k (Some p) gets q off) ∙ e) (sym (place-off m n k (Some p) gets r gone) ∙ f))
         (cases_Bool (same_key k r)))
         (cases_Bool (same_key k q));
@@ -150,13 +150,13 @@ put-at m n k p t sound settling small used order gets slots = record {
   has = λ q.
       ⊎_elim
       (λ (here : same_key k q ≡ true). rw here (ap (λ x. option_and_then (slice_get n.slots.items) x) (place-here m n k (Some p) gets q here) ∙ stands))
-      (λ (off : same_key k q ≡ false). rw off (slot-off m n k p t (Some p) sound settling gets slots q off))
+      (λ (off : same_key k q ≡ false). rw off (slot-off m n k p t (Some p) sound resolving gets slots q off))
       (cases_Bool (same_key k q));
 }
   where
     stands : slice_get n.slots.items p ≡ Some t
     stands =
-        let s = settling-within m k p sound settling in
+        let s = resolving-within m k p sound resolving in
         ap (λ xs. slice_get xs p) slots ∙ slice_get-set_same m.slots.items p s.0 t s.1
 
     at-p : (q : Key) (r : ℕ) → same_key k q ≡ true → get key_cmp n.tree q ≡ Some r → p ≡ r
@@ -166,10 +166,10 @@ pub record Removed (m n : Places) (k : Key) : Type 0 where
   pub sound : IsSound n
   pub has : HasAt m n k None
 
-pub removed-at : (m n : Places) (k : Key) (p : ℕ) (t : Slot) → IsSound m → IsSettling m k p
+pub removed-at : (m n : Places) (k : Key) (p : ℕ) (t : Slot) → IsSound m → IsResolving m k p
     → IsOrdered key_cmp n.tree → HasPlace m n k None → n.slots.items ≡ slice_set m.slots.items p t
     → Removed m n k
-removed-at m n k p t sound settling order gets slots = record {
+removed-at m n k p t sound resolving order gets slots = record {
   sound = record {
     ordered = order;
     fits = λ q h.
@@ -180,7 +180,7 @@ removed-at m n k p t sound settling order gets slots = record {
     used = λ q r e.
         ⊎_elim
         (λ (here : same_key k q ≡ true). absurd (gone q r here e))
-        (λ (off : same_key k q ≡ false). used-off m n k p t None sound settling gets slots q off r e)
+        (λ (off : same_key k q ≡ false). used-off m n k p t None sound resolving gets slots q off r e)
         (cases_Bool (same_key k q));
     apart = λ q r x e f.
         ⊎_elim
@@ -195,7 +195,7 @@ removed-at m n k p t sound settling order gets slots = record {
   has = λ q.
       ⊎_elim
       (λ (here : same_key k q ≡ true). rw here (ap (λ x. option_and_then (slice_get n.slots.items) x) (place-here m n k None gets q here)))
-      (λ (off : same_key k q ≡ false). rw off (slot-off m n k p t None sound settling gets slots q off))
+      (λ (off : same_key k q ≡ false). rw off (slot-off m n k p t None sound resolving gets slots q off))
       (cases_Bool (same_key k q));
 }
   where
@@ -255,17 +255,17 @@ same-slots m n entries slots q =
     ap (λ (es : List (Key × ℕ)). option_and_then (slice_get n.slots.items) (lookup (is_at (key_cmp q)) es)) entries
     ∙ ap (λ xs. option_and_then (slice_get xs) (get key_cmp m.tree q)) slots
 
--- ---- what is left to settle, once one slot is
+-- ---- what is left to resolve, once one slot is
 
 -- the tree and the list are the same
-pub same-settling : (m n : Places) → n.tree ≡ m.tree → n.slots.items ≡ m.slots.items → (q : Key) (r : ℕ) → IsSettling m q r → IsSettling n q r
-same-settling m n tree slots q r (inl e) = inl (ap (λ x. get key_cmp x q) tree ∙ e)
-same-settling m n tree slots q r (inr v) = inr (ap (λ x. get key_cmp x q) tree ∙ v.0, subst (λ (xs : List Slot). IsVacantAt xs r) (sym slots) v.1)
+pub same-resolving : (m n : Places) → n.tree ≡ m.tree → n.slots.items ≡ m.slots.items → (q : Key) (r : ℕ) → IsResolving m q r → IsResolving n q r
+same-resolving m n tree slots q r (inl e) = inl (ap (λ x. get key_cmp x q) tree ∙ e)
+same-resolving m n tree slots q r (inr v) = inr (ap (λ x. get key_cmp x q) tree ∙ v.0, subst (λ (xs : List Slot). IsVacantAt xs r) (sym slots) v.1)
 
-pub wrote-settling : (m n : Places) (p : ℕ) (s t : Slot) → slice_get m.slots.items p ≡ Some s → is_vacant s ≡ false → n.tree ≡ m.tree → n.slots.items ≡ slice_set m.slots.items p t
-    → (q : Key) (r : ℕ) → IsSettling m q r → IsSettling n q r
-wrote-settling m n p s t at used tree slots q r (inl e) = inl (ap (λ x. get key_cmp x q) tree ∙ e)
-wrote-settling m n p s t at used tree slots q r (inr v) =
+pub wrote-resolving : (m n : Places) (p : ℕ) (s t : Slot) → slice_get m.slots.items p ≡ Some s → is_vacant s ≡ false → n.tree ≡ m.tree → n.slots.items ≡ slice_set m.slots.items p t
+    → (q : Key) (r : ℕ) → IsResolving m q r → IsResolving n q r
+wrote-resolving m n p s t at used tree slots q r (inl e) = inl (ap (λ x. get key_cmp x q) tree ∙ e)
+wrote-resolving m n p s t at used tree slots q r (inr v) =
     inr (ap (λ x. get key_cmp x q) tree ∙ v.0, (v.1.0, ap (λ xs. slice_get xs r) slots ∙ slice_get-set_other m.slots.items p r t other ∙ v.1.1, v.1.2))
   where
     other : p ≡ r → ⊥
@@ -277,10 +277,10 @@ vacant-place m n k p t sound at vacant slots =
     let u = sound.used k p at in
     (t, ap (λ xs. slice_get xs p) slots ∙ slice_get-set_same m.slots.items p u.0 t u.1, vacant)
 
-pub removed-settling : (m n : Places) (k : Key) (p : ℕ) (t : Slot) → IsSound m → get key_cmp m.tree k ≡ Some p → is_vacant t ≡ true → HasPlace m n k None
+pub removed-resolving : (m n : Places) (k : Key) (p : ℕ) (t : Slot) → IsSound m → get key_cmp m.tree k ≡ Some p → is_vacant t ≡ true → HasPlace m n k None
     → n.slots.items ≡ slice_set m.slots.items p t
-    → (q : Key) (r : ℕ) → IsSettling m q r → IsSettling n q r
-removed-settling m n k p t sound at vacant gets slots q r (inl e) =
+    → (q : Key) (r : ℕ) → IsResolving m q r → IsResolving n q r
+removed-resolving m n k p t sound at vacant gets slots q r (inl e) =
     ⊎_elim
     (λ (here : same_key k q ≡ true).
     let same : Some p ≡ Some r = sym at ∙ ap (get key_cmp m.tree) (same_key-to k q here) ∙ e in
@@ -288,7 +288,7 @@ removed-settling m n k p t sound at vacant gets slots q r (inl e) =
     inr (place-here m n k None gets q here, subst (IsVacantAt n.slots.items) one (vacant-place m n k p t sound at vacant slots)))
     (λ (off : same_key k q ≡ false). inl (place-off m n k None gets q off ∙ e))
     (cases_Bool (same_key k q))
-removed-settling m n k p t sound at vacant gets slots q r (inr v) =
+removed-resolving m n k p t sound at vacant gets slots q r (inr v) =
     inr (
       ⊎_elim
           (λ (here : same_key k q ≡ true). place-here m n k None gets q here)

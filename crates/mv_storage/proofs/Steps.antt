@@ -1,24 +1,24 @@
 -- What a step of the code on its slots does to what they show.
 use Rattle.mv_storage.proofs.Common.{[], ℕ, ⊎_elim, ◌++◌, ◌||◌, ◌∙◌, ◌∷◌, ◌≡◌, ◌≤◌, Bool, List, None, Option, Some, ap, arith, cond, false, inl, inr, is_some, refl, slice_get}
 use Rattle.mv_storage.proofs.Common.{slice_index_or, slice_set, subst, sym, true, IsOrdered, get, is_at, option_and_then, Key, FlatEntry, same_key, words_under, AreNoted}
-use Rattle.mv_storage.proofs.Common.{IsSettling, IsSound, IsTracked, ShowsSame, is_changed, is_vacant, key_cmp, layer_at, of_layer, slot_at, value_at, Places, Layer}
+use Rattle.mv_storage.proofs.Common.{IsResolving, IsSound, IsTracked, ShowsSame, is_changed, is_vacant, key_cmp, layer_at, of_layer, slot_at, value_at, Places, Layer}
 use Rattle.mv_storage.proofs.Common.{Committed, Current, Slot, Vacant}
 use Rattle.std.specs.BTreeMap.{BTreeMap}
 use Rattle.std.specs.List.{list_any}
 use Rattle.std.proofs.lemmas.List.Folds.{list_any-append}
 use Rattle.std.proofs.lemmas.Bool.{or_left, cases_Bool}
 use Rattle.mv_storage.specs.Map.{Layers}
-use Rattle.mv_storage.specs.Slots.{is_change, is_pinned, keeps_place, KeepsPinned, ArePlaced, IsSettled, IsSettledAt, ShowsAt}
+use Rattle.mv_storage.specs.Slots.{is_change, is_pinned, keeps_place, KeepsPinned, ArePlaced, IsResolved, IsResolvedAt, ShowsAt}
 use Rattle.mv_storage.proofs.Keys.{same_key-is, same_key-refl, same_key-symm, same_key-to}
-use Rattle.mv_storage.proofs.PlaceLemmas.{HasAt, HasPlace, Put, place-read, settling-used, wrote-at, removed-at, used-not_vacant, same-sound, same-slots, same-settling, wrote-settling}
-use Rattle.mv_storage.proofs.PlaceLemmas.{removed-settling, slice_set-again, slice_set-read}
+use Rattle.mv_storage.proofs.PlaceLemmas.{HasAt, HasPlace, Put, place-read, resolving-used, wrote-at, removed-at, used-not_vacant, same-sound, same-slots, same-resolving, wrote-resolving}
+use Rattle.mv_storage.proofs.PlaceLemmas.{removed-resolving, slice_set-again, slice_set-read}
 use Rattle.mv_storage.proofs.Pinned.{keeps-at, keeps-same, keeps-removed, keeps-tree}
 use Rattle.mv_storage.proofs.Shown.{shown_of, words_under-shown, shown-same, layers-same}
 
 -- each key touched has the place that it is noted with, or has been taken out since
-abbrev pub AreSettling : Places → List (Key × ℕ) → Type 0
-AreSettling p [] = Unit {0}
-AreSettling p (t ∷ ts) = IsSettling p t.0 t.1 × AreSettling p ts
+abbrev pub AreResolving : Places → List (Key × ℕ) → Type 0
+AreResolving p [] = Unit {0}
+AreResolving p (t ∷ ts) = IsResolving p t.0 t.1 × AreResolving p ts
 
 -- the words under a key are those of the slot under it
 pub reads : (layer : Layer) (p : Places) (q : Key) (o : Option Slot) → IsOrdered key_cmp p.tree → o ≡ slot_at p q
@@ -87,17 +87,17 @@ pub placed-kept : (a b : BTreeMap Key ℕ) (touched : List (Key × ℕ)) → ((q
 placed-kept a b [] keep h = tt
 placed-kept a b (t ∷ ts) keep h = (keep t.0 t.1 h.0, placed-kept a b ts keep h.1)
 
-pub settling-placed : (p : Places) (touched : List (Key × ℕ)) → ArePlaced p.tree touched → AreSettling p touched
-settling-placed p [] h = tt
-settling-placed p (t ∷ ts) h = (inl h.0, settling-placed p ts h.1)
+pub resolving-placed : (p : Places) (touched : List (Key × ℕ)) → ArePlaced p.tree touched → AreResolving p touched
+resolving-placed p [] h = tt
+resolving-placed p (t ∷ ts) h = (inl h.0, resolving-placed p ts h.1)
 
-pub settling-last : (p : Places) (rest : List (Key × ℕ)) (u : Key × ℕ) → AreSettling p (rest ++ u ∷ []) → IsSettling p u.0 u.1
-settling-last p [] u h = h.0
-settling-last p (t ∷ ts) u h = settling-last p ts u h.1
+pub resolving-last : (p : Places) (rest : List (Key × ℕ)) (u : Key × ℕ) → AreResolving p (rest ++ u ∷ []) → IsResolving p u.0 u.1
+resolving-last p [] u h = h.0
+resolving-last p (t ∷ ts) u h = resolving-last p ts u h.1
 
-pub settling-rest : (m n : Places) (rest : List (Key × ℕ)) (u : Key × ℕ) → ((q : Key) (place : ℕ) → IsSettling m q place → IsSettling n q place) → AreSettling m (rest ++ u ∷ []) → AreSettling n rest
-settling-rest m n [] u keep h = tt
-settling-rest m n (t ∷ ts) u keep h = (keep t.0 t.1 h.0, settling-rest m n ts u keep h.1)
+pub resolving-rest : (m n : Places) (rest : List (Key × ℕ)) (u : Key × ℕ) → ((q : Key) (place : ℕ) → IsResolving m q place → IsResolving n q place) → AreResolving m (rest ++ u ∷ []) → AreResolving n rest
+resolving-rest m n [] u keep h = tt
+resolving-rest m n (t ∷ ts) u keep h = (keep t.0 t.1 h.0, resolving-rest m n ts u keep h.1)
 
 -- no slot has a key that does not fit
 pub no_slot : (p : Places) (q : Key) → IsSound p → 65536 ≤ q.place → slot_at p q ≡ None
@@ -198,7 +198,7 @@ tracked-added m n k p t touched had none put gets = record {
 pub put-from : (m v n : Places) (k : Key) (t : Slot) → ((q : Key) → slot_at v q ≡ slot_at m q) → Put v n k t → Put m n k t
 put-from m v n k t same put = record { sound = put.sound; has = λ q. put.has q ∙ ap (cond (same_key k q) (Some t)) (same q) }
 
--- ---- the slots that are left to settle
+-- ---- the slots that are left to resolve
 
 or-left : (a b : Bool) → (a || (b || false)) ≡ true → b ≡ false → a ≡ true
 or-left true b e f = refl
@@ -224,20 +224,20 @@ pub has-off : (m n : Places) (k : Key) (slot : Option Slot) → HasAt m n k slot
 has-off m n k slot has q off = has q ∙ ap (λ b. cond b slot (slot_at m q)) off
 
 -- the key was taken out before
-pub settles-none : (layer : Layer) (m n : Places) (k : Key) (p : ℕ) (s : Slot) → IsSound m → IsSettling m k p → s ≡ slice_index_or m.slots.items p s → true ≡ is_vacant s
+pub resolves-none : (layer : Layer) (m n : Places) (k : Key) (p : ℕ) (s : Slot) → IsSound m → IsResolving m k p → s ≡ slice_index_or m.slots.items p s → true ≡ is_vacant s
     → n.tree ≡ m.tree → n.slots.items ≡ slice_set m.slots.items p s
-    → IsSettledAt layer k m n
-settles-none layer m n k p s sound settling is vacant tree slots = record {
+    → IsResolvedAt layer k m n
+resolves-none layer m n k p s sound resolving is vacant tree slots = record {
   sound = same-sound m n sound entries items (subst (IsOrdered key_cmp) (sym tree) sound.ordered);
   same = λ q. ap (layer_at layer) (same-slots m n entries items q);
-  settled = ap is_changed (same-slots m n entries items k) ∙ gone settling;
+  resolved = ap is_changed (same-slots m n entries items k) ∙ gone resolving;
   others = λ q _. same-slots m n entries items q;
-  settling = same-settling m n tree items;
+  resolving = same-resolving m n tree items;
   pinned = λ _. keeps-same m n (same-slots m n entries items) (keeps-tree m n tree);
 }
   where
     read : slice_get m.slots.items p ≡ Some s
-    read = place-read m k p s sound settling is
+    read = place-read m k p s sound resolving is
 
     items : n.slots.items ≡ m.slots.items
     items = slots ∙ slice_set-read m.slots.items p s read
@@ -245,43 +245,43 @@ settles-none layer m n k p s sound settling is vacant tree slots = record {
     entries : n.tree.entries ≡ m.tree.entries
     entries = ap (λ x. x.entries) tree
 
-    gone : IsSettling m k p → is_changed (slot_at m k) ≡ false
+    gone : IsResolving m k p → is_changed (slot_at m k) ≡ false
     gone (inl e) = absurd (used-not_vacant m.slots.items p (sound.used k p e) (s, read, sym vacant))
     gone (inr v) = ap (λ x. is_changed (option_and_then (slice_get m.slots.items) x)) v.0
 
 -- the slot stays
-pub settles-kept : (layer : Layer) (m n : Places) (k : Key) (p : ℕ) (s t : Slot) → IsSound m → IsSettling m k p → s ≡ slice_index_or m.slots.items p s → false ≡ is_vacant s
+pub resolves-kept : (layer : Layer) (m n : Places) (k : Key) (p : ℕ) (s t : Slot) → IsSound m → IsResolving m k p → s ≡ slice_index_or m.slots.items p s → false ≡ is_vacant s
     → n.tree ≡ m.tree → n.slots.items ≡ slice_set m.slots.items p t
     → is_vacant t ≡ false → is_change t ≡ false → of_layer layer t ≡ of_layer layer s → (layer ≡ Committed → is_pinned s ≡ true → is_pinned t ≡ true)
-    → IsSettledAt layer k m n
-settles-kept layer m n k p s t sound settling is stands tree slots used kept same keeps =
-    let read = place-read m k p s sound settling is in
-    let at = settling-used m k p s read (sym stands) settling in
+    → IsResolvedAt layer k m n
+resolves-kept layer m n k p s t sound resolving is stands tree slots used kept same keeps =
+    let read = place-read m k p s sound resolving is in
+    let at = resolving-used m k p s read (sym stands) resolving in
     let put = wrote-at m n k p t sound at used tree slots in
     record {
       sound = put.sound;
       same = has-same layer m n k (Some t) put.has (same ∙ ap (layer_at layer) (sym (slot-read m k p s sound at is)));
-      settled = ap is_changed (has-here m n k (Some t) put.has) ∙ kept;
+      resolved = ap is_changed (has-here m n k (Some t) put.has) ∙ kept;
       others = has-off m n k (Some t) put.has;
-      settling = wrote-settling m n p s t read (sym stands) tree slots;
+      resolving = wrote-resolving m n p s t read (sym stands) tree slots;
       pinned = λ c. keeps-at m n k s t (slot-read m k p s sound at is) put.has (keeps-tree m n tree) (keeps c);
     }
 
 -- the layer has no value, so the key is taken out
-pub settles-removed : (layer : Layer) (m n : Places) (k : Key) (p : ℕ) (s t : Slot) → IsSound m → IsSettling m k p → s ≡ slice_index_or m.slots.items p s → false ≡ is_vacant s
+pub resolves-removed : (layer : Layer) (m n : Places) (k : Key) (p : ℕ) (s t : Slot) → IsSound m → IsResolving m k p → s ≡ slice_index_or m.slots.items p s → false ≡ is_vacant s
     → of_layer layer s ≡ None → (layer ≡ Committed → is_pinned s ≡ false) → IsOrdered key_cmp n.tree → HasPlace m n k None
     → n.slots.items ≡ slice_set (slice_set m.slots.items p t) p (Vacant m.free)
-    → IsSettledAt layer k m n
-settles-removed layer m n k p s t sound settling is stands empty loose order gets slots =
-    let at = settling-used m k p s (place-read m k p s sound settling is) (sym stands) settling in
+    → IsResolvedAt layer k m n
+resolves-removed layer m n k p s t sound resolving is stands empty loose order gets slots =
+    let at = resolving-used m k p s (place-read m k p s sound resolving is) (sym stands) resolving in
     let once = slots ∙ slice_set-again m.slots.items p t (Vacant m.free) in
     let gone = removed-at m n k p (Vacant m.free) sound (inl at) order gets once in
     record {
       sound = gone.sound;
       same = has-same layer m n k None gone.has (sym empty ∙ ap (layer_at layer) (sym (slot-read m k p s sound at is)));
-      settled = ap is_changed (has-here m n k None gone.has);
+      resolved = ap is_changed (has-here m n k None gone.has);
       others = has-off m n k None gone.has;
-      settling = removed-settling m n k p (Vacant m.free) sound at refl gets once;
+      resolving = removed-resolving m n k p (Vacant m.free) sound at refl gets once;
       pinned = λ c. keeps-removed m n k (ap keeps_place (slot-read m k p s sound at is) ∙ loose c) gone.has gets;
     }
 
@@ -290,9 +290,9 @@ pub one-layer : (layer : Layer) (slot : Option Slot) → is_changed slot ≡ fal
 one-layer Committed slot h = refl
 one-layer Current slot h = sym (layers-same slot h)
 
--- what is committed once all is settled
-pub settled-shows : (layer : Layer) (m n : Places) (touched : List (Key × ℕ)) → IsSound m → IsSettled n touched → ShowsSame layer m n → shown_of Committed n ≡ shown_of layer m
-settled-shows layer m n touched s t same = shown-same layer Committed m n s.ordered t.sound.ordered (λ q. one-layer layer (slot_at n q) (t.kept q) ∙ same q)
+-- what is committed once all is resolved
+pub resolved-shows : (layer : Layer) (m n : Places) (touched : List (Key × ℕ)) → IsSound m → IsResolved n touched → ShowsSame layer m n → shown_of Committed n ≡ shown_of layer m
+resolved-shows layer m n touched s t same = shown-same layer Committed m n s.ordered t.sound.ordered (λ q. one-layer layer (slot_at n q) (t.kept q) ∙ same q)
 
 -- overlays with the same layers are one
 pub layers-equal : (a b : Layers) → a.committed ≡ b.committed → a.current ≡ b.current → a.marks ≡ b.marks → a ≡ b

@@ -1,6 +1,6 @@
 -- Changes of storage that are noted and taken back.
 use Rattle.mv_storage.proofs.Common.{[], ℕ, ⊎_elim, ◌++◌, ◌∙◌, ◌∷◌, ◌≡◌, ◌≤◌, ◌⊎◌, List, None, Option, Some, ap, arith, cond, false, inl, inr, length, refl, subst, sym, true, get, IsOrdered, Bool, Key, FlatEntry}
-use Rattle.mv_storage.proofs.Common.{same_key, key_cmp, words_under, Ascends, slot_at, value_at, is_changed, ShowsSame, IsSound, IsSettling, IsTracked}
+use Rattle.mv_storage.proofs.Common.{same_key, key_cmp, words_under, Ascends, slot_at, value_at, is_changed, ShowsSame, IsSound, IsResolving, IsTracked}
 use Rattle.mv_storage.proofs.Common.{layer_at, of_layer, option_and_then, slice_get, slice_index_or, with_words, without_words, Places, Slot, Committed, Current}
 use Rattle.std.proofs.Common.{◌+◌, drop, length-append}
 use Rattle.std.specs.Prelude.{◌&&◌, nat_lt}
@@ -10,7 +10,7 @@ use Rattle.std.proofs.lemmas.Bool.{cases_Bool}
 use Rattle.mv_undo.specs.Undo.{undone, marks_of, AreMarks}
 use Rattle.mv_undo.proofs.Lasts.{last-same, last-some}
 use Rattle.mv_undo.proofs.Undoing.{marks-noted, marks-append-of, marks-same, undone-none, back-same, AreMarks-back, AreMarks-more, all-append, all-before, all-behind}
-use Rattle.mv_storage.specs.Slots.{keeps_place, ArePlaced, AreKept, IsForgotten, IsPinned, IsRemembered, KeepsPinned, IsSettled, ShowsAt}
+use Rattle.mv_storage.specs.Slots.{keeps_place, ArePlaced, AreKept, IsForgotten, IsPinned, IsRemembered, KeepsPinned, IsResolved, ShowsAt}
 use Rattle.mv_storage.specs.Work.{IsAtWork}
 use Rattle.mv_storage.specs.declared.slots.Work.{Work}
 use Rattle.mv_storage.specs.declared.overlay.Overlay.{Overlay}
@@ -181,7 +181,7 @@ kept-at m n k slot has is kept q =
     (λ (off : same_key k q ≡ false). ap is_changed (has q ∙ ap (λ b. cond b slot (slot_at m q)) off) ∙ kept q)
     (cases_Bool (same_key k q))
 
--- one key is settled, and the others have the slots that they had
+-- one key is resolved, and the others have the slots that they had
 pub kept-others : (m n : Places) (k : Key) → is_changed (slot_at n k) ≡ false → ((q : Key) → same_key k q ≡ false → slot_at n q ≡ slot_at m q) → AreKept m → AreKept n
 kept-others m n k is others kept q =
     ⊎_elim
@@ -193,18 +193,18 @@ kept-others m n k is others kept q =
 pub kept-same : (m n : Places) → AreKept m → AreKept n → ShowsSame Current m n → ShowsSame Committed m n
 kept-same m n s t h q = sym (layers-same (slot_at n q) (t q)) ∙ h q ∙ layers-same (slot_at m q) (s q)
 
-pub settled-tracked : (n : Places) (touched : List (Key × ℕ)) → IsSettled n touched → IsTracked n touched
-settled-tracked n touched s = record {
+pub resolved-tracked : (n : Places) (touched : List (Key × ℕ)) → IsResolved n touched → IsTracked n touched
+resolved-tracked n touched s = record {
   sound = s.sound;
   noted = λ q h. (let no : true ≡ false = sym h ∙ s.kept q in absurd (let n : ⊥ = cc in n));
   placed = subst (ArePlaced n.tree) (sym s.none) tt;
 }
 
-pub settled-at_work : (w : Work) → IsSettled w.places w.touched.items → IsRemembered w.places.tree w.known.lines → IsAtWork w
-settled-at_work w s remembered = record { tracked = settled-tracked w.places w.touched.items s; remembered = remembered }
+pub resolved-at_work : (w : Work) → IsResolved w.places w.touched.items → IsRemembered w.places.tree w.known.lines → IsAtWork w
+resolved-at_work w s remembered = record { tracked = resolved-tracked w.places w.touched.items s; remembered = remembered }
 
 pub kept-at_work : (w : Work) → IsSound w.places → AreKept w.places → w.touched.items ≡ [] → IsForgotten w.known.lines → IsAtWork w
-kept-at_work w sound kept none forgotten = settled-at_work w (record { sound = sound; kept = kept; none = none }) (forgotten w.places.tree)
+kept-at_work w sound kept none forgotten = resolved-at_work w (record { sound = sound; kept = kept; none = none }) (forgotten w.places.tree)
 
 -- what places show stays, and so does what was committed at the marks
 pub contents-same : (m n : Places) (us : List Undone) (ms : List ℕ) → IsSound m → IsSound n → ShowsSame Committed m n → ShowsSame Current m n → contents n us ms ≡ contents m us ms
@@ -266,11 +266,11 @@ pub clearing-placed : (p : Places) (us : List Undone) → AllByRecursion (λ u. 
 clearing-placed p [] a = tt
 clearing-placed p (u ∷ us) a = (inl a.0.0, clearing-placed p us a.1)
 
-pub clearing-last : (p : Places) (us : List Undone) (u : Undone) → AreClearing p (us ++ u ∷ []) → IsSettling p u.key u.place
+pub clearing-last : (p : Places) (us : List Undone) (u : Undone) → AreClearing p (us ++ u ∷ []) → IsResolving p u.key u.place
 clearing-last p [] u h = h.0
 clearing-last p (x ∷ xs) u h = clearing-last p xs u h.1
 
-pub clearing-rest : (m n : Places) (us : List Undone) (u : Undone) → ((q : Key) (place : ℕ) → IsSettling m q place → IsSettling n q place) → AreClearing m (us ++ u ∷ []) → AreClearing n us
+pub clearing-rest : (m n : Places) (us : List Undone) (u : Undone) → ((q : Key) (place : ℕ) → IsResolving m q place → IsResolving n q place) → AreClearing m (us ++ u ∷ []) → AreClearing n us
 clearing-rest m n [] u keep h = tt
 clearing-rest m n (x ∷ xs) u keep h = (keep x.key x.place h.0, clearing-rest m n xs u keep h.1)
 

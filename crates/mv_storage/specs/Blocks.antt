@@ -10,7 +10,7 @@ use Rattle.mv_machine.specs.State.{same_key}
 use Rattle.mv_undo.specs.Undo.{marks_of, AreMarks}
 use Rattle.mv_storage.specs.FlatStorage.{FlatStorage, with_words, without_words}
 use Rattle.mv_storage.specs.Map.{Layers}
-use Rattle.mv_storage.specs.Slots.{IsPinned, IsSettling, layers}
+use Rattle.mv_storage.specs.Slots.{IsPinned, IsResolving, layers}
 use Rattle.mv_storage.specs.declared.places.Places.{Places}
 use Rattle.mv_storage.specs.declared.blocks.Before.{Before}
 use Rattle.mv_storage.specs.declared.blocks.Before.TheVariants.{Absent, Nothing, Held}
@@ -60,4 +60,4 @@ pub record IsNoted (old new : Places) (before after : List Undone) : Type 0 wher
 -- each key of a change has the place that it is noted with, or none by now
 abbrev pub AreClearing : Places → List Undone → Type 0
 AreClearing p [] = Unit {0}
-AreClearing p (u ∷ us) = IsSettling p u.key u.place × AreClearing p us
+AreClearing p (u ∷ us) = IsResolving p u.key u.place × AreClearing p us

@@ -202,18 +202,18 @@ abbrev pub IsNotedDown : Key → ℕ → List (Option (Key × ℕ)) → List (Op
 IsNotedDown key place old new = (tree : BTreeMap Key ℕ) → get key_cmp tree key ≡ Some place → IsRemembered tree old → IsRemembered tree new
 
 -- a key has this place, or none by now, and the place is free
-abbrev pub IsSettling : Places → Key → ℕ → Type 0
-IsSettling p key place = (get key_cmp p.tree key ≡ Some place) ⊎ ((get key_cmp p.tree key ≡ None) × IsVacantAt p.slots.items place)
+abbrev pub IsResolving : Places → Key → ℕ → Type 0
+IsResolving p key place = (get key_cmp p.tree key ≡ Some place) ⊎ ((get key_cmp p.tree key ≡ None) × IsVacantAt p.slots.items place)
 
--- what settling the slot of one key leaves: the layer shows what it showed, the slot is not a run's change any more, each
--- other key has the slot that it had, and what is left to settle can be settled; where the run's changes are given up, keys that
+-- what resolving the slot of one key leaves: the layer shows what it showed, the slot is not a run's change any more, each
+-- other key has the slot that it had, and what is left to resolve can be resolved; where the run's changes are given up, keys that
 -- keep their places have them still
-pub record IsSettledAt (layer : Layer) (key : Key) (old new : Places) : Type 0 where
+pub record IsResolvedAt (layer : Layer) (key : Key) (old new : Places) : Type 0 where
   pub sound : IsSound new
   pub same : ShowsSame layer old new
-  pub settled : is_changed (slot_at new key) ≡ false
+  pub resolved : is_changed (slot_at new key) ≡ false
   pub others : (q : Key) → same_key key q ≡ false → slot_at new q ≡ slot_at old q
-  pub settling : (q : Key) (place : ℕ) → IsSettling old q place → IsSettling new q place
+  pub resolving : (q : Key) (place : ℕ) → IsResolving old q place → IsResolving new q place
   pub pinned : layer ≡ Committed → KeepsPinned old new
 
 -- no slot is a run's change
@@ -227,7 +227,7 @@ pub record IsTracked (p : Places) (touched : List (Key × ℕ)) : Type 0 where
   pub placed : ArePlaced p.tree touched
 
 -- the slots where no run is at work: none is changed
-pub record IsSettled (p : Places) (touched : List (Key × ℕ)) : Type 0 where
+pub record IsResolved (p : Places) (touched : List (Key × ℕ)) : Type 0 where
   pub sound : IsSound p
   pub kept : (q : Key) → is_changed (slot_at p q) ≡ false
   pub none : touched ≡ []

@@ -5,7 +5,7 @@ ghost use Rattle.std.specs.Vec.{vec_len, vec_capacity};
 ghost use Rattle.mv_move_types.specs.declared.tables.Key.{Key};
 ghost use Rattle.mv_machine.specs.State.{same_key};
 ghost use Rattle.mv_undo.specs.Undo.{undone, marks_of, AreMarks};
-ghost use Rattle.mv_storage.specs.Slots.{layers, IsSound, IsPinned, AreKept, IsSettling, IsSettledAt, IsTracked, IsSettled, ShowsSame, ShowsAt};
+ghost use Rattle.mv_storage.specs.Slots.{layers, IsSound, IsPinned, AreKept, IsResolving, IsResolvedAt, IsTracked, IsResolved, ShowsSame, ShowsAt};
 ghost use Rattle.mv_storage.specs.Blocks.{back, value_before, is_absent, IsUndoable, IsNoted};
 ghost use Rattle.mv_storage.specs.declared.slot.Layer.TheVariants.{Committed, Current};
 
@@ -40,7 +40,7 @@ pub(crate) fn note_all(places: &mut Places, touched: &mut Vec<(Key, usize)>, und
     requires tracked { IsTracked places.old touched.old.items }
     requires undoable { IsUndoable places.old undo.old.items }
     requires room { vec_len undo.old + vec_len touched.old ≤ vec_capacity undo.old }
-    ensures settled { IsSettled places.new touched.new.items }
+    ensures resolved { IsResolved places.new touched.new.items }
     ensures same { ShowsSame Current places.old places.new }
     ensures noted { IsNoted places.old places.new undo.old.items undo.new.items }
 {
@@ -52,10 +52,10 @@ pub(crate) fn note_all(places: &mut Places, touched: &mut Vec<(Key, usize)>, und
 // Makes what the run sees under a key the committed value, and notes what was committed if the run has changed it.
 fn note_one(places: &mut Places, undo: &mut Vec<Undone>, key: Key, place: usize)
     requires sound { IsSound places.old }
-    requires settling { IsSettling places.old key place }
+    requires resolving { IsResolving places.old key place }
     requires undoable { IsUndoable places.old undo.old.items }
     requires room { vec_len undo.old < vec_capacity undo.old }
-    ensures settled { IsSettledAt Current key places.old places.new }
+    ensures resolved { IsResolvedAt Current key places.old places.new }
     ensures noted { IsNoted places.old places.new undo.old.items undo.new.items }
     ensures more { vec_len undo.new ≤ vec_len undo.old + 1 }
     ensures capacity { vec_capacity undo.new ≡ vec_capacity undo.old }
@@ -159,8 +159,8 @@ fn give_back(undo: &mut Vec<Undone>, alloc: Global)
 fn clear(places: &mut Places, key: &Key, place: usize)
     requires sound { IsSound places.old }
     requires kept { AreKept places.old }
-    requires settling { IsSettling places.old key.now place }
-    ensures { IsSettledAt Current key.now places.old places.new }
+    requires resolving { IsResolving places.old key.now place }
+    ensures { IsResolvedAt Current key.now places.old places.new }
 {
     if places.slots[place].is_gone() {
         places.remove(key, place);

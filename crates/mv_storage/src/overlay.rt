@@ -294,7 +294,7 @@ impl Overlay<'_> {
     {
         let storage = &mut *self.storage;
         if storage.marks.is_empty() {
-            storage.work.settle(Layer::Current);
+            storage.work.resolve(Layer::Current);
             return Ok(());
         }
         let work = &mut storage.work;

@@ -371,7 +371,7 @@ impl Slot {
     // Makes one layer of it the committed one, and says whether its key keeps its place: so it does where the layer has a value, and
     // where an open block has taken its value out.
     #[inline]
-    pub(crate) fn settle(&mut self, layer: Layer) -> bool
+    pub(crate) fn resolve(&mut self, layer: Layer) -> bool
         requires { is_vacant self.old ≡ false }
         ensures there { result ≡ false → of_layer layer self.old ≡ None }
         ensures same { of_layer layer self.new ≡ of_layer layer self.old }
@@ -395,7 +395,7 @@ impl Slot {
                 }
                 None => self.leave(layer),
             },
-            _ => self.settle_added(layer),
+            _ => self.resolve_added(layer),
         }
     }
 
@@ -417,7 +417,7 @@ impl Slot {
     }
 
     // The same for a value of many leaves that the run has put.
-    fn settle_added(&mut self, layer: Layer) -> bool
+    fn resolve_added(&mut self, layer: Layer) -> bool
         requires { (of_layer Committed self.old ≡ None) × (is_vacant self.old ≡ false) }
         ensures there { result ≡ false → of_layer layer self.old ≡ None }
         ensures same { of_layer layer self.new ≡ of_layer layer self.old }

@@ -6,7 +6,7 @@ ghost use Rattle.std.specs.BTreeMap.{BTreeMap, get};
 ghost use Rattle.mv_move_types.specs.declared.tables.Key.{Key};
 ghost use Rattle.mv_machine.specs.State.{same_key};
 ghost use Rattle.mv_storage.specs.WordLists.{piece};
-ghost use Rattle.mv_storage.specs.Slots.{key_cmp, value_at, ShowsSame, ShowsAt, is_change, KeepsPinned, IsRemembered, IsSound, ArePlaced, IsSettling, IsSettledAt, IsTracked, IsSettled, IsOwnAt};
+ghost use Rattle.mv_storage.specs.Slots.{key_cmp, value_at, ShowsSame, ShowsAt, is_change, KeepsPinned, IsRemembered, IsSound, ArePlaced, IsResolving, IsResolvedAt, IsTracked, IsResolved, IsOwnAt};
 ghost use Rattle.mv_storage.specs.Work.{IsAtWork};
 ghost use Rattle.mv_storage.specs.declared.slot.Layer.{Layer};
 ghost use Rattle.mv_storage.specs.declared.slot.Layer.TheVariants.{Committed, Current};
@@ -210,47 +210,52 @@ impl Work {
     // their places. Where none is touched it costs nothing; where none is taken out, the keys that were looked up are remembered
     // still.
     #[inline(always)]
-    pub(crate) fn settle(&mut self, layer: Layer)
+    pub(crate) fn resolve(&mut self, layer: Layer)
         requires { IsAtWork self.old }
-        ensures settled { IsSettled self.new.places self.new.touched.items }
+        ensures resolved { IsResolved self.new.places self.new.touched.items }
         ensures remembered { IsRemembered self.new.places.tree self.new.known.lines }
         ensures same { ShowsSame layer self.old.places self.new.places }
         ensures pinned { layer ≡ Committed → KeepsPinned self.old.places self.new.places }
     {
         if !self.touched.is_empty() {
-            settle_all(&mut self.places, &mut self.touched, &mut self.known, layer);
+            resolve_all(&mut self.places, &mut self.touched, &mut self.known, layer);
         }
     }
 }
 
 // The same where some are touched.
-fn settle_all(places: &mut Places, touched: &mut Vec<(Key, usize)>, known: &mut Known, layer: Layer)
+fn resolve_all(
+    places: &mut Places,
+    touched: &mut Vec<(Key, usize)>,
+    known: &mut Known,
+    layer: Layer,
+)
     requires tracked { IsTracked places.old touched.old.items }
     requires remembered { IsRemembered places.old.tree known.old.lines }
-    ensures settled { IsSettled places.new touched.new.items }
+    ensures resolved { IsResolved places.new touched.new.items }
     ensures remembered { IsRemembered places.new.tree known.new.lines }
     ensures same { ShowsSame layer places.old places.new }
     ensures pinned { layer ≡ Committed → KeepsPinned places.old places.new }
 {
     while let Some((key, place)) = touched.pop() {
-        settle_one(places, known, &key, place, layer);
+        resolve_one(places, known, &key, place, layer);
     }
 }
 
 // Makes one layer of a slot the committed one, and takes the slot out if it is then empty: no key is remembered then.
 #[inline]
-fn settle_one(places: &mut Places, known: &mut Known, key: &Key, place: usize, layer: Layer)
+fn resolve_one(places: &mut Places, known: &mut Known, key: &Key, place: usize, layer: Layer)
     requires sound { IsSound places.old }
-    requires settling { IsSettling places.old key.now place }
+    requires resolving { IsResolving places.old key.now place }
     requires remembered { IsRemembered places.old.tree known.old.lines }
-    ensures at { IsSettledAt layer key.now places.old places.new }
+    ensures at { IsResolvedAt layer key.now places.old places.new }
     ensures remembered { IsRemembered places.new.tree known.new.lines }
 {
     let slot = &mut places.slots[place];
     if slot.is_vacant() {
         return;
     }
-    if slot.settle(layer) {
+    if slot.resolve(layer) {
         return;
     }
     places.remove(key, place);

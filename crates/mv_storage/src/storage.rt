@@ -211,7 +211,7 @@ impl Storage {
         ensures current { self.new.current ≡ self.old.committed }
         ensures marks { self.new.marks ≡ self.old.marks }
     {
-        self.work.settle(Layer::Committed);
+        self.work.resolve(Layer::Committed);
     }
 
     /// Opens a block, which can be taken back. What a run has made and not committed is given up.
@@ -234,7 +234,7 @@ impl Storage {
         ensures back { result ≡ true → self.old.marks ≡ self.new.marks ++ self.new.committed ∷ [] }
         ensures none { result ≡ false → (self.old.marks ≡ []) × (self.new.committed ≡ self.old.committed) × (self.new.marks ≡ []) }
     {
-        self.work.settle(Layer::Committed);
+        self.work.resolve(Layer::Committed);
         match self.marks.end() {
             Some(mark) => {
                 self.work.known.forget();
@@ -258,7 +258,7 @@ impl Storage {
         ensures closed { result ≡ true → (h : FlatStorage) × (self.old.marks ≡ self.new.marks ++ h ∷ []) }
         ensures none { result ≡ false → (self.old.marks ≡ []) × (self.new.marks ≡ []) }
     {
-        self.work.settle(Layer::Committed);
+        self.work.resolve(Layer::Committed);
         match self.marks.end() {
             Some(_mark) => {
                 self.work.known.forget();

@@ -1,12 +1,12 @@
--- What is known of a graph is a list in its order: what changes of the edges that its ways stand for make of it.
+-- What is known of a graph is a list in its order: what changes of the edges that its provenances stand for make of it.
 use Rattle.mv_edges.proofs.Common.{[], ℕ, ◌&&◌, ◌++◌, ◌∙◌, ◌∷◌, ◌≡◌, Bool, List, Option, ap, flat_map, refl, sym, true, list_all, Node}
 use Rattle.mv_edges.proofs.Common.{agrees_if, are_ascending, Edge, an_edge, but_out_of, edges_leq, extended, here, inherited}
 use Rattle.mv_ways.specs.Between.{any_between}
 use Rattle.mv_edges.proofs.Common.{opened, renamed, without, without_each, sorted}
-use Rattle.mv_ways.specs.Graph.{Heir, taken_over}
-use Rattle.mv_edges.proofs.Settled.{sorted-append, sorted-sorted, sorted-without, sorted-but_out_of, sorted-renamed, sorted-inherited, sorted-inherited_all, sorted-flat_map_alike}
+use Rattle.mv_ways.specs.Graph.{Reborrow, taken_over}
+use Rattle.mv_edges.proofs.AsSets.{sorted-append, sorted-sorted, sorted-without, sorted-but_out_of, sorted-renamed, sorted-inherited, sorted-inherited_all, sorted-flat_map_alike}
 use Rattle.mv_edges.proofs.Sorting.{ascending-sorted}
-use Rattle.mv_edges.proofs.Settled.{all-sorted, any-sorted, leq-sorted}
+use Rattle.mv_edges.proofs.AsSets.{all-sorted, any-sorted, leq-sorted}
 
 -- ---- changes: of these edges others are made
 
@@ -45,18 +45,18 @@ held_extended es fs f n e =
     e ∙ sorted-append (without n es) (without n (sorted es)) (inherited (extended f) n n es) (inherited (extended f) n n (sorted es))
     (sym (without_sorted n es)) (sym (sorted-inherited (extended f) n n es))
 
--- what is left without some nodes, and what heirs take over, is the same of a list in another order
+-- what is left without some nodes, and what reborrows take over, is the same of a list in another order
 without_each-alike : (ns : List Node) (es fs : List Edge) → sorted es ≡ sorted fs → sorted (without_each ns es) ≡ sorted (without_each ns fs)
 without_each-alike [] es fs e = e
 without_each-alike (n ∷ ns) es fs e =
     without_each-alike ns (without n es) (without n fs) (sym (without_sorted n es) ∙ ap (λ x. sorted (without n x)) e ∙ without_sorted n fs)
 
-taken_over-sorted : (hs : List Heir) (es : List Edge) → sorted (taken_over hs (sorted es)) ≡ sorted (taken_over hs es)
+taken_over-sorted : (hs : List Reborrow) (es : List Edge) → sorted (taken_over hs (sorted es)) ≡ sorted (taken_over hs es)
 taken_over-sorted hs es =
-    sorted-flat_map_alike (λ (h : Heir). flat_map (λ n. inherited opened n h.node (sorted es)) h.givers) (λ (h : Heir). flat_map (λ n. inherited opened n h.node es) h.givers)
+    sorted-flat_map_alike (λ (h : Reborrow). flat_map (λ n. inherited opened n h.node (sorted es)) h.givers) (λ (h : Reborrow). flat_map (λ n. inherited opened n h.node es) h.givers)
     (λ h. sorted-inherited_all opened h.givers h.node es) hs
 
-pub held_tied : (es fs : List Edge) (ns : List Node) (hs : List Heir) → sorted fs ≡ sorted (without_each ns es ++ taken_over hs es)
+pub held_tied : (es fs : List Edge) (ns : List Node) (hs : List Reborrow) → sorted fs ≡ sorted (without_each ns es ++ taken_over hs es)
     → sorted fs ≡ sorted (without_each ns (sorted es) ++ taken_over hs (sorted es))
 held_tied es fs ns hs e =
     e ∙ sorted-append (without_each ns es) (without_each ns (sorted es)) (taken_over hs es) (taken_over hs (sorted es))

@@ -4,4 +4,4 @@ pub mod Listed
 pub mod Piecewise
 pub mod States
 pub mod Told
-pub mod WayGraph
+pub mod ProvenanceGraph

@@ -2,7 +2,7 @@
 use Rattle.mv_edges.proofs.Common.{[], ◌++◌, ◌==◌, ◌∙◌, ◌∷◌, ◌≡◌, List, ap, append-nil, arith, eqb-true, length, refl, sorted, true, Edge}
 use Rattle.std.specs.Prelude.{IsPermutation}
 use Rattle.std.proofs.lemmas.List.Sorted.{Contains-permutation, IsPermutation-sym}
-use Rattle.mv_edges.proofs.Settled.{sorted-append, sorted-sorted}
+use Rattle.mv_edges.proofs.AsSets.{sorted-append, sorted-sorted}
 use Rattle.mv_edges.proofs.Sorting.{sorted-append_sorted, sorted-append_swap, sorted_alike}
 
 pub put_in_order : (ordered items : List Edge) → sorted (sorted (ordered ++ sorted items) ++ []) ≡ sorted (ordered ++ items)

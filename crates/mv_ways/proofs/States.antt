@@ -3,9 +3,9 @@ use Rattle.mv_edges.proofs.Common.{[], ◌&&◌, ◌∷◌, ◌≡◌, ◌||◌,
 use Rattle.std.proofs.lemmas.Slice.Eq.{slice_eq-Decides}
 use Rattle.std.specs.Cmp.Lexicographic.{pointwise}
 use Rattle.mv_edges.proofs.Insertion.{all_contains, all_from_contains}
-use Rattle.mv_edges.proofs.Settled.{same_truth}
+use Rattle.mv_edges.proofs.AsSets.{same_truth}
 use Rattle.mv_edges.proofs.Sorting.{same_edges_from_contains}
-use Rattle.mv_ways.proofs.WayGraph.Telling.{contains_has, has_contains}
+use Rattle.mv_ways.proofs.ProvenanceGraph.Telling.{contains_has, has_contains}
 use Rattle.mv_ways.specs.Borrows.{are_related, has_related}
 use Rattle.mv_ways.specs.declared.borrows.Relation.TheVariants.{Same}
 

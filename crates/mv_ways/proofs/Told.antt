@@ -5,7 +5,7 @@ use Rattle.std.proofs.lemmas.Grind.{take-set_at}
 use Rattle.std.specs.Bool.{beq}
 use Rattle.std.specs.Str.{bytes_eq}
 use Rattle.std.specs.Cmp.Lexicographic.{bytes_decides}
-use Rattle.mv_edges.proofs.Settled.{same_truth}
+use Rattle.mv_edges.proofs.AsSets.{same_truth}
 use Rattle.mv_move_types.specs.Paths.{begins}
 use Rattle.mv_edges.specs.Edges.{edge_leq}
 use Rattle.mv_ways.specs.Told.{is_beside, same_position}

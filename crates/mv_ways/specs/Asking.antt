@@ -1,11 +1,11 @@
--- What a question notes of ways.
--- A question goes over the ways once, first to last, and notes of each which labels behind it pass (why over ways: decision 52).
---   lets_pass position noted behind                 what is noted lets a label pass
---   larger a b                                      what lets pass what one of two does
---   extended_passing, opened_passing                what is noted of a field, and of what a function returned
---   leads_pass sources from position behind leads   some lead comes from these nodes, and agrees
---   SaysOf, AreNoted                                what is noted is right of some leads, and of the first ways
---   lets_pass_here noted                            something passes with nothing behind it
+-- What a question notes of provenances.
+-- A question goes over the provenances once, first to last, and notes of each which labels behind it pass (why so: decision 52).
+--   lets_pass position noted behind                     what is noted lets a label pass
+--   larger a b                                          what lets pass what one of two does
+--   extended_passing, opened_passing                    what is noted of a field, and of what a function returned
+--   origins_pass sources from position behind origins   some origin comes from these nodes, and agrees
+--   SaysOf, AreNoted                                    what is noted is right of some origins, and of the first provenances
+--   lets_pass_here noted                                something passes with nothing behind it
 -- is_asked and comes_from are parts of these.
 use Rattle.std.specs.Prelude.{◌≡◌, ℕ, ◌<◌, ◌==◌, if◌then◌else◌, Bool, true, false, ◌&&◌, List, Option, Some, None, slice_index_or}
 use Rattle.std.specs.List.{list_any}
@@ -13,10 +13,10 @@ use Rattle.std.specs.Option.{option_map_or}
 use Rattle.mv_move_types.specs.declared.borrow.Node.{Node}
 use Rattle.mv_edges.specs.Edges.{Label}
 use Rattle.mv_edges.specs.Edges.{agrees_if, composed}
-use Rattle.mv_ways.specs.Leads.{Lead}
-use Rattle.mv_ways.specs.Ways.{WayGraph, all_leads, leads_at, source_at}
-use Rattle.mv_ways.specs.declared.ways.questions.Passing.{Passing}
-use Rattle.mv_ways.specs.declared.ways.questions.Passing.TheVariants.{Never, Here, Always}
+use Rattle.mv_ways.specs.Origins.{Origin}
+use Rattle.mv_ways.specs.Provenances.{ProvenanceGraph, all_origins, origins_at, source_at}
+use Rattle.mv_ways.specs.declared.provenances.questions.Passing.{Passing}
+use Rattle.mv_ways.specs.declared.provenances.questions.Passing.TheVariants.{Never, Here, Always}
 
 -- whether what is noted lets a label behind it pass
 abbrev pub lets_pass : Option ℕ → Passing → Label → Bool
@@ -53,19 +53,19 @@ opened_passing Always = Always
 abbrev pub comes_from : List (Option Node) → (Node → Bool) → ℕ → Bool
 comes_from sources from source = option_map_or from (source_at sources source) false
 
--- whether some lead with a label behind it comes from one of these, and agrees
-abbrev pub leads_pass : List (Option Node) → (Node → Bool) → Option ℕ → Label → List Lead → Bool
-leads_pass sources from position behind leads =
-    list_any (λ (l : Lead). comes_from sources from l.source && agrees_if position (composed l.label behind)) leads
+-- whether some origin with a label behind it comes from one of these, and agrees
+abbrev pub origins_pass : List (Option Node) → (Node → Bool) → Option ℕ → Label → List Origin → Bool
+origins_pass sources from position behind origins =
+    list_any (λ (l : Origin). comes_from sources from l.source && agrees_if position (composed l.label behind)) origins
 
--- what is noted says which labels behind some leads pass
-abbrev pub SaysOf : List (Option Node) → (Node → Bool) → Option ℕ → Passing → List Lead → Type 0
-SaysOf sources from position noted leads = (behind : Label) → lets_pass position noted behind ≡ leads_pass sources from position behind leads
+-- what is noted says which labels behind some origins pass
+abbrev pub SaysOf : List (Option Node) → (Node → Bool) → Option ℕ → Passing → List Origin → Type 0
+SaysOf sources from position noted origins = (behind : Label) → lets_pass position noted behind ≡ origins_pass sources from position behind origins
 
--- it does for the first ways
-abbrev pub AreNoted : WayGraph → (Node → Bool) → Option ℕ → ℕ → List Passing → Type 0
+-- it does for the first provenances
+abbrev pub AreNoted : ProvenanceGraph → (Node → Bool) → Option ℕ → ℕ → List Passing → Type 0
 AreNoted g from position count noted =
-    (k : ℕ) (d : Passing) → k < count → SaysOf g.sources from position (slice_index_or noted k d) (leads_at (all_leads g.ways) k)
+    (k : ℕ) (d : Passing) → k < count → SaysOf g.sources from position (slice_index_or noted k d) (origins_at (all_origins g.provenances) k)
 
 -- whether something passes with nothing behind it
 abbrev pub lets_pass_here : Passing → Bool

@@ -12,7 +12,7 @@ use Rattle.std.proofs.lemmas.Bool.{and_parts}
 use Rattle.std.proofs.lemmas.List.Elements.{filter-append}
 use Rattle.mv_move_types.specs.Limits.{most_positions}
 use Rattle.mv_edges.proofs.Common.{list_all-append}
-use Rattle.mv_edges.proofs.Settled.{all-sorted, sorted-append, sorted-filter}
+use Rattle.mv_edges.proofs.AsSets.{all-sorted, sorted-append, sorted-filter}
 use Rattle.mv_edges.proofs.Sorting.{sorted-append_swap}
 use Rattle.mv_edges.specs.Ascending.{edge_before}
 use Rattle.mv_edges.specs.Edges.{Edge}

@@ -4,13 +4,13 @@ pub mod Between
 pub mod Borrows
 pub mod Counting
 pub mod Covered
-pub mod Drawn
+pub mod Derived
 pub mod Going
 pub mod Graph
-pub mod Leads
+pub mod Origins
 pub mod Listing
 pub mod Made
 pub mod Sinks
 pub mod Telling
 pub mod Told
-pub mod Ways
+pub mod Provenances

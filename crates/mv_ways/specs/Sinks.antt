@@ -3,7 +3,7 @@ use Rattle.std.proofs.Common.{◌≡◌, ◌∙◌, sym, ap, append-nil, append_
 use Rattle.std.proofs.Math.Bool.{and_assoc}
 use Rattle.std.specs.List.{list_all, list_any}
 use Rattle.mv_edges.proofs.Common.{list_all-append}
-use Rattle.mv_edges.proofs.Settled.{all-sorted, leq-sorted, sorted-append}
+use Rattle.mv_edges.proofs.AsSets.{all-sorted, leq-sorted, sorted-append}
 use Rattle.mv_edges.specs.Edges.{Edge, edge_leq, edges_leq}
 use Rattle.mv_edges.specs.Sorted.{sorted}
 

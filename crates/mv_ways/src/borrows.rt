@@ -12,9 +12,9 @@ ghost use Rattle.mv_ways.specs.Counting.{is_short};
 
 use super::graph::Graph;
 use super::nodes::NodeSet;
-use super::ways::along::are_below;
-use super::ways::every::EdgeTest;
-use super::ways::told::Told;
+use super::provenances::along::are_below;
+use super::provenances::every::EdgeTest;
+use super::provenances::told::Told;
 use mv_edges::{Edge, Edges};
 use mv_move_types::limits::{MOST_EDGES, MOST_POSITIONS};
 use std::alloc::{AllocError, Global};
@@ -29,7 +29,7 @@ pub(crate) enum Form<'s> {
     Stated(&'s Edges),
     /// In a list.
     Listed(Box<Edges>),
-    /// In a graph of ways.
+    /// In a graph of provenances.
     Grown(Graph),
 }
 
@@ -285,7 +285,7 @@ impl<'s> Borrows<'s> {
             Form::Nothing => Ok(Borrows::nothing()),
             Form::Stated(edges) => Ok(Borrows::of_stated(edges)),
             Form::Listed(edges) => Borrows::of_list(alloc, edges.copy(alloc)?),
-            Form::Grown(graph) => Borrows::of_list(alloc, graph.settled(alloc)?),
+            Form::Grown(graph) => Borrows::of_list(alloc, graph.to_edges(alloc)?),
         }
     }
 
@@ -409,7 +409,7 @@ impl<'s> Borrows<'s> {
             Form::Nothing => Ok(Edges::new(alloc)),
             Form::Stated(edges) => edges.copy(alloc),
             Form::Listed(edges) => edges.copy(alloc),
-            Form::Grown(graph) => graph.settled(alloc),
+            Form::Grown(graph) => graph.to_edges(alloc),
         }
     }
 

@@ -9,34 +9,34 @@ ghost use Rattle.mv_ways.specs.Counting.{is_short};
 ghost use Rattle.mv_ways.specs.Graph.{taken_over};
 
 use super::nodes::NodeSet;
-use super::ways::WayGraph;
-use super::ways::every::EdgeTest;
+use super::provenances::ProvenanceGraph;
+use super::provenances::every::EdgeTest;
 use mv_edges::Edges;
 use mv_move_types::Node;
 use std::alloc::{AllocError, Global};
 use std::marker::Model;
 
-/// A node that takes over the edges that lead into others, with their labels opened.
+/// A result of a call that is a reference: it takes over the edges that lead into the arguments, its givers, with their labels opened.
 #[derive(Drop)]
-pub struct Heir<'a> {
+pub struct Reborrow<'a> {
     node: Node,
     givers: &'a [Node],
 }
 
-impl<'a> Model for Heir<'a> {
-    ghost use Rattle.mv_ways.specs.Graph.{Heir as HeirRecord};
+impl<'a> Model for Reborrow<'a> {
+    ghost use Rattle.mv_ways.specs.Graph.{Reborrow as ReborrowRecord};
 
-    ghost Value = { HeirRecord };
+    ghost Value = { ReborrowRecord };
 
     ghost view = { λ h. record { node = h.node; givers = h.givers.now } };
 }
 
-impl<'a> Heir<'a> {
+impl<'a> Reborrow<'a> {
     /// This node takes over what leads into the others.
     pub fn new(node: Node, givers: &'a [Node]) -> Self
         ensures { result ≡ record { node = node; givers = givers.now } }
     {
-        Heir { node, givers }
+        Reborrow { node, givers }
     }
 
     /// The node.
@@ -58,18 +58,18 @@ impl<'a> Heir<'a> {
 /// list: it records for each reference how it came about, so that a change costs the same however many edges there are.
 #[derive(Drop, Debug)]
 pub struct Graph {
-    ways: Box<WayGraph>,
+    provenances: Box<ProvenanceGraph>,
 }
 
 impl Model for Graph {
     ghost use Rattle.std.specs.Prelude.{List};
     ghost use Rattle.mv_edges.specs.Edges.{Edge as EdgeRecord};
     ghost use Rattle.mv_edges.specs.Sorted.{sorted};
-    ghost use Rattle.mv_ways.specs.Ways.{edges_of};
+    ghost use Rattle.mv_ways.specs.Provenances.{edges_of};
 
     ghost Value = { List EdgeRecord };
 
-    ghost view = { λ g. sorted (edges_of g.ways.value) };
+    ghost view = { λ g. sorted (edges_of g.provenances.value) };
 }
 
 impl Graph {
@@ -77,15 +77,15 @@ impl Graph {
     pub fn of_edges(alloc: Global, edges: &Edges) -> Result<Self, AllocError>
         ensures { IfOk result (λ g. g ≡ edges.now) }
     {
-        let ways = Box::new(alloc, WayGraph::of_edges(alloc, edges)?)?;
-        Ok(Graph { ways })
+        let provenances = Box::new(alloc, ProvenanceGraph::of_edges(alloc, edges)?)?;
+        Ok(Graph { provenances })
     }
 
     /// The edges as a list.
-    pub fn settled(&self, alloc: Global) -> Result<Edges, AllocError>
+    pub fn to_edges(&self, alloc: Global) -> Result<Edges, AllocError>
         ensures { IfOk result (λ s. s ≡ self.now) }
     {
-        self.ways.settled(alloc)
+        self.provenances.to_edges(alloc)
     }
 
     /// The edges ascend.
@@ -93,14 +93,14 @@ impl Graph {
     pub(crate) fn ascend(&self)
         ensures { IsTrue (are_ascending self.now) }
     {
-        let _ways = &self.ways;
+        let _provenances = &self.provenances;
     }
 
     /// Whether no node refers to anything, so that there are no edges.
     pub(crate) fn has_no_reference(&self) -> bool
         ensures { IsTrue result → self.now ≡ [] }
     {
-        self.ways.has_no_reference()
+        self.provenances.has_no_reference()
     }
 
     /// Whether all edges pass a test.
@@ -108,7 +108,7 @@ impl Graph {
     pub(crate) fn all_pass<T: EdgeTest>(&self, test: &T) -> bool
         ensures { result ≡ list_all (T.test test.now) self.now }
     {
-        self.ways.all_pass(test)
+        self.provenances.all_pass(test)
     }
 
     /// Whether there are at most so many edges, whose labels are short.
@@ -117,7 +117,7 @@ impl Graph {
         requires { IsTrue (list_all is_short self.now) }
         ensures { result ≡ nat_le (length self.now) most }
     {
-        self.ways.are_at_most(most)
+        self.provenances.are_at_most(most)
     }
 
     /// Takes away the edges at a node.
@@ -126,7 +126,7 @@ impl Graph {
         ensures edges { self.new ≡ without n self.old }
         ensures sorted { self.new ≡ sorted (without n self.old) }
     {
-        self.ways.remove_at(n);
+        self.provenances.remove_at(n);
     }
 
     /// Takes away the edges that lead out of a node.
@@ -135,7 +135,7 @@ impl Graph {
         ensures edges { self.new ≡ but_out_of n self.old }
         ensures sorted { self.new ≡ sorted (but_out_of n self.old) }
     {
-        self.ways.remove_out_of(n);
+        self.provenances.remove_out_of(n);
     }
 
     /// Puts one node in place of another.
@@ -143,7 +143,7 @@ impl Graph {
     pub fn rename(&mut self, old: Node, new: Node)
         ensures { self.new ≡ sorted (renamed old new self.old) }
     {
-        self.ways.rename(old, new);
+        self.provenances.rename(old, new);
     }
 
     /// Adds an edge from what is borrowed to the new reference to it.
@@ -151,7 +151,7 @@ impl Graph {
     pub fn lend(&mut self, from: Node, to: Node) -> Result<(), AllocError>
         ensures { OnOk result (self.new ≡ sorted (self.old ++ an_edge from here to ∷ [])) }
     {
-        self.ways.lend(from, to)
+        self.provenances.lend(from, to)
     }
 
     /// Adds the edges that lead into a node for another one.
@@ -159,7 +159,7 @@ impl Graph {
     pub fn share(&mut self, old: Node, new: Node) -> Result<(), AllocError>
         ensures { OnOk result (self.new ≡ sorted (self.old ++ inherited (λ label. label) old new self.old)) }
     {
-        self.ways.share(old, new)
+        self.provenances.share(old, new)
     }
 
     /// Turns a reference into one to a field: the edges that lead into it lead one position further, and none leads out of it.
@@ -167,20 +167,20 @@ impl Graph {
     pub fn extend(&mut self, alloc: Global, position: u8, n: Node) -> Result<(), AllocError>
         ensures { OnOk result (self.new ≡ sorted (without n self.old ++ inherited (extended position) n n self.old)) }
     {
-        self.ways.extend(alloc, position, n)
+        self.provenances.extend(alloc, position, n)
     }
 
-    /// Removes the `taken` nodes, and lets each heir take over what leads into its givers, with labels opened.
+    /// Removes the `taken` nodes, and lets each reborrow take over what leads into its givers, with labels opened.
     #[tactic(auto, using(crate::proofs::Held::held_tied))]
     pub fn tie(
         &mut self,
         alloc: Global,
         taken: &[Node],
-        heirs: &[Heir<'_>],
+        reborrows: &[Reborrow<'_>],
     ) -> Result<(), AllocError>
-        ensures { OnOk result (self.new ≡ sorted (without_each taken.now self.old ++ taken_over heirs.now self.old)) }
+        ensures { OnOk result (self.new ≡ sorted (without_each taken.now self.old ++ taken_over reborrows.now self.old)) }
     {
-        self.ways.tie(alloc, taken, heirs)
+        self.provenances.tie(alloc, taken, reborrows)
     }
 
     /// Whether an edge leads from some nodes to others, and agrees with a position, if one is asked for.
@@ -193,7 +193,7 @@ impl Graph {
     ) -> bool
         ensures { result ≡ any_between (P.test from.now) position (Q.test to.now) self.now }
     {
-        self.ways.any_between(from, position, to)
+        self.provenances.any_between(from, position, to)
     }
 
     /// Whether each edge is below one of the others. It takes no memory but tables on the stack.
@@ -201,6 +201,6 @@ impl Graph {
     pub fn is_under(&self, others: &Edges) -> bool
         ensures { result ≡ edges_leq self.now others.now }
     {
-        self.ways.is_under(others)
+        self.provenances.is_under(others)
     }
 }

@@ -1,5 +1,5 @@
-//! A borrow graph on its way through a block: not a list of edges, but the ways by which its references came about. The list
-//! of edges is its model, so that whoever calls it speaks of edges alone.
+//! Provenances: how the references of a block came about, in place of a list of the borrow graph's edges. The list of edges is the
+//! model, so that whoever calls it speaks of edges alone.
 //!
 //! ```
 //! use mv_edges::{Edge, Edges, Label};
@@ -24,8 +24,8 @@
 mod borrows;
 mod graph;
 mod nodes;
-mod ways;
+mod provenances;
 
 pub use borrows::Borrows;
-pub use graph::{Graph, Heir};
+pub use graph::{Graph, Reborrow};
 pub use nodes::{All, NodeSet, One};

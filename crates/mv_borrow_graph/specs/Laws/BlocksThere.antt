@@ -30,7 +30,7 @@ use Rattle.mv_borrow_graph.specs.Domain.{ordered, edges_step}
 use Rattle.mv_certificate_rules.specs.Nodes.{edge_is_there, are_there, may_begin_with, IsGraphOf}
 use Rattle.mv_borrow_graph.specs.Laws.There.{each_sorted}
 use Rattle.mv_borrow_graph.specs.Laws.KeptThere.{HasPlainFields, after_there}
-use Rattle.mv_borrow_graph.specs.Laws.Standing.{Stands, Stands-head, Stands-tail, Stands-range, length-range, Stands-types, block_at}
+use Rattle.mv_borrow_graph.specs.Laws.BlockTypes.{Stands, Stands-head, Stands-tail, Stands-range, length-range, Stands-types, block_at}
 use Rattle.mv_bound_rules.proofs.Entries.{all_at, none_within}
 
 -- none of the instructions is a return

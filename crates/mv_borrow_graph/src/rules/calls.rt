@@ -14,45 +14,45 @@ use crate::needed::are_free;
 use crate::nodes::{has_mutable, is_operand, is_root, nodes_of};
 use crate::site::Site;
 use mv_move_types::{FunctionHandle, Node, Token};
-use mv_ways::{Borrows, Graph, Heir, NodeSet};
+use mv_ways::{Borrows, Graph, NodeSet, Reborrow};
 use std::alloc::{AllocError, Global};
 use std::marker::Model;
 
-/// Adds the heir at a place, if its type is a reference: a mutable one takes over from the mutable arguments, any other from all.
-fn push_heir<'a>(
-    heirs: &mut Vec<Heir<'a>>,
+/// Adds the result at a place, if its type is a reference: a mutable one reborrows from the mutable arguments, any other from all.
+fn push_reborrow<'a>(
+    reborrows: &mut Vec<Reborrow<'a>>,
     mutable: &'a [Node],
     all: &'a [Node],
     place: u16,
     token: Token,
 ) -> Result<(), AllocError>
-    ensures { OnOk result ((es : List EdgeRecord) → taken_over heirs.new.items es ≡ taken_over heirs.old.items es ++ result_edges mutable.now all.now place (token ∷ []) es) }
+    ensures { OnOk result ((es : List EdgeRecord) → taken_over reborrows.new.items es ≡ taken_over reborrows.old.items es ++ result_edges mutable.now all.now place (token ∷ []) es) }
 {
     let givers = match token {
         Token::Plain(_) => return Ok(()),
         Token::Reference(_) => all,
         Token::MutableReference(_) => mutable,
     };
-    heirs.push(Heir::new(Node::Temp(place), givers))?;
+    reborrows.push(Reborrow::new(Node::Temp(place), givers))?;
     Ok(())
 }
 
 /// The results of a call that take over what leads into its arguments. The first result stands at a place.
-fn heirs_of<'a>(
+fn reborrows_of<'a>(
     alloc: Global,
     mutable: &'a [Node],
     all: &'a [Node],
     place: usize,
     results: &[Token],
-) -> Result<Vec<Heir<'a>>, AllocError>
+) -> Result<Vec<Reborrow<'a>>, AllocError>
     requires { place + length results.now ≤ 2 ^ 16 }
-    ensures { IfOk result (λ heirs. (es : List EdgeRecord) → taken_over heirs.items es ≡ result_edges mutable.now all.now place results.now es) }
+    ensures { IfOk result (λ reborrows. (es : List EdgeRecord) → taken_over reborrows.items es ≡ result_edges mutable.now all.now place results.now es) }
 {
-    let mut heirs = Vec::new(alloc);
+    let mut reborrows = Vec::new(alloc);
     for (i, token) in results.iter().enumerate() {
-        push_heir(&mut heirs, mutable, all, (place + i) as u16, *token)?;
+        push_reborrow(&mut reborrows, mutable, all, (place + i) as u16, *token)?;
     }
-    Ok(heirs)
+    Ok(reborrows)
 }
 
 /// A call: the place of its first argument on the stack, and the types of its arguments and results.
@@ -84,8 +84,8 @@ fn tie(alloc: Global, call: &Call<'_>, s: &mut Graph) -> Result<(), AllocError>
 {
     let mutable = givers_of(alloc, call)?;
     let all = nodes_of(alloc, false, call.place, call.parameters)?;
-    let heirs = heirs_of(alloc, &mutable, &all, call.place, call.results)?;
-    s.tie(alloc, &all, &heirs)
+    let reborrows = reborrows_of(alloc, &mutable, &all, call.place, call.results)?;
+    s.tie(alloc, &all, &reborrows)
 }
 
 /// The operands.

@@ -3,7 +3,7 @@
 use super::lists::{but_out_of, inherited, leads_out_of, renamed, without};
 use mv_edges::{Change, Edge, Edges, Label};
 use mv_move_types::Node;
-use mv_ways::{All, Graph, Heir, One};
+use mv_ways::{All, Graph, One, Reborrow};
 use std::alloc::{AllocError, Global};
 use std::test::Fail;
 
@@ -68,11 +68,11 @@ enum Step {
 /// The graph where two nodes are taken.
 fn tie(alloc: Global, first: Node, second: Node, graph: &mut Graph) -> Result<(), AllocError> {
     let both = [first, second];
-    let heirs = [
-        Heir::new(first, &both),
-        Heir::new(Node::Temp(8), &both[1..]),
+    let reborrows = [
+        Reborrow::new(first, &both),
+        Reborrow::new(Node::Temp(8), &both[1..]),
     ];
-    graph.tie(alloc, &both, &heirs)
+    graph.tie(alloc, &both, &reborrows)
 }
 
 /// Makes a step of a graph.
@@ -173,7 +173,7 @@ fn goes_alike(alloc: Global, steps: &[Step], count: u8) -> Result<bool, AllocErr
     for end in 0..steps.len() + 1 {
         let graph = after(alloc, &steps[..end], some_edges(alloc, count)?)?;
         let edges = edges_after(alloc, &steps[..end], some_edges(alloc, count)?)?;
-        if graph.settled(alloc)? != edges {
+        if graph.to_edges(alloc)? != edges {
             return Ok(false);
         }
     }
@@ -362,7 +362,7 @@ fn are_under(alloc: Global, count: u8, paths: &[&[u8]]) -> Result<(bool, bool), 
     let graph = after(alloc, &TO_TWO_FIELDS, with_fields(alloc, count)?)?;
     let others = others(alloc, count, paths)?;
     let is_under = graph.is_under(&others);
-    Ok((is_under, graph.settled(alloc)?.leq(&others)))
+    Ok((is_under, graph.to_edges(alloc)?.leq(&others)))
 }
 
 #[test]

@@ -1,7 +1,7 @@
 -- What a run leaves is what the machine's run asks for.
 use Rattle.mv_ledger.proofs.Common.{◌+◌, ◌∙◌, ◌≡◌, List, Option, Some, ap, ap₂, arith, map, sym, ℕ, All-weaker, All, Module, PublishedModule, StructTally, Layers, FlatEntry}
-use Rattle.mv_ledger.proofs.Common.{storage_of, LedgerState, settled, Told, Tallied, Aborted, Exhausted, Faulted, Returned, RunOutcome, Storage, HasAborted, HasExhausted, HasReturned}
-use Rattle.mv_ledger.proofs.Common.{tables_in, Agrees, told, told_ending, IsSettled, run_of, tally_after, IsNamed, IsSmall, all_of, state_of, tallied, view_of, Call, Tally}
+use Rattle.mv_ledger.proofs.Common.{storage_of, LedgerState, applied, Told, Tallied, Aborted, Exhausted, Faulted, Returned, RunOutcome, Storage, HasAborted, HasExhausted, HasReturned}
+use Rattle.mv_ledger.proofs.Common.{tables_in, Agrees, told, told_ending, IsApplied, run_of, tally_after, IsNamed, IsSmall, all_of, state_of, tallied, view_of, Call, Tally}
 use Rattle.mv_ledger.proofs.Common.{unwrap_or, name_at, StructName, Definition, packs_at, unpacks_at, Count, tally_with, packs, unpacks, Event, some-of, nameless, Tallies}
 use Rattle.mv_machine.specs.declared.Outcome.{Outcome}
 use Rattle.mv_machine.specs.declared.Ending.{Ending}
@@ -68,12 +68,12 @@ module _ (published : List PublishedModule) (call : Call) (stored new : List Fla
   told_as t u s x p q = ap₂ telling (sym p) (sym q)
 
   -- a run that returned leaves its storage, and the tallies with its own
-  pub settled-returned : (outcome : Outcome) (tally : List StructTally) (layers : Layers) → All (IsNamed modules) before → Agrees modules (run_of published stored call) outcome tally layers → outcome.ending ≡ HasReturned
-      → new ≡ layers.current → after ≡ map (tally_after tally) before → IsSettled published call (told (Ran outcome)) stored new before after
-  settled-returned outcome tally layers named agrees ended new_is after_is = λ runs. by_outcome runs (run_of published stored call) agrees
+  pub applied-returned : (outcome : Outcome) (tally : List StructTally) (layers : Layers) → All (IsNamed modules) before → Agrees modules (run_of published stored call) outcome tally layers → outcome.ending ≡ HasReturned
+      → new ≡ layers.current → after ≡ map (tally_after tally) before → IsApplied published call (told (Ran outcome)) stored new before after
+  applied-returned outcome tally layers named agrees ended new_is after_is = λ runs. by_outcome runs (run_of published stored call) agrees
     where
       by_outcome : (runs : ℕ) (o : RunOutcome) → Agrees modules o outcome tally layers
-          → settled (state_of (view_of published stored before runs)) o ≡ Some (told_ending outcome.ending outcome.steps, state_of (view_of published new after (runs + 1)))
+          → applied (state_of (view_of published stored before runs)) o ≡ Some (told_ending outcome.ending outcome.steps, state_of (view_of published new after (runs + 1)))
       by_outcome runs (Returned steps storage events) h =
           told_as _ _ _ _ (ap (λ (x : Outcome). told_ending x.ending x.steps) h.0)
           (ap₂ (after_runs runs) (ap (storage_of modules) new_is ∙ sym h.1) (ap (map (tallied modules)) after_is ∙ tallies-after published tally events before named h.2))
@@ -82,15 +82,15 @@ module _ (published : List PublishedModule) (call : Call) (stored new : List Fla
       by_outcome runs (Faulted fault steps) h = absurd h
 
   -- any other leaves both as they were
-  pub settled-kept : (outcome : Outcome) (tally : List StructTally) (layers : Layers) → Agrees modules (run_of published stored call) outcome tally layers → (outcome.ending ≡ HasReturned → ⊥)
-      → new ≡ stored → after ≡ before → IsSettled published call (told (Ran outcome)) stored new before after
-  settled-kept outcome tally layers agrees goes_on new_is after_is = λ runs. by_outcome runs (run_of published stored call) agrees
+  pub applied-kept : (outcome : Outcome) (tally : List StructTally) (layers : Layers) → Agrees modules (run_of published stored call) outcome tally layers → (outcome.ending ≡ HasReturned → ⊥)
+      → new ≡ stored → after ≡ before → IsApplied published call (told (Ran outcome)) stored new before after
+  applied-kept outcome tally layers agrees goes_on new_is after_is = λ runs. by_outcome runs (run_of published stored call) agrees
     where
       same : (runs : ℕ) → after_runs runs (storage_of modules new) (map (tallied modules) after) ≡ after_runs runs (storage_of modules stored) (map (tallied modules) before)
       same runs = ap₂ (after_runs runs) (ap (storage_of modules) new_is) (ap (map (tallied modules)) after_is)
 
       by_outcome : (runs : ℕ) (o : RunOutcome) → Agrees modules o outcome tally layers
-          → settled (state_of (view_of published stored before runs)) o ≡ Some (told_ending outcome.ending outcome.steps, state_of (view_of published new after (runs + 1)))
+          → applied (state_of (view_of published stored before runs)) o ≡ Some (told_ending outcome.ending outcome.steps, state_of (view_of published new after (runs + 1)))
       by_outcome runs (Returned steps storage events) h = absurd (goes_on (ap (λ (x : Outcome). x.ending) h.0))
       by_outcome runs (Aborted kind n steps) h = told_as _ _ _ _ (ap (λ (x : Outcome). told_ending x.ending x.steps) h) (same runs)
       by_outcome runs (Exhausted stop steps) h = told_as _ _ _ _ (ap (λ (x : Outcome). told_ending x.ending x.steps) h) (same runs)

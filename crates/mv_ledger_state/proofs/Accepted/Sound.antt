@@ -1,6 +1,6 @@
 -- No run of a sound ledger meets a fault, and each answered record leaves it sound.
 use Rattle.mv_ledger_state.proofs.Common.{◌≡◌, Err, IsTrue, List, Ok, Option, Result, Some, refl, subst, sym, ℕ, PublishedModule, with_modules, IsReadByText, address_fits, WhereSome, Answers, Audit, Bad}
-use Rattle.mv_ledger_state.proofs.Common.{BadRun, LedgerState, Offer, Publish, Request, Run, RunRequest, Show, admitted, attempted, empty_ledger, modules_of, settled, with_bundle, with_returned}
+use Rattle.mv_ledger_state.proofs.Common.{BadRun, LedgerState, Offer, Publish, Request, Run, RunRequest, Show, admitted, attempted, empty_ledger, modules_of, applied, with_bundle, with_returned}
 use Rattle.mv_ledger_state.proofs.Common.{with_run, Published, Refused, Reply, AtReturn, Aborted, Exhausted, Faulted, FunctionCall, Returned, RunOutcome, run, Event}
 use Rattle.mv_ledger_state.proofs.Common.{Storage, is_fine_storage, IsStore, tables_in, runs_faultless, Ranged, admitted_typed, fine_storage, typed_is_fine, StorageTyped, IsVetted, IsSoundLedger}
 use Rattle.mv_ledger_state.proofs.Common.{Conserves, IsFineStorage, IsPublished, Spells}
@@ -83,18 +83,18 @@ ran_sound s sound = record { store = sound.store; typed = sound.typed; ascending
 abbrev LeavesSound : Option (Reply × LedgerState) → Type 0
 LeavesSound o = WhereSome (λ (p : Reply × LedgerState). IsSoundLedger p.1) o
 
-settled_sound : (s : LedgerState) (o : RunOutcome) → IsSoundLedger s → Faultless (modules_of s) o → AtReturn (Conserves (modules_of s) s.storage) o → LeavesSound (settled s o)
-settled_sound s (Returned steps storage events) sound typed conserves = returned_sound s storage events sound typed conserves
-settled_sound s (Aborted kind number steps) sound typed conserves = ran_sound s sound
-settled_sound s (Exhausted stop steps) sound typed conserves = ran_sound s sound
-settled_sound s (Faulted fault steps) sound typed conserves = tt
+applied_sound : (s : LedgerState) (o : RunOutcome) → IsSoundLedger s → Faultless (modules_of s) o → AtReturn (Conserves (modules_of s) s.storage) o → LeavesSound (applied s o)
+applied_sound s (Returned steps storage events) sound typed conserves = returned_sound s storage events sound typed conserves
+applied_sound s (Aborted kind number steps) sound typed conserves = ran_sound s sound
+applied_sound s (Exhausted stop steps) sound typed conserves = ran_sound s sound
+applied_sound s (Faulted fault steps) sound typed conserves = tt
 
 -- a run record leaves a sound ledger sound
 pub attempted_sound : (s new : LedgerState) (reply : Reply) (r : RunRequest) → IsSoundLedger s → RunFits r → attempted s r.budget (admitted s r) ≡ Some (reply, new) → IsSoundLedger new
 attempted_sound s new reply r sound fits e = subst LeavesSound e (by_case (admitted s r) refl)
   where
     by_case : (a : Result FunctionCall ℕ) → admitted s r ≡ a → LeavesSound (attempted s r.budget a)
-    by_case (Ok call) is = settled_sound s (run (modules_of s) s.storage call r.budget) sound (run_faultless s r call sound fits is) (run_conserves s r call sound is)
+    by_case (Ok call) is = applied_sound s (run (modules_of s) s.storage call r.budget) sound (run_faultless s r call sound fits is) (run_conserves s r call sound is)
     by_case (Err reason) is = sound
 
 -- ---- each record

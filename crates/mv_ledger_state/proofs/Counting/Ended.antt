@@ -1,6 +1,6 @@
 -- A run that is answered ends as it should, and what is stored is what the tallies leave.
 use Rattle.mv_ledger_state.proofs.Common.{◌+◌, ◌-◌, ◌≡◌, ◌≤◌, Err, List, Ok, Result, Some, arith, refl, subst, ℕ, slice_get, Module, WhereOk, on_some, steps_taken, turns-bound, count, Answers}
-use Rattle.mv_ledger_state.proofs.Common.{LedgerState, Request, Run, admitted, attempted, modules_of, settled, Reply, Tallied, AtReturn, Faulted}
+use Rattle.mv_ledger_state.proofs.Common.{LedgerState, Request, Run, admitted, attempted, modules_of, applied, Reply, Tallied, AtReturn, Faulted}
 use Rattle.mv_ledger_state.proofs.Common.{FunctionCall, Returned, RunOutcome, first_state, outcome_from, turns, State, Storage, Aborts, Failure, Faults, CallEndsWell, EndsWell, EveryCountIsTallied}
 use Rattle.mv_ledger_state.proofs.Common.{IsOwnWork, RunsWell}
 use Rattle.mv_machine.specs.Run.{run}
@@ -21,15 +21,15 @@ run-bound modules storage call budget = outcome-bound modules budget (first_stat
     subst (WhereOk (λ (t : State). t.steps ≡ 0)) e3 refl))))
 
 -- a run that is answered meets no fault
-settled-well : (s new : LedgerState) (reply : Reply) (budget : ℕ) (outcome : RunOutcome) → steps_taken outcome ≤ budget → AtReturn (λ storage events. IsOwnWork events) outcome
-    → settled s outcome ≡ Some (reply, new) → EndsWell budget outcome
-settled-well s new reply budget (Returned steps storage events) b own e = (b, own)
-settled-well s new reply budget (Faulted fault steps) b own e = absurd cc
-settled-well _ _ _ _ _ b _ _ = b
+applied-well : (s new : LedgerState) (reply : Reply) (budget : ℕ) (outcome : RunOutcome) → steps_taken outcome ≤ budget → AtReturn (λ storage events. IsOwnWork events) outcome
+    → applied s outcome ≡ Some (reply, new) → EndsWell budget outcome
+applied-well s new reply budget (Returned steps storage events) b own e = (b, own)
+applied-well s new reply budget (Faulted fault steps) b own e = absurd cc
+applied-well _ _ _ _ _ b _ _ = b
 
 attempted-well : (s new : LedgerState) (reply : Reply) (budget : ℕ) (r : Result FunctionCall ℕ) → attempted s budget r ≡ Some (reply, new) → CallEndsWell s budget r
 attempted-well s new reply budget (Ok call) e =
-    settled-well s new reply budget (run (modules_of s) s.storage call budget) (run-bound (modules_of s) s.storage call budget) (run-own (modules_of s) s.storage call budget) e
+    applied-well s new reply budget (run (modules_of s) s.storage call budget) (run-bound (modules_of s) s.storage call budget) (run-own (modules_of s) s.storage call budget) e
 attempted-well s new reply budget (Err reason) e = tt
 
 -- a run that is answered ends as it should

@@ -8,21 +8,21 @@ use Rattle.mv_linker.proofs.Common.{[], ℕ, zero, suc, ◌++◌, ◌+◌, ◌-�
 use Rattle.mv_linker.proofs.Common.{cases_eq, cond, directly, eq-eqb, eqb-true, false, false_from_ne_true, further, inl, inr, length, ne_eqb, or_cases, or_left, or_right, refl, same_Some, slice_get}
 use Rattle.mv_linker.proofs.Common.{slice_get-first, slice_get_within, subst, sym, take, true}
 use Rattle.mv_linker.specs.Places.{has, IsWithin}
-use Rattle.mv_linker.specs.Settled.{AreSettled, IsNext, IsSettled, LeadsTo, LeadsToSettled}
+use Rattle.mv_linker.specs.Finished.{AreFinished, IsNext, IsFinished, LeadsTo, LeadsToFinished}
 use Rattle.mv_linker.proofs.Lemmas.{Contains-at, at-Contains, element_at}
 use Rattle.mv_bound_rules.proofs.Found.{slice_get-take}
-use Rattle.mv_linker.proofs.Cycles.Settled.{one-settled}
+use Rattle.mv_linker.proofs.Cycles.Finished.{one-finished}
 use Rattle.mv_bound_rules.proofs.Entries.{last_or_before}
 
 -- a place of the chain that the search is on
 pub record IsOpen (modules : List Module) (base : ℕ) (met done : List ℕ) (p : ℕ) : Type 0 where
   pub low : p < length modules
   pub came_to : has met p ≡ true
-  pub unsettled : IsSettled base done p → ⊥
+  pub unfinished : IsFinished base done p → ⊥
 
 -- how far the search from a place came: the chain that it is on, the places that it met, and those that it is done with
 pub record IsSearch (modules : List Module) (base start : ℕ) (was chain met done : List ℕ) : Type 0 where
-  pub settled : AreSettled modules base done
+  pub finished : AreFinished modules base done
   pub stays : IsWithin 0 was done
   pub steps : (i p q : ℕ) → slice_get chain i ≡ Some p → slice_get chain (i + 1) ≡ Some q → LeadsTo modules p q
   pub once : (i j p : ℕ) → slice_get chain i ≡ Some p → slice_get chain j ≡ Some p → i ≡ j
@@ -96,10 +96,10 @@ module _ (modules : List Module) (base start : ℕ) (was : List ℕ) where
         one-more : (i k : ℕ) → i + k + 1 ≡ i + suc k
         one-more i k = omega arith
 
-    -- a place that was met and isn't settled closes a chain
+    -- a place that was met and isn't finished closes a chain
     pub search-loops : (next : ℕ) → IsNext modules base done p next → has met next ≡ true → IsOrdered modules → ⊥
     search-loops next n is ordered = elim (s.open_or_done next is) [
-      | inl before ↦ n.unsettled (inr before)
+      | inl before ↦ n.unfinished (inr before)
       | inr there ↦
           let at = Contains-at chain next there in
           let low = slice_get_within chain at.0 next at.1 in
@@ -119,7 +119,7 @@ module _ (modules : List Module) (base start : ℕ) (was : List ℕ) where
     pub search-goes-on : (next : ℕ) (longer later : List ℕ) → IsNext modules base done p next → has met next ≡ false → longer ≡ chain ++ next ∷ []
         → ((q : ℕ) → has later q ≡ (q == next || has met q)) → IsSearch modules base start was longer later done
     search-goes-on next longer later n new pushed put = rw pushed (record {
-      settled = s.settled;
+      finished = s.finished;
       stays = s.stays;
       steps = λ i a b at end. elim (pushed-or chain next (i + 1) b end) [
         | inl before ↦
@@ -145,30 +145,30 @@ module _ (modules : List Module) (base start : ℕ) (was : List ℕ) where
       open_at = λ i a at. elim (pushed-or chain next i a at) [
         | inl before ↦
             let o = s.open_at i a before in
-            record { low = o.low; came_to = put a ∙ or_right (a == next) (has met a) o.came_to; unsettled = o.unsettled }
+            record { low = o.low; came_to = put a ∙ or_right (a == next) (has met a) o.came_to; unfinished = o.unfinished }
         | inr end ↦ record {
           low = rw end.1 (slice_get_within modules next n.leads.to n.leads.to_at);
           came_to = put a ∙ or_left (a == next) (has met a) (eq-eqb a next end.1);
-          unsettled = λ settled. n.unsettled (subst (λ x. IsSettled base done x) end.1 settled);
+          unfinished = λ finished. n.unfinished (subst (λ x. IsFinished base done x) end.1 finished);
         }
       ];
       open_or_done = λ q is. elim (or_cases (q == next) (has met q) (sym (put q) ∙ is)) [
         | inl here ↦ inr (at-Contains (chain ++ next ∷ []) (length chain) q (end-at chain next ∙ ap Some (sym (eqb-true q next here))))
         | inr before ↦ elim (s.open_or_done q before) [
-          | inl settled ↦ inl settled
+          | inl finished ↦ inl finished
           | inr there ↦
               let at = Contains-at chain q there in
               inr (at-Contains (chain ++ next ∷ []) at.0 q (slice_get-first chain (next ∷ []) at.0 (slice_get_within chain at.0 q at.1) ∙ at.1))
         ]
       ];
-      begun = elim s.begun [ inl settled ↦ inl settled | inr first ↦ inr (slice_get-first chain (next ∷ []) 0 long ∙ first) ];
+      begun = elim s.begun [ inl finished ↦ inl finished | inr first ↦ inr (slice_get-first chain (next ∷ []) 0 long ∙ first) ];
     })
 
-    -- it goes back from a place that leads to settled ones alone
-    pub search-goes-back : (shorter more : List ℕ) → LeadsToSettled modules base done p → shorter ≡ take (length chain - 1) chain → ((q : ℕ) → has more q ≡ (q == p || has done q))
+    -- it goes back from a place that leads to finished ones alone
+    pub search-goes-back : (shorter more : List ℕ) → LeadsToFinished modules base done p → shorter ≡ take (length chain - 1) chain → ((q : ℕ) → has more q ≡ (q == p || has done q))
         → IsSearch modules base start was shorter met more
     search-goes-back shorter more all popped put = rw popped (record {
-      settled = one-settled modules base done s.settled more p all put;
+      finished = one-finished modules base done s.finished more p all put;
       stays = λ q high is. grows q (s.stays q high is);
       steps = λ i a b at end. s.steps i a b (first-at chain (length chain - 1) i a at).1 (first-at chain (length chain - 1) (i + 1) b end).1;
       once = λ i j a at same. s.once i j a (first-at chain (length chain - 1) i a at).1 (first-at chain (length chain - 1) j a same).1;
@@ -178,16 +178,16 @@ module _ (modules : List Module) (base start : ℕ) (was : List ℕ) where
           record {
             low = o.low;
             came_to = o.came_to;
-            unsettled = λ settled. elim settled [
-              | inl below ↦ o.unsettled (inl below)
+            unfinished = λ finished. elim finished [
+              | inl below ↦ o.unfinished (inl below)
               | inr is ↦ elim (or_cases (a == p) (has done a) (sym (put a) ∙ is)) [
                 | inl here ↦ (let same = s.once i (length chain - 1) a f.1 (last ∙ ap Some (sym (eqb-true a p here))) in let low = f.0 in omega (arith, same, low))
-                | inr before ↦ o.unsettled (inr before)
+                | inr before ↦ o.unfinished (inr before)
               ]
             ];
           };
       open_or_done = λ q is. elim (s.open_or_done q is) [
-        | inl settled ↦ inl (grows q settled)
+        | inl finished ↦ inl (grows q finished)
         | inr there ↦
             let at = Contains-at chain q there in
             elim (cases_eq at.0 (length chain - 1)) [
@@ -198,7 +198,7 @@ module _ (modules : List Module) (base start : ℕ) (was : List ℕ) where
             ]
       ];
       begun = elim s.begun [
-        | inl settled ↦ inl (grows start settled)
+        | inl finished ↦ inl (grows start finished)
         | inr first ↦ elim (cases_eq (length chain - 1) 0) [
           | inl only ↦ inl (here start (same_Some start p (sym first ∙ sym (ap (slice_get chain) only) ∙ last)))
           | inr other ↦ inr (slice_get-take chain (length chain - 1) 0 (omega (arith, other)) ∙ first)
@@ -214,17 +214,17 @@ module _ (modules : List Module) (base start : ℕ) (was : List ℕ) where
 
 -- ---- searches from several places
 
--- the first of them are settled
+-- the first of them are finished
 pub record IsSearchOfFirst (modules : List Module) (base : ℕ) (places met done : List ℕ) (i : ℕ) : Type 0 where
-  pub settled : AreSettled modules base done
+  pub finished : AreFinished modules base done
   pub all_done : IsWithin 0 met done
-  pub each : (k p : ℕ) → k < i → slice_get places k ≡ Some p → IsSettled base done p
+  pub each : (k p : ℕ) → k < i → slice_get places k ≡ Some p → IsFinished base done p
 
 -- ---- how much is left
 
--- what isn't settled isn't done
-pub not-done : (base : ℕ) (done : List ℕ) (p : ℕ) → (IsSettled base done p → ⊥) → has done p ≡ false
-not-done base done p unsettled = false_from_ne_true (has done p) (λ is. unsettled (inr is))
+-- what isn't finished isn't done
+pub not-done : (base : ℕ) (done : List ℕ) (p : ℕ) → (IsFinished base done p → ⊥) → has done p ≡ false
+not-done base done p unfinished = false_from_ne_true (has done p) (λ is. unfinished (inr is))
 
 -- the places below a number that are not of a set
 abbrev pub left : List ℕ → ℕ → ℕ

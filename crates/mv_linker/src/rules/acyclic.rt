@@ -5,7 +5,7 @@ ghost use Rattle.mv_linker.specs.DependencyGraph.{IsOrdered};
 ghost use Rattle.mv_linker.specs.ScopeDependencies.{AreDependenciesIn};
 ghost use Rattle.mv_linker.specs.Relinked.{IsFitting};
 ghost use Rattle.mv_linker.specs.Scope.{offered};
-ghost use Rattle.mv_linker.specs.Settled.{AreSettled, GainsNothing};
+ghost use Rattle.mv_linker.specs.Finished.{AreFinished, GainsNothing};
 ghost use Rattle.mv_linker.specs.Stored.{AreNamesOf};
 ghost use Rattle.mv_linker.specs.Targets.{modules_in};
 
@@ -51,10 +51,10 @@ impl<'a> Scope<'a> {
 
     /// How many of the first modules are in order by themselves. Where the bundle gains no dependency, these are the published
     /// modules and those that take their places; otherwise it is known of none.
-    fn settled(&self, needed: &[Places]) -> usize
+    fn finished(&self, needed: &[Places]) -> usize
         requires fits { IsFitting self.now }
         requires needed { AreDependenciesIn (modules_in self.now) (offered self.now.new.now) needed.now }
-        ensures { AreSettled (modules_in self.now) result [] }
+        ensures { AreFinished (modules_in self.now) result [] }
     {
         if self.gains_nothing(needed) {
             self.store.len()
@@ -71,7 +71,7 @@ impl<'a> Scope<'a> {
         requires needed { AreDependenciesIn (modules_in self.now) (offered self.now.new.now) needed.now }
         ensures { IfOk result (λ b. IsTrue b ↔ IsOrdered (modules_in self.now)) }
     {
-        let base = self.settled(needed);
+        let base = self.finished(needed);
         self.is_ordered_from(alloc, needed, base)
     }
 }

@@ -6,7 +6,7 @@ ghost use Rattle.mv_linker.specs.Places.{IsWithin};
 ghost use Rattle.mv_linker.specs.ScopeDependencies.{AreDependenciesIn, AreNeedsAt};
 ghost use Rattle.mv_linker.specs.Relinked.{IsFitting};
 ghost use Rattle.mv_linker.specs.Scope.{offered};
-ghost use Rattle.mv_linker.specs.Settled.{AreSettled, IsNext, IsSearched, IsSettled, LeadsToSettled};
+ghost use Rattle.mv_linker.specs.Finished.{AreFinished, IsNext, IsSearched, IsFinished, LeadsToFinished};
 ghost use Rattle.mv_linker.specs.Targets.{modules_in};
 
 use crate::rules::scope::Scope;
@@ -14,8 +14,8 @@ use crate::store::places::Places;
 use std::alloc::{AllocError, Global};
 
 /// Whether a place is one of the first, or one that the search is done with.
-fn is_settled(base: usize, done: &Places, place: usize) -> bool
-    ensures { IsTrue result ↔ IsSettled base done.now place }
+fn is_finished(base: usize, done: &Places, place: usize) -> bool
+    ensures { IsTrue result ↔ IsFinished base done.now place }
 {
     place < base || done.contains(place)
 }
@@ -45,7 +45,7 @@ impl<'a> Scope<'a> {
         requires store { IsStore self.now.store.now }
         requires needed { AreDependenciesIn (modules_in self.now) (offered self.now.new.now) needed.now }
         requires place { place < length (modules_in self.now) }
-        ensures { MatchOption result (LeadsToSettled (modules_in self.now) base done.now place) (IsNext (modules_in self.now) base done.now place) }
+        ensures { MatchOption result (LeadsToFinished (modules_in self.now) base done.now place) (IsNext (modules_in self.now) base done.now place) }
     {
         self.needs_at(needed, place).outside(base, done)
     }
@@ -54,7 +54,7 @@ impl<'a> Scope<'a> {
     fn need_first_alone(&self, alloc: Global, needed: &[Places], base: usize) -> bool
         requires fits { IsFitting self.now }
         requires needed { AreDependenciesIn (modules_in self.now) (offered self.now.new.now) needed.now }
-        ensures { IsTrue result ↔ ((k p : ℕ) → slice_get self.now.places.items k ≡ Some p → LeadsToSettled (modules_in self.now) base [] p) }
+        ensures { IsTrue result ↔ ((k p : ℕ) → slice_get self.now.places.items k ≡ Some p → LeadsToFinished (modules_in self.now) base [] p) }
     {
         let none = Places::new(alloc);
         for k in 0..self.places.len() {
@@ -83,9 +83,9 @@ impl<'a> Scope<'a> {
         requires store { IsStore self.now.store.now }
         requires needed { AreDependenciesIn (modules_in self.now) (offered self.now.new.now) needed.now }
         requires start { start < length (modules_in self.now) }
-        requires fresh { IsSettled base done.old start → ⊥ }
+        requires fresh { IsFinished base done.old start → ⊥ }
         requires met { IsWithin 0 met.old done.old }
-        requires settled { AreSettled (modules_in self.now) base done.old }
+        requires finished { AreFinished (modules_in self.now) base done.old }
         ensures { IfOk result (λ b. MatchBool b (IsOrdered (modules_in self.now) → ⊥) (IsSearched (modules_in self.now) base start done.old met.new done.new)) }
     {
         let mut chain = Vec::new(alloc);
@@ -118,7 +118,7 @@ impl<'a> Scope<'a> {
         requires few { length (modules_in self.now) ≤ 65536 }
         requires fits { IsFitting self.now }
         requires needed { AreDependenciesIn (modules_in self.now) (offered self.now.new.now) needed.now }
-        requires settled { AreSettled (modules_in self.now) base [] }
+        requires finished { AreFinished (modules_in self.now) base [] }
         ensures { IfOk result (λ b. IsTrue b ↔ IsOrdered (modules_in self.now)) }
     {
         if self.need_first_alone(alloc, needed, base) {
@@ -128,7 +128,7 @@ impl<'a> Scope<'a> {
         let mut done = Places::new(alloc);
         for k in 0..self.places.len() {
             let place = self.places[k];
-            if is_settled(base, &done, place) {
+            if is_finished(base, &done, place) {
                 continue;
             }
             if self.leads_back(alloc, needed, base, place, &mut met, &mut done)? {

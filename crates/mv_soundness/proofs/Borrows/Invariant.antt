@@ -9,7 +9,7 @@ use Rattle.mv_machine.specs.StepControl.{Callee, callee, call, return_results}
 use Rattle.mv_machine.specs.Step.{rule}
 use Rattle.mv_soundness.proofs.{Borrows.Links.CallFacts, Borrows.Stood.point_of, Borrows.Stood.Linked, Borrows.Stood.LinkedTo}
 use Rattle.mv_soundness.proofs.{Borrows.Calls.call-kept, Borrows.Calls.return-kept, Borrows.Same.SameSeen, Borrows.Same.SameFrames, Borrows.Same.layer-same, Borrows.Kept.falls-same}
-use Rattle.mv_soundness.proofs.{Borrows.Kept.kept-falls, Borrows.Standing.Standing, Borrows.Standing.IsTransfer, Borrows.Standing.Stays, Borrows.Steps.step-kept}
+use Rattle.mv_soundness.proofs.{Borrows.Kept.kept-falls, Borrows.Premises.Premises, Borrows.Premises.IsTransfer, Borrows.Premises.Stays, Borrows.Steps.step-kept}
 use Rattle.mv_machine.proofs.Transfers.{called, Called, callee-is, signature-is, tags-long, returned, ReturnedTo}
 
 -- the same with these frames
@@ -110,8 +110,8 @@ module _ (depends : ℕ → ℕ → Type 0) (through : (a b c : ℕ) → depends
     top-layer = rw (sound.stood.0, sound.stood.1) refl
 
     -- what the frame at work stands on
-    abbrev pub standing : Fits (point_of x) (alone s.top) → NoneInside s → Standing
-    standing fits inside = record {
+    abbrev pub premises : Fits (point_of x) (alone s.top) → NoneInside s → Premises
+    premises fits inside = record {
       depends = depends;
       through = through;
       no_cycle = no_cycle;
@@ -129,7 +129,7 @@ module _ (depends : ℕ → ℕ → Type 0) (through : (a b c : ℕ) → depends
         → Fits (point_of x) (alone s.top) → NoneInside s → edges_after (point_of x) i x.edges ≡ Some edges → EdgesBelow (edges_of t.top.function.place edges) (edges_of t.top.function.place es')
         → Sound depends t (record { home = x.home; function = x.function; frame = t.top; lent = []; types = types'; edges = es' }) (refit xs t.below)
     sound-row i t edges es' types' transfer reaches e fits inside g below =
-        let k = step-kept (standing fits inside) i (Goes t) edges transfer reaches sound.ordered e g in
+        let k = step-kept (premises fits inside) i (Goes t) edges transfer reaches sound.ordered e g in
         let stays : Stays i s t = k.1 in
         record {
           stood = (refl, refl, stood-refit s.top.entered_with t.top.entered_with s.below t.below xs stays.2 sound.stood.2 stays.3);

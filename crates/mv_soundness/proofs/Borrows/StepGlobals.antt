@@ -10,10 +10,10 @@ use Rattle.mv_certificate_rules.specs.BorrowRules.{edges_after, global_edges}
 use Rattle.mv_borrow_graph.proofs.Abstract.Lists.{stack_under}
 use Rattle.mv_soundness.proofs.{Borrows.Same.same-all, Borrows.Edges.free_out, Borrows.Edges.free_mutable, Borrows.Edges.then-some}
 use Rattle.mv_soundness.proofs.Borrows.Kept.{falls-pushed, falls-popped, below-from, kept-falls, kept-borrow-global, kept-drop, act}
-use Rattle.mv_soundness.proofs.Borrows.Standing.{Standing, view, Among, at_top, ends, calm, StandTop, StandList, Kept, size, typed}
+use Rattle.mv_soundness.proofs.Borrows.Premises.{Premises, view, Among, at_top, ends, calm, StandTop, StandList, Kept, size, typed}
 use Rattle.mv_machine.proofs.GlobalRules.{borrow_global-is, move_from-is, move_to-is, exists-is}
 
-module _ (this : Standing) where
+module _ (this : Premises) where
   open this use {depends, through, no_cycle, rest, h, types, es, stands, fits, inside}
   open view this use {os, p, place}
 

@@ -11,7 +11,7 @@ use Rattle.mv_certificate_rules.specs.BorrowRules.{edges_after, copy_edges, move
 use Rattle.mv_soundness.proofs.{Borrows.Same.same-all, Borrows.Edges.free_out, Borrows.Edges.free_mutable, Borrows.Edges.then-some, Borrows.Mutability.operand-plain}
 use Rattle.mv_soundness.proofs.{Borrows.Operands.on_option, Borrows.Operands.tag-kind}
 use Rattle.mv_soundness.proofs.Borrows.Kept.{falls-pushed, falls-popped, falls-same, below-from, kept-falls, kept-copy, kept-copy-mutable, kept-move, kept-store, kept-borrow-local}
-use Rattle.mv_soundness.proofs.Borrows.Standing.{Standing, view, Among, at_next, at_top, local-kind, ends, calm, StandTop, Kept, typed}
+use Rattle.mv_soundness.proofs.Borrows.Premises.{Premises, view, Among, at_next, at_top, local-kind, ends, calm, StandTop, Kept, typed}
 use Rattle.mv_machine.proofs.LocalRules.{copy-is, move-is, store-is, borrow-is}
 
 kind-some : (o : Option Reference) (b : Bool) → Some b ≡ operand_kind o → (r : Reference) × (o ≡ Some r) × (r.is_mutable ≡ b)
@@ -28,7 +28,7 @@ set-none (x ∷ xs) l m o v r none at is = at
 no-value : (w : Value) → None ≡ Some w → reference_of w ≡ None
 no-value w z = absurd cc
 
-module _ (this : Standing) where
+module _ (this : Premises) where
   open this use {depends, through, no_cycle, rest, h, types, es, stands, fits, inside}
   open view this use {os, p, place}
 

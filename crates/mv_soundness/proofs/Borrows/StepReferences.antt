@@ -15,7 +15,7 @@ use Rattle.mv_soundness.proofs.Borrows.Edges.{kind_of_node, free_mutable, then-s
 use Rattle.mv_soundness.proofs.Borrows.Kept.{Falls, falls-pushed, falls-popped, falls-same, kept-borrow-field, kept-freeze}
 use Rattle.mv_machine.proofs.ReferenceRules.{borrow_field-is, read-is, write-is, freeze-is}
 use Rattle.mv_soundness.proofs.Borrows.Operands.{on_result, on_option}
-use Rattle.mv_soundness.proofs.Borrows.Standing.{Standing, view, Among, at_top, under, ends, StandTop, Kept, dropped-calm, typed}
+use Rattle.mv_soundness.proofs.Borrows.Premises.{Premises, view, Among, at_top, under, ends, StandTop, Kept, dropped-calm, typed}
 
 agrees-begins : (l : List ℕ) (i : ℕ) → AgreesWith l i → (begins l (i ∷ []) || begins (i ∷ []) l) ≡ true
 agrees-begins [] i a = refl
@@ -32,7 +32,7 @@ lends-is : (m : Bool) (r : Reference) → lends m r ≡ true → m ≡ true → 
 lends-is true r k z = k
 lends-is false r k z = absurd cc
 
-module _ (this : Standing) where
+module _ (this : Premises) where
   open this use {depends, through, no_cycle, rest, h, types, es, stands, fits, inside}
   open view this use {os, p, place}
 

@@ -16,14 +16,14 @@ use Rattle.mv_certificate_rules.specs.BorrowRules.{edges_after}
 use Rattle.mv_soundness.proofs.Borrows.Same.{same-all}
 use Rattle.mv_soundness.proofs.Borrows.Kept.{Falls, falls-popped, falls-pushed, falls-same}
 use Rattle.mv_soundness.proofs.Borrows.Operands.{on_result, taken-falls, none-more, none-reverse}
-use Rattle.mv_soundness.proofs.Borrows.Standing.{Standing, view, Among, IsTransfer, ends, calm, calm-leaf, calm-pushes, Kept, dropped-calm}
+use Rattle.mv_soundness.proofs.Borrows.Premises.{Premises, view, Among, IsTransfer, ends, calm, calm-leaf, calm-pushes, Kept, dropped-calm}
 use Rattle.mv_soundness.proofs.Borrows.StepLocals.{step-copy, step-move, step-store, step-borrow-mutable, step-borrow-immutable}
 use Rattle.mv_soundness.proofs.Borrows.StepReferences.{step-field-mutable, step-field-immutable, step-freeze, step-read, step-write}
 use Rattle.mv_soundness.proofs.Borrows.StepGlobals.{step-global-mutable, step-global-immutable, step-move-from, step-move-to, step-exists}
 use Rattle.mv_machine.proofs.{LocalRules.pop-is, StructRules.pack-is, StructRules.unpack-is, Transfers.branch-is, Transfers.no-abort}
 use Rattle.mv_machine.proofs.Operations.{binary-gives, comparison-gives, shift-gives, cast-gives, logic-gives, negation-gives, equality-gives, constant-is}
 
-module _ (this : Standing) where
+module _ (this : Premises) where
   open this use {depends, through, no_cycle, rest, h, types, es, stands, fits, inside}
   open view this use {os, p, place}
 

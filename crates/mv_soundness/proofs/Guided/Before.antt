@@ -11,7 +11,7 @@ use Rattle.mv_certificate_rules.specs.LocalsRules.{locals_after}
 use Rattle.mv_certificate_rules.specs.BorrowRules.{edges_after}
 use Rattle.mv_type_rules.specs.TypeRules.{types_after}
 use Rattle.mv_soundness.proofs.Typing.FlowFacts.{range_split, BlockFacts, block_facts, ended_begin, next_inside}
-use Rattle.mv_soundness.proofs.{Borrows.Standing.Among, Lists.below-or-at}
+use Rattle.mv_soundness.proofs.{Borrows.Premises.Among, Lists.below-or-at}
 use Rattle.mv_soundness.proofs.Borrows.Certified.{Inside, inside, held, flows, both-through}
 use Rattle.mv_soundness.proofs.Guided.Tiles.{Tiles, tiles-zip, holds_place, tile-found, tile-ordered, find-has, zip-parts, zip-maps, stated-maps, stated-has, next-is}
 use Rattle.mv_cfg.proofs.Beginnings.{starts_from-ascending}

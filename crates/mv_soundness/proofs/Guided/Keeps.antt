@@ -10,11 +10,11 @@ use Rattle.mv_certificate_rules.specs.LocalsRules.{locals_after}
 use Rattle.mv_certificate_rules.specs.BorrowRules.{edges_after, call_edges}
 use Rattle.mv_type_rules.specs.TypeRules.{types_after}
 use Rattle.mv_machine.specs.{StepControl.call, StepControl.return_results, Step.rule, Step.step}
-use Rattle.mv_soundness.proofs.{Borrows.Edges.then-some, Borrows.Same.SameFrames, Borrows.Certified.edges-below, Borrows.Standing.IsTransfer, Borrows.Standing.Stays}
+use Rattle.mv_soundness.proofs.{Borrows.Edges.then-some, Borrows.Same.SameFrames, Borrows.Certified.edges-below, Borrows.Premises.IsTransfer, Borrows.Premises.Stays}
 use Rattle.mv_soundness.proofs.{Borrows.Steps.step-kept, Borrows.Available.known-above, Borrows.Available.known-same, Guided.Before.Onward, Guided.Before.goes-on}
 use Rattle.mv_soundness.proofs.{Guided.Before.starts-known, Guided.Chains.guided-from, Guided.Working.Working, Guided.Working.worked, Guided.Working.working, Guided.Rows.LocalsKnown}
 use Rattle.mv_soundness.proofs.{Guided.Rows.RowEnds, Guided.Rows.rule-ends}
-use Rattle.mv_soundness.proofs.Borrows.Invariant.{refit, sound-row, sound-call, sound-return, standing}
+use Rattle.mv_soundness.proofs.Borrows.Invariant.{refit, sound-row, sound-call, sound-return, premises}
 use Rattle.mv_soundness.proofs.Guided.Ends.{Ends, Goes_well, given, after, tests, found-well}
 use Rattle.mv_soundness.proofs.Guided.Results.{callee-agrees, returns-as, fit-refit, agree-refit}
 use Rattle.mv_soundness.proofs.Guided.Accepted.{flows-at, function-flows, own-parameters, entered-known}
@@ -134,7 +134,7 @@ module _ (depends : ℕ → ℕ → Type 0) (modules : List Module) (certificate
       by_result (Err e) is k = k
       by_result (Ok (Returns t)) is k = tt
       by_result (Ok (Goes t)) is k =
-          let st : Stays i s t = (step-kept (standing depends store.through store.no_cycle modules s x w.waiting w.sound w.fits facts.inside) i (Goes t) o.next.edges transfer reaches w.sound.ordered is o.edges).1 in
+          let st : Stays i s t = (step-kept (premises depends store.through store.no_cycle modules s x w.waiting w.sound w.fits facts.inside) i (Goes t) o.next.edges transfer reaches w.sound.ordered is o.edges).1 in
           let l = o.leads t.top.at st.5 in
           let below = and_parts (locals_leq o.next.locals l.0.locals) (edges_leq o.next.edges l.0.edges) l.3 in
           guided-from depends store.through store.no_cycle modules certificates t

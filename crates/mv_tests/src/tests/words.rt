@@ -12,7 +12,7 @@ fn words_of_two_frames(rt: HostRuntime) -> Result<(), Fail> {
     assert!(rt; locals.extend([1, 2].as_slice()).is_ok());
     assert!(rt; locals.open(2).is_ok());
     assert_eq!(rt; locals.as_slice(), [1, 2, 0, 0].as_slice());
-    assert!(rt; locals.settle_word(2, 7).is_ok());
+    assert!(rt; locals.splice_word(2, 7).is_ok());
     assert_eq!(rt; locals.as_slice(), [1, 2, 7, 0].as_slice());
     assert!(rt; operands.push(9).is_ok());
     assert!(rt; operands.copy(&locals, 0, 3).is_ok());
@@ -20,11 +20,11 @@ fn words_of_two_frames(rt: HostRuntime) -> Result<(), Fail> {
     assert!(rt; operands.copy_word(&locals, 2).is_ok());
     assert_eq!(rt; operands.as_slice(), [9, 1, 2, 7, 2, 7, 7].as_slice());
     assert!(rt; matches!(operands.top(4), Ok(3)));
-    assert!(rt; locals.settle(2, [5, 6].as_slice()).is_ok());
-    assert!(rt; locals.settle(0, [3].as_slice()).is_ok());
-    assert!(rt; locals.settle(4, [].as_slice()).is_ok());
+    assert!(rt; locals.splice(2, [5, 6].as_slice()).is_ok());
+    assert!(rt; locals.splice(0, [3].as_slice()).is_ok());
+    assert!(rt; locals.splice(4, [].as_slice()).is_ok());
     assert_eq!(rt; locals.as_slice(), [3, 2, 5, 6].as_slice());
-    assert!(rt; locals.settle(0, [8, 8, 8].as_slice()).is_ok());
+    assert!(rt; locals.splice(0, [8, 8, 8].as_slice()).is_ok());
     assert_eq!(rt; locals.as_slice(), [8, 8, 8, 6].as_slice());
     operands.cut(1);
     assert!(rt; matches!(operands.pop(), Ok(9)));
@@ -43,8 +43,8 @@ fn words_that_are_not_there(rt: HostRuntime) -> Result<(), Fail> {
     assert!(rt; matches!(operands.copy_word(&locals, 2), Err(Halt::Stuck)));
     assert!(rt; matches!(operands.top(4), Err(Halt::Stuck)));
     assert_eq!(rt; operands.as_slice(), [3, 4, 5].as_slice());
-    assert!(rt; matches!(locals.settle(1, [6, 7].as_slice()), Err(Halt::Stuck)));
-    assert!(rt; matches!(locals.settle_word(2, 6), Err(Halt::Stuck)));
+    assert!(rt; matches!(locals.splice(1, [6, 7].as_slice()), Err(Halt::Stuck)));
+    assert!(rt; matches!(locals.splice_word(2, 6), Err(Halt::Stuck)));
     assert_eq!(rt; locals.as_slice(), [1, 2].as_slice());
     Ok(())
 }

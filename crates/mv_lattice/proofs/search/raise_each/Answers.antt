@@ -3,7 +3,7 @@ use Rattle.std.proofs.lemmas.List.{append-nil, take_all, take_rest, take-append-
 use Rattle.std.proofs.lemmas.List.Elements.{All-drop, Contains-append_right}
 use Rattle.std.proofs.lemmas.Result.{on_ok_weaker}
 use Rattle.mv_lattice.specs.Search.{FlowsIntoEach, ExceedsAt}
-use Rattle.mv_lattice.specs.Work.{standing}
+use Rattle.mv_lattice.specs.Work.{search_of}
 use Rattle.mv_lattice.proofs.Searches.{flows_none, flows_after}
 use Rattle.mv_lattice.proofs.search.raise_each.Goals as goal
 
@@ -12,7 +12,7 @@ returns-then-above-blocks-clause-ok g c =
     let d = c.args.d.now in
     let blocks = c.args.blocks.now in
     let above = c.count_above-above.result in
-    let x = standing c.args.states.now c.args.waiting.now in
+    let x = search_of c.args.states.now c.args.waiting.now in
     flows_after (g.met.D.Domain.laws d) c.args.t.now c.requires.state (take above blocks) [] blocks x x (append-nil (take above blocks) ∙ take_all above blocks (omega (arith, c.if-above-blocks.true)))
     c.count_above-above.ensures.above (flows_none (g.met.D.Domain.laws d) c.args.t.now c.requires.state x)
 
@@ -22,8 +22,8 @@ returns-clause-ok g c =
     let o = g.D.Domain.order d in
     let blocks = c.args.blocks.now in
     let above = c.count_above-above.result in
-    let x = standing c.args.states.now c.args.waiting.now in
-    let y = standing c.raise_all.new.states c.raise_all.new.waiting in
+    let x = search_of c.args.states.now c.args.waiting.now in
+    let y = search_of c.raise_all.new.states c.raise_all.new.waiting in
     on_ok_weaker c.raise_all.result
     (λ flows. flows_after (g.met.D.Domain.laws d) c.args.t.now c.requires.state (take above blocks) (drop above blocks) blocks x y (take-append-drop above blocks) c.count_above-above.ensures.above
     (subst (λ s. FlowsIntoEach o (Contains (drop above blocks)) s x y) c.in_ok-copied.ensures

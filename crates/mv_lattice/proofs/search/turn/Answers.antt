@@ -3,7 +3,7 @@ use Rattle.std.proofs.lemmas.List.{length-set}
 use Rattle.std.proofs.lemmas.Option.{slice_get-get_or, slice_get_within}
 use Rattle.std.proofs.lemmas.Result.{err_from_is_err_and}
 use Rattle.mv_lattice.specs.Flow.{IsAt}
-use Rattle.mv_lattice.specs.Work.{standing}
+use Rattle.mv_lattice.specs.Work.{search_of}
 use Rattle.mv_lattice.proofs.Found.{reached_states, reached_active, reached_entries}
 use Rattle.mv_lattice.proofs.Rises.{fewer_left}
 use Rattle.mv_lattice.proofs.Searches.{block_there, rests_before, turn_over, turn_exceeds, turn_fails, turn_done}
@@ -41,7 +41,7 @@ returns-clause-rest g c =
     let in' : k < length c.args.waiting.now = slice_get_within c.args.waiting.now k true c.requires.waits in
     let block = c.index.result.now in
     rests_before o c.args.g.now k c.least_of.result block (block_there c.args.g.now k block (omega (arith, in', c.requires.marks)) c.index.ensures) c.least_of.ensures.own (subst (All (λ n. c.least_of.result ≤ n)) c.deref.ensures.value c.least_of.ensures.each)
-    (standing c.args.states.now c.args.waiting.now) (standing c.visit.new.states c.visit.new.waiting) c.requires.first c.in_ok-visit.ensures.ok
+    (search_of c.args.states.now c.args.waiting.now) (search_of c.visit.new.states c.visit.new.waiting) c.requires.first c.in_ok-visit.ensures.ok
 
 pub returns-in_err-visit-clause-fails : goal.returns-in_err-visit-clause-fails
 returns-in_err-visit-clause-fails g c = λ e start has.
@@ -82,7 +82,7 @@ pub visit-requires-clause-entries : goal.visit-requires-clause-entries
 visit-requires-clause-entries g c =
     let d = c.args.d.now in
     let u = c.requires.search in
-    reached_entries (g.met.D.Domain.laws d) c.args.g.now c.requires.graph c.requires.same u.start u.valid u.begins u.search.visited (standing c.args.states.now c.args.waiting.now) u.search.reached
+    reached_entries (g.met.D.Domain.laws d) c.args.g.now c.requires.graph c.requires.same u.start u.valid u.begins u.search.visited (search_of c.args.states.now c.args.waiting.now) u.search.reached
 
 pub visit-requires-clause-marks : goal.visit-requires-clause-marks
 visit-requires-clause-marks g c = length-set c.args.waiting.now c.args.k false ∙ c.requires.marks
@@ -91,10 +91,10 @@ pub visit-requires-clause-states : goal.visit-requires-clause-states
 visit-requires-clause-states g c =
     let d = c.args.d.now in
     let u = c.requires.search in
-    reached_states (g.met.D.Domain.laws d) c.args.g.now c.requires.graph c.requires.same u.start u.valid u.begins u.search.visited (standing c.args.states.now c.args.waiting.now) u.search.reached
+    reached_states (g.met.D.Domain.laws d) c.args.g.now c.requires.graph c.requires.same u.start u.valid u.begins u.search.visited (search_of c.args.states.now c.args.waiting.now) u.search.reached
 
 pub visit-requires-clause-stated : goal.visit-requires-clause-stated
 visit-requires-clause-stated g c =
     let d = c.args.d.now in
     let u = c.requires.search in
-    reached_active (g.met.D.Domain.laws d) c.args.g.now c.requires.graph c.requires.same u.start u.valid u.begins u.search.visited (standing c.args.states.now c.args.waiting.now) u.search.reached c.args.k c.requires.waits
+    reached_active (g.met.D.Domain.laws d) c.args.g.now c.requires.graph c.requires.same u.start u.valid u.begins u.search.visited (search_of c.args.states.now c.args.waiting.now) u.search.reached c.args.k c.requires.waits

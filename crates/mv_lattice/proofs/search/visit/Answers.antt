@@ -3,7 +3,7 @@ use Rattle.std.proofs.lemmas.Result.{on_ok_weaker, err_from_is_err_and}
 use Rattle.std.proofs.lemmas.Option.{slice_get-get_or}
 use Rattle.mv_lattice.specs.Flow.{IsStated}
 use Rattle.mv_lattice.specs.declared.search.SolveError.TheVariants.{Need, TooComplex}
-use Rattle.mv_lattice.specs.Work.{standing}
+use Rattle.mv_lattice.specs.Work.{search_of}
 use Rattle.mv_lattice.proofs.Searches.{block_there, visit_made, visit_exceeds, visit_fails}
 use Rattle.mv_lattice.proofs.Rises.{unstated}
 use Rattle.mv_lattice.proofs.search.visit.Goals as goal
@@ -21,7 +21,7 @@ returns-clause-ok g c =
     let block = block_there c.args.g.now k b c.requires.inside c.index-block.ensures in
     let stated = stated_there c.args.states.now _ k c.index-states-k.result c.in-Some.s c.requires.inside c.requires.entries c.in-Some.is in
     on_ok_weaker c.raise_each.result
-    (visit_made o c.args.g.now k b c.in-Some.s block c.in_ok-t.t (standing c.args.states.now c.args.waiting.now) (standing c.raise_each.new.states c.raise_each.new.waiting)
+    (visit_made o c.args.g.now k b c.in-Some.s block c.in_ok-t.t (search_of c.args.states.now c.args.waiting.now) (search_of c.raise_each.new.states c.raise_each.new.waiting)
     stated (rw c.in_ok-begin.ensures at c.in_ok-t.ensures.ok))
     (rw c.deref.ensures.value at c.raise_each.ensures.ok)
 

@@ -24,7 +24,7 @@ invariant_of-self c =
           (c.execute-reply.ensures.small c.self.inside.runs) c.in-Ok-admitted.ensures.runs
           (had_sound old.modules c.args.payload.now stored (all_of old.tallies) c.self.inside.runs (request_of c.in-Ok.asked) c.in-Ok.ensures.ok c.self.invariant.0.sound
           c.in-Ok-admitted.call (admitted-to (goal.at.invariant_of-self c).In-Ok-admitted) left (all_of new.tallies) (told c.execute-reply.result)
-          (sym c.is_told.ensures ∙ c.if-is_told.true) c.execute-reply.ensures.settled) c.self.invariant.0,
+          (sym c.is_told.ensures ∙ c.if-is_told.true) c.execute-reply.ensures.applied) c.self.invariant.0,
       ledgers-kept old.marks new.marks c.self.inside.storage.marks c.execute-reply.new.storage.marks c.self.inside.run_marks.items c.execute-reply.ensures.published_marks
           c.execute-reply.ensures.storage_marks c.self.invariant.1,
     )
@@ -65,7 +65,7 @@ returns-after-is_told c =
           (replies-marked 2 payload reply first (view_of old.modules left (all_of new.tallies) (runs + 1)) marks
           (had_replies old.modules payload stored (all_of old.tallies) runs (request_of c.in-Ok.asked) c.in-Ok.ensures.ok c.self.invariant.0.sound c.in-Ok-admitted.call
           (admitted-to (goal.at.returns-after-is_told c).In-Ok-admitted) left (all_of new.tallies) reply
-          (sym c.is_told.ensures ∙ w.if-is_told.true) c.execute-reply.ensures.settled c.execute-reply.ensures.kept))
+          (sym c.is_told.ensures ∙ w.if-is_told.true) c.execute-reply.ensures.applied c.execute-reply.ensures.kept))
       | else-is_told w ↦
           subst replies (sym (w.self-is ∙ ap (λ (ps : List PublishedModule). holds runs ps (held_marks new.marks ts rs)) c.execute-reply.ensures.modules ∙ ap (holds runs old.modules) same))
           (replies-marked 2 payload reply first (view_of old.modules left (all_of new.tallies) runs) marks

@@ -1,7 +1,7 @@
 use Rattle.mv_ledger.proofs.Common.{◌+◌, ◌-◌, ◌^◌, ◌∙◌, ◌≡◌, List, ap, map, refl, rules, subst, sym, All, StructTally, Layers, FlatEntry, tables_in, Agrees, AtMost, IsFineWords, run_of, tally_after}
 use Rattle.mv_ledger.proofs.Common.{IsSmall, PublishedView, all_of, Tally}
 use Rattle.mv_machine.specs.declared.Ending.TheVariants.{Returned}
-use Rattle.mv_ledger.proofs.Runs.StoredRuns.{tallied-after, settled-returned, settled-kept, small-kept, runs-to}
+use Rattle.mv_ledger.proofs.Runs.StoredRuns.{tallied-after, applied-returned, applied-kept, small-kept, runs-to}
 use Rattle.mv_ledger_state.proofs.Runs.TalliesAfter.{most-after, small-after}
 use Rattle.mv_ledger_state.proofs.TalliedStores.{tallied-named}
 use Rattle.mv_ledger.proofs.executing.execute.Goals as goal
@@ -52,9 +52,9 @@ returns-after-eq-clause-small c = λ runs small.
           (small-kept runs (all_of c.args.published.now.tallies) small)
     ]
 
-pub returns-after-eq-clause-settled : goal.returns-after-eq-clause-settled
-returns-after-eq-clause-settled c =
-    let here = (goal.at.returns-after-eq-clause-settled c).In-Ok in
+pub returns-after-eq-clause-applied : goal.returns-after-eq-clause-applied
+returns-after-eq-clause-applied c =
+    let here = (goal.at.returns-after-eq-clause-applied c).In-Ok in
     let old = c.args.published.now in
     elim c.if-eq.branch [
       | then-eq w ↦
@@ -63,11 +63,11 @@ returns-after-eq-clause-settled c =
           ∙ tallied-after c.in-Ok.tally.items w.deref.result.now c.run_over.new.published.tallies w.add_run.new.self.tallies w.add_run.ensures.tallies w.deref.ensures.value
           ∙ ap (λ (tss : List (List Tally)). map (tally_after c.in-Ok.tally.items) (all_of tss)) c.run_over.ensures.tallies in
           let ended : c.in-Ok.outcome.ending ≡ Returned = search rules in
-          settled-returned old.modules c.args.call.now c.args.storage.now.committed c.run_over.new.storage.committed (all_of old.tallies) (all_of c.if-eq.published.tallies) c.in-Ok.outcome
+          applied-returned old.modules c.args.call.now c.args.storage.now.committed c.run_over.new.storage.committed (all_of old.tallies) (all_of c.if-eq.published.tallies) c.in-Ok.outcome
           c.in-Ok.tally.items (layers-of here) (tallied-named _ _ c.is_tallied.ensures) (machine-of here) ended refl after
       | else-eq w ↦
           let other : c.in-Ok.outcome.ending ≡ Returned → ⊥ = search rules in
-          settled-kept old.modules c.args.call.now c.args.storage.now.committed c.run_over.new.storage.committed (all_of old.tallies) (all_of c.if-eq.published.tallies) c.in-Ok.outcome
+          applied-kept old.modules c.args.call.now c.args.storage.now.committed c.run_over.new.storage.committed (all_of old.tallies) (all_of c.if-eq.published.tallies) c.in-Ok.outcome
           c.in-Ok.tally.items (layers-of here) (machine-of here) other (c.in-Ok.ensures.other other)
           (ap (λ (p : PublishedView). all_of p.tallies) w.published-is ∙ ap all_of c.run_over.ensures.tallies)
     ]

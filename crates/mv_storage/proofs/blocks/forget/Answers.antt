@@ -11,8 +11,8 @@ loop-change-init c = record {
   same = λ q. refl;
 }
 
-pub clear-requires-clause-settling : goal.clear-requires-clause-settling
-clear-requires-clause-settling c =
+pub clear-requires-clause-resolving : goal.clear-requires-clause-resolving
+clear-requires-clause-resolving c =
     let p = c.loop-change.places in
     clearing-last p c.pop.new.self.items c.in-Some.change (subst (AreClearing p) c.in-Some.ensures.items c.loop-change.invariant.clearing)
 
@@ -23,8 +23,8 @@ loop-change-preserved c =
     let u = c.in-Some.change in
     record {
       sound = c.clear.ensures.sound;
-      kept = kept-others p n u.key c.clear.ensures.settled c.clear.ensures.others c.loop-change.invariant.kept;
-      clearing = clearing-rest p n c.pop.new.self.items u c.clear.ensures.settling (subst (AreClearing p) c.in-Some.ensures.items c.loop-change.invariant.clearing);
+      kept = kept-others p n u.key c.clear.ensures.resolved c.clear.ensures.others c.loop-change.invariant.kept;
+      clearing = clearing-rest p n c.pop.new.self.items u c.clear.ensures.resolving (subst (AreClearing p) c.in-Some.ensures.items c.loop-change.invariant.clearing);
       same = λ q. c.clear.ensures.same q ∙ c.loop-change.invariant.same q;
     }
 
@@ -35,8 +35,8 @@ loop-change-preserved-in-Some c =
     let u = c.in-Some.change in
     record {
       sound = c.clear.ensures.sound;
-      kept = kept-others p n u.key c.clear.ensures.settled c.clear.ensures.others c.loop-change.invariant.kept;
-      clearing = clearing-rest p n c.pop.new.self.items u c.clear.ensures.settling (subst (AreClearing p) c.in-Some.ensures.items c.loop-change.invariant.clearing);
+      kept = kept-others p n u.key c.clear.ensures.resolved c.clear.ensures.others c.loop-change.invariant.kept;
+      clearing = clearing-rest p n c.pop.new.self.items u c.clear.ensures.resolving (subst (AreClearing p) c.in-Some.ensures.items c.loop-change.invariant.clearing);
       same = λ q. c.clear.ensures.same q ∙ c.loop-change.invariant.same q;
     }
 
@@ -47,8 +47,8 @@ loop-change-preserved-in-Some-2 c =
     let u = c.in-Some.change in
     record {
       sound = c.clear.ensures.sound;
-      kept = kept-others p n u.key c.clear.ensures.settled c.clear.ensures.others c.loop-change.invariant.kept;
-      clearing = clearing-rest p n c.pop.new.self.items u c.clear.ensures.settling (subst (AreClearing p) c.in-Some.ensures.items c.loop-change.invariant.clearing);
+      kept = kept-others p n u.key c.clear.ensures.resolved c.clear.ensures.others c.loop-change.invariant.kept;
+      clearing = clearing-rest p n c.pop.new.self.items u c.clear.ensures.resolving (subst (AreClearing p) c.in-Some.ensures.items c.loop-change.invariant.clearing);
       same = λ q. c.clear.ensures.same q ∙ c.loop-change.invariant.same q;
     }
 

@@ -6,38 +6,38 @@ use Rattle.mv_undo.specs.Undo.{marks_of, AreMarks}
 use Rattle.mv_storage.specs.Blocks.{back, contents, IsUndoable}
 use Rattle.mv_storage.specs.declared.blocks.Undone.{Undone}
 use Rattle.mv_storage.proofs.Shown.{shown_of, shown-same, layers-same}
-use Rattle.mv_storage.proofs.Steps.{settled-shows}
-use Rattle.mv_storage.proofs.Undoing.{marks-none, settled-at_work, undoable-none}
+use Rattle.mv_storage.proofs.Steps.{resolved-shows}
+use Rattle.mv_storage.proofs.Undoing.{marks-none, resolved-at_work, undoable-none}
 use Rattle.mv_storage.proofs.overlay.Overlay.commit.Goals as goal
 
 -- ---- no block is open
 
 pub invariant_of-storage : goal.invariant_of-storage
 invariant_of-storage c = (
-  settled-at_work c.settle.new.self c.settle.ensures.settled c.settle.ensures.remembered,
-  undoable-none c.settle.new.self.places c.storage.inside.undo.items (c.storage.invariant.3 (c.if-is_empty.ensures.empty refl)),
+  resolved-at_work c.resolve.new.self c.resolve.ensures.resolved c.resolve.ensures.remembered,
+  undoable-none c.resolve.new.self.places c.storage.inside.undo.items (c.storage.invariant.3 (c.if-is_empty.ensures.empty refl)),
   c.storage.invariant.2,
   c.storage.invariant.3,
 )
 
 pub returns-then-is_empty-clause-committed : goal.returns-then-is_empty-clause-committed
 returns-then-is_empty-clause-committed c =
-    settled-shows Current c.storage.inside.work.places c.settle.new.self.places c.settle.new.self.touched.items c.storage.invariant.0.tracked.sound c.settle.ensures.settled c.settle.ensures.same
+    resolved-shows Current c.storage.inside.work.places c.resolve.new.self.places c.resolve.new.self.touched.items c.storage.invariant.0.tracked.sound c.resolve.ensures.resolved c.resolve.ensures.same
     ∙ ap (λ l. l.current) c.storage.view_is
 
 pub returns-then-is_empty-clause-current : goal.returns-then-is_empty-clause-current
 returns-then-is_empty-clause-current c =
-    let n = c.settle.new.self.places in
-    let settled = c.settle.ensures.settled in
-    shown-same Committed Current n n settled.sound.ordered settled.sound.ordered (λ q. layers-same _ (settled.kept q))
-    ∙ settled-shows Current c.storage.inside.work.places n c.settle.new.self.touched.items c.storage.invariant.0.tracked.sound settled c.settle.ensures.same
+    let n = c.resolve.new.self.places in
+    let resolved = c.resolve.ensures.resolved in
+    shown-same Committed Current n n resolved.sound.ordered resolved.sound.ordered (λ q. layers-same _ (resolved.kept q))
+    ∙ resolved-shows Current c.storage.inside.work.places n c.resolve.new.self.touched.items c.storage.invariant.0.tracked.sound resolved c.resolve.ensures.same
     ∙ ap (λ l. l.current) c.storage.view_is
 
 pub returns-then-is_empty-clause-marks : goal.returns-then-is_empty-clause-marks
 returns-then-is_empty-clause-marks c =
     let us = c.storage.inside.undo.items in
     let none = c.if-is_empty.ensures.empty refl in
-    ap (λ ms. marks_of back us ms (shown_of Committed c.settle.new.self.places)) none
+    ap (λ ms. marks_of back us ms (shown_of Committed c.resolve.new.self.places)) none
     ∙ sym (ap (λ ms. marks_of back us ms (shown_of Committed c.storage.inside.work.places)) none)
     ∙ ap (λ l. l.marks) c.storage.view_is
 
@@ -58,7 +58,7 @@ note_all-requires-clause-undoable c = subst (IsUndoable c.storage.inside.work.pl
 pub invariant_of-storage-2 : goal.invariant_of-storage-2
 invariant_of-storage-2 c =
     let more = subst (λ (us : List Undone). AreMarks c.storage.inside.marks (length us)) (sym c.reserve.ensures.items) c.storage.invariant.2 in (
-      settled-at_work _ c.note_all.ensures.settled (c.forget.ensures c.note_all.new.places.tree),
+      resolved-at_work _ c.note_all.ensures.resolved (c.forget.ensures c.note_all.new.places.tree),
       c.note_all.ensures.noted.undoable,
       AreMarks-more c.storage.inside.marks (length c.reserve.new.self.items) (length c.note_all.new.undo.items) c.note_all.ensures.noted.more more,
       λ none. (let no : false ≡ true = c.if-is_empty.ensures.open none in absurd (let x : ⊥ = cc in x)),
@@ -66,15 +66,15 @@ invariant_of-storage-2 c =
 
 pub returns-clause-committed : goal.returns-clause-committed
 returns-clause-committed c =
-    settled-shows Current c.storage.inside.work.places c.note_all.new.places c.note_all.new.touched.items c.storage.invariant.0.tracked.sound c.note_all.ensures.settled c.note_all.ensures.same
+    resolved-shows Current c.storage.inside.work.places c.note_all.new.places c.note_all.new.touched.items c.storage.invariant.0.tracked.sound c.note_all.ensures.resolved c.note_all.ensures.same
     ∙ ap (λ l. l.current) c.storage.view_is
 
 pub returns-clause-current : goal.returns-clause-current
 returns-clause-current c =
     let n = c.note_all.new.places in
-    let settled = c.note_all.ensures.settled in
-    shown-same Committed Current n n settled.sound.ordered settled.sound.ordered (λ q. layers-same _ (settled.kept q))
-    ∙ settled-shows Current c.storage.inside.work.places n c.note_all.new.touched.items c.storage.invariant.0.tracked.sound settled c.note_all.ensures.same
+    let resolved = c.note_all.ensures.resolved in
+    shown-same Committed Current n n resolved.sound.ordered resolved.sound.ordered (λ q. layers-same _ (resolved.kept q))
+    ∙ resolved-shows Current c.storage.inside.work.places n c.note_all.new.touched.items c.storage.invariant.0.tracked.sound resolved c.note_all.ensures.same
     ∙ ap (λ l. l.current) c.storage.view_is
 
 pub returns-clause-marks : goal.returns-clause-marks

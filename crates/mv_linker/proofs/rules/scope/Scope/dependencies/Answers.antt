@@ -18,7 +18,7 @@ index-requires c = let s = c.args.self.now in omega (arith, placed-length s, s.p
 record Next (c : After-deref) : Type 0 where
   m : Module
   at : slice_get (offered c.args.self.now.new.now) c.loop-k.k ≡ Some m
-  standing : slice_get (modules_in c.args.self.now) c.index.result.now ≡ Some m
+  was_found : slice_get (modules_in c.args.self.now) c.index.result.now ≡ Some m
   handles : AreHandlePlaces (modules_in c.args.self.now) m c.deref.result.now
 
 next : (c : After-deref) → Next c
@@ -34,7 +34,7 @@ next c =
     record {
       m = m.0;
       at = m.1;
-      standing = bundle-at (tables_in s.store.now) (offered s.new.now) k own m.0 s.once m.1 placed;
+      was_found = bundle-at (tables_in s.store.now) (offered s.new.now) k own m.0 s.once m.1 placed;
       handles =
           subst (λ (l : List ℕ). AreHandlePlaces (modules_in s) m.0 l) (sym c.deref.ensures.value)
           (c.requires.names.each k m.0 n m.1 (slice_get-get_or c.args.names.now k c.index-names-k.result c.loop-k-test.true)).places;
@@ -44,13 +44,13 @@ pub needs_of-requires : goal.needs_of-requires
 needs_of-requires c =
     let s = c.args.self.now in
     let x = next (goal.at.needs_of-requires c).After-deref in
-    others-below (modules_in s) x.m c.index.result.now c.deref.result.now x.standing (differ-result (tables_in s.store.now) (offered s.new.now) c.requires.store.once) x.handles c.requires.few
+    others-below (modules_in s) x.m c.index.result.now c.deref.result.now x.was_found (differ-result (tables_in s.store.now) (offered s.new.now) c.requires.store.once) x.handles c.requires.few
 
 pub loop-k-preserved : goal.loop-k-preserved
 loop-k-preserved c =
     let s = c.args.self.now in
     let x = next (goal.at.loop-k-preserved c).After-deref in
-    let is = c.in_ok-needs_of.ensures (modules_in s) x.m x.standing (differ-result (tables_in s.store.now) (offered s.new.now) c.requires.store.once) x.handles in
+    let is = c.in_ok-needs_of.ensures (modules_in s) x.m x.was_found (differ-result (tables_in s.store.now) (offered s.new.now) c.requires.store.once) x.handles in
     one-more _ _ _ _ _ c.in_ok-needs_of.field-0 c.loop-k.invariant c.in_ok-push.ensures.items
     (λ (m : Module) at. subst (λ (n : Module). AreNeeds (modules_in s) n c.in_ok-needs_of.field-0) (same_Some x.m m (sym x.at ∙ at)) is)
 

@@ -3,13 +3,13 @@ use Rattle.mv_linker.specs.Places.{IsOutside, IsWithin}
 use Rattle.mv_linker.specs.ScopeDependencies.{AreNeedsAt}
 use Rattle.mv_linker.proofs.Joining.Joins.{placed-length}
 use Rattle.mv_linker.proofs.Cycles.DependenciesStay.{bundled-dependencies, place-there}
-use Rattle.mv_linker.proofs.Cycles.Settled.{each-all, each-more, gained, gains-none, gains-nothing, gains-past, next-none, next-some}
+use Rattle.mv_linker.proofs.Cycles.Finished.{each-all, each-more, gained, gains-none, gains-nothing, gains-past, next-none, next-some}
 use Rattle.mv_linker.proofs.rules.scope.Scope.gains_nothing.Goals as goal
 use Rattle.mv_linker.proofs.rules.scope.Scope.gains_nothing.Goals.{After-index-place}
 
 -- the place of the next module of the bundle
-standing : (c : After-index-place) → slice_get c.args.self.now.places.items c.loop-k.k ≡ Some c.index-place.result.now
-standing c =
+was_found : (c : After-index-place) → slice_get c.args.self.now.places.items c.loop-k.k ≡ Some c.index-place.result.now
+was_found c =
     let places = c.args.self.now.places in
     slice_get_read places.items (length places.items) c.loop-k.k c.index-place.result.now refl (omega (arith, c.loop-k-test.true, c.len-k-end.ensures, places.ok.0)) c.index-place.ensures
 
@@ -24,7 +24,7 @@ new-needs c d m m_at =
     let s = c.args.self.now in
     let fits = c.requires.fits in
     (bundled-dependencies (tables_in s.store.now) (offered s.new.now) fits.store.once fits.once fits.store.links c.args.needed.now c.requires.needed c.loop-k.k c.index-place.result.now (get_or c.args.needed.now c.loop-k.k d)
-    (ap (λ l. slice_get l c.loop-k.k) (sym s.placed) ∙ standing c) (slice_get-get_or c.args.needed.now c.loop-k.k d (inside c)) m m_at)
+    (ap (λ l. slice_get l c.loop-k.k) (sym s.placed) ∙ was_found c) (slice_get-get_or c.args.needed.now c.loop-k.k d (inside c)) m m_at)
 
 pub offset_bounds-needed-k : goal.offset_bounds-needed-k
 offset_bounds-needed-k c = let low = inside (goal.at.offset_bounds-needed-k c).After-index-place in grind (arith, low)
@@ -41,7 +41,7 @@ returns-then-is_some c =
     let new = c.index-needed-k.result in
     let those = subst (λ (d : List ℕ). AreNeedsAt (modules_in s) c.index-place.result.now d) (sym c.index-needed-k.is) (new-needs i c.index-needed-k.result) in
     let q = next-some _ (IsOutside 0 new c.needs_at-old.result.now) c.outside.result (sym c.is_some.ensures ∙ c.if-is_some.true) c.outside.ensures in
-    let there = place-there (tables_in s.store.now) (offered s.new.now) fits.once c.loop-k.k place (ap (λ l. slice_get l c.loop-k.k) (sym s.placed) ∙ standing i) in
+    let there = place-there (tables_in s.store.now) (offered s.new.now) fits.once c.loop-k.k place (ap (λ l. slice_get l c.loop-k.k) (sym s.placed) ∙ was_found i) in
     let low : c.index-place.result.now < length (tables_in s.store.now) = omega (arith, c.if-place-len.false, c.len.ensures.count, length-map s.store.now (λ (p : PublishedModule). p.tables)) in
     (λ e. absurd (both_ways false refl e), λ nothing. absurd (gained (tables_in s.store.now) (offered s.new.now) fits.store.once place q.0 c.needs_at-old.result.now new low there c.needs_at-old.ensures those q.1 nothing))
 
@@ -50,7 +50,7 @@ loop-k-preserved-then-place-len c =
     let s = c.args.self.now in
     let i = (goal.at.loop-k-preserved-then-place-len c).After-index-place in
     let past : length (tables_in s.store.now) ≤ c.index-place.result.now = omega (arith, c.if-place-len.true, c.len.ensures.count, length-map s.store.now (λ (p : PublishedModule). p.tables)) in
-    each-more s.places.items c.loop-k.k c.index-place.result.now c.loop-k.invariant (standing i)
+    each-more s.places.items c.loop-k.k c.index-place.result.now c.loop-k.invariant (was_found i)
     (gains-past (tables_in s.store.now) (offered s.new.now) c.requires.fits.store.once c.index-place.result.now past)
 
 pub loop-k-preserved : goal.loop-k-preserved
@@ -61,7 +61,7 @@ loop-k-preserved c =
     let those = subst (λ (d : List ℕ). AreNeedsAt (modules_in s) c.index-place.result.now d) (sym c.index-needed-k.is) (new-needs i c.index-needed-k.result) in
     let within = next-none (IsWithin 0 new c.needs_at-old.result.now) _ c.outside.result (sym c.is_some.ensures ∙ c.if-is_some.false) c.outside.ensures in
     let low : c.index-place.result.now < length (tables_in s.store.now) = omega (arith, c.if-place-len.false, c.len.ensures.count, length-map s.store.now (λ (p : PublishedModule). p.tables)) in
-    each-more s.places.items c.loop-k.k c.index-place.result.now c.loop-k.invariant (standing i)
+    each-more s.places.items c.loop-k.k c.index-place.result.now c.loop-k.invariant (was_found i)
     (gains-none (tables_in s.store.now) (offered s.new.now) c.requires.fits.store.once c.index-place.result.now c.needs_at-old.result.now new low c.needs_at-old.ensures those within)
 
 pub returns : goal.returns

@@ -1,5 +1,5 @@
 use Rattle.mv_linker.proofs.Common.{◌≡◌, ◌<◌, ℕ, Some, modules_in, slice_get, tables_in}
-use Rattle.mv_linker.proofs.Cycles.Settled.{GainsNothingAt}
+use Rattle.mv_linker.proofs.Cycles.Finished.{GainsNothingAt}
 use Rattle.mv_linker.proofs.rules.scope.Scope.gains_nothing.Given as goal
 
 abbrev pub invariant-loop-k : goal.invariant-loop-k

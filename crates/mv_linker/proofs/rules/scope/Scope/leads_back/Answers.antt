@@ -1,5 +1,5 @@
 use Rattle.mv_linker.proofs.Common.{◌-◌, ◌<◌, ◌∙◌, ◌≡◌, Some, ap, arith, length, modules_in, slice_get, slice_get_within, sym, take}
-use Rattle.mv_linker.specs.Settled.{IsNext}
+use Rattle.mv_linker.specs.Finished.{IsNext}
 use Rattle.mv_linker.proofs.Cycles.Searching.{IsOpen, less-left, not-done, search-goes-back, search-goes-on, search-loops}
 use Rattle.mv_linker.proofs.rules.scope.Scope.leads_back.Goals as goal
 use Rattle.mv_linker.proofs.rules.scope.Scope.leads_back.Goals.{In-Some, In-Some-next_after}
@@ -28,7 +28,7 @@ insert-requires-in_default-next_after c =
 pub search-smaller-in_default-next_after : goal.search-smaller-in_default-next_after
 search-smaller-in_default-next_after c =
     let end = last-open (goal.at.search-smaller-in_default-next_after c).In-Some in
-    let less = less-left c.search.done c.insert-in_default-next_after.new.self c.in-Some.last.now (length (modules_in c.args.self.now)) end.low (not-done _ _ _ end.unsettled) c.in_ok-insert-2.ensures.places in
+    let less = less-left c.search.done c.insert-in_default-next_after.new.self c.in-Some.last.now (length (modules_in c.args.self.now)) end.low (not-done _ _ _ end.unfinished) c.in_ok-insert-2.ensures.places in
     omega (arith, less)
 
 pub search-preserved-in_default-next_after : goal.search-preserved-in_default-next_after

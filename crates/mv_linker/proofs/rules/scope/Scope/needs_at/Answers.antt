@@ -7,13 +7,13 @@ use Rattle.mv_linker.proofs.Joining.Scopes.{kept-below}
 use Rattle.mv_linker.proofs.rules.scope.Scope.needs_at.Goals as goal
 use Rattle.mv_linker.proofs.rules.scope.Scope.needs_at.Goals.{In-Some, In-None}
 
-standing : (c : In-Some) → slice_get c.args.self.now.places.items c.in-Some.k ≡ Some c.args.place
-standing c = place-at c.args.place c.in-Some.k c.args.self.now.places.items (sym c.in-Some.ensures)
+was_found : (c : In-Some) → slice_get c.args.self.now.places.items c.in-Some.k ≡ Some c.args.place
+was_found c = place-at c.args.place c.in-Some.k c.args.self.now.places.items (sym c.in-Some.ensures)
 
 inside : (c : In-Some) → c.in-Some.k < length c.args.needed.now
 inside c =
     let s = c.args.self.now in
-    let low = slice_get_within s.places.items c.in-Some.k c.args.place (standing c) in
+    let low = slice_get_within s.places.items c.in-Some.k c.args.place (was_found c) in
     omega (arith, low, placed-length s, c.requires.needed.len, length-map s.new.now (λ (n : New). n.module))
 
 none-placed : (c : In-None) → position (λ p. p == c.args.place) (places_in (tables_in c.args.self.now.store.now) (offered c.args.self.now.new.now)) ≡ None
@@ -36,7 +36,7 @@ returns-in-Some c m m_at =
     let i = (goal.at.returns-in-Some c).In-Some in
     let d = c.index-needed-k.result in
     (bundled-dependencies (tables_in s.store.now) (offered s.new.now) c.requires.store.once s.once c.requires.store.links c.args.needed.now c.requires.needed c.in-Some.k c.args.place d
-    (ap (λ l. slice_get l c.in-Some.k) (sym s.placed) ∙ standing i) (slice_get-get_or c.args.needed.now c.in-Some.k d (inside i) ∙ ap Some (sym c.index-needed-k.is)) m m_at)
+    (ap (λ l. slice_get l c.in-Some.k) (sym s.placed) ∙ was_found i) (slice_get-get_or c.args.needed.now c.in-Some.k d (inside i) ∙ ap Some (sym c.index-needed-k.is)) m m_at)
 
 pub returns-in-None : goal.returns-in-None
 returns-in-None c =

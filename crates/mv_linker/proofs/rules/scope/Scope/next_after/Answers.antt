@@ -1,5 +1,5 @@
 use Rattle.mv_linker.proofs.Common.{modules_in}
-use Rattle.mv_linker.proofs.Cycles.Settled.{next-after}
+use Rattle.mv_linker.proofs.Cycles.Finished.{next-after}
 use Rattle.mv_linker.proofs.rules.scope.Scope.next_after.Goals as goal
 
 pub returns : goal.returns

@@ -1,7 +1,0 @@
-use Rattle.mv_edges.proofs.Common.{◌≡◌, ◌∷◌, [], edges_leq, flat_map, take, true}
-use Rattle.mv_ways.specs.Behind.{led_edges}
-use Rattle.mv_ways.specs.Covered.{open_tail}
-use Rattle.mv_ways.proofs.ways.WayGraph.are_leads_under.Given as goal
-
-abbrev pub invariant-loop-index : goal.invariant-loop-index
-invariant-loop-index l = edges_leq (flat_map (led_edges l.self.sources l.to (open_tail l.path ∷ [])) (take l.index l.leads)) l.others ≡ true

@@ -1,9 +1,0 @@
-use Rattle.mv_edges.proofs.Common.{◌≡◌, ◌≤◌, length, take, true}
-use Rattle.mv_ways.specs.Ways.{are_below}
-use Rattle.mv_ways.proofs.ways.WayGraph.count_used.Given as goal
-
-abbrev pub invariant-loop-r : goal.invariant-loop-r
-invariant-loop-r l = record {
-  most : l.count ≤ length l.self.ways;
-  below : are_below l.count (take l.r-index l.self.references) ≡ true;
-}

@@ -1,9 +1,0 @@
-use Rattle.mv_edges.proofs.Common.{on_ok_weaker}
-use Rattle.mv_ways.proofs.WayGraph.Stating.{extended_anew}
-use Rattle.mv_ways.proofs.ways.WayGraph.extend_anew.Goals as goal
-
-pub returns : goal.returns
-returns c =
-    on_ok_weaker c.state.result
-    (extended_anew c.args.position c.args.n c.args.self.now c.remove.new.self c.state.new.self c.in_ok-edges.edges c.in_ok-edges.ensures c.remove.ensures)
-    c.state.ensures

@@ -1,8 +1,0 @@
-use Rattle.mv_edges.proofs.Common.{◌++◌, ◌≡◌, drop, map, take}
-use Rattle.mv_ways.specs.Ways.{edge_lists, extended_into}
-use Rattle.mv_ways.proofs.ways.WayGraph.extend_each.Given as goal
-
--- the edges of the references so far lead one position further
-abbrev pub invariant-loop-place : goal.invariant-loop-place
-invariant-loop-place l =
-    edge_lists l.self ≡ map (map (extended_into l.position l.n)) (take l.place (edge_lists l.fn.self)) ++ drop l.place (edge_lists l.fn.self)

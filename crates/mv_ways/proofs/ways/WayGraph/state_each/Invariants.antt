@@ -1,6 +1,0 @@
-use Rattle.mv_edges.proofs.Common.{◌++◌, ◌≡◌, take}
-use Rattle.mv_ways.specs.Ways.{edges_of, opened_into}
-use Rattle.mv_ways.proofs.ways.WayGraph.state_each.Given as goal
-
-abbrev pub invariant-loop-place : goal.invariant-loop-place
-invariant-loop-place l = edges_of l.self ≡ edges_of l.fn.self ++ opened_into (take l.place l.heirs) (take l.place l.given)

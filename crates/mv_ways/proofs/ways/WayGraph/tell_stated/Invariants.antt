@@ -1,7 +1,0 @@
-use Rattle.mv_edges.proofs.Common.{◌∷◌, [], take}
-use Rattle.mv_ways.specs.Behind.{a_tail, edges_with}
-use Rattle.mv_ways.proofs.ways.WayGraph.tell_stated.Given as goal
-
-abbrev pub invariant-loop-lead : goal.invariant-loop-lead
-invariant-loop-lead g l =
-    g.S.Sink.after l.fn.sink (edges_with l.self.sources l.to (take l.lead-index l.leads) (a_tail (record { path = l.path; is_open = l.is_open }) ∷ [])) l.sink

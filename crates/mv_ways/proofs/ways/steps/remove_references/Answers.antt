@@ -1,6 +1,0 @@
-use Rattle.mv_edges.proofs.Common.{not, rules, filter_same, same_node}
-use Rattle.mv_ways.specs.declared.ways.Reference.{Reference}
-use Rattle.mv_ways.proofs.ways.steps.remove_references.Goals as goal
-
-pub returns : goal.returns
-returns c = filter_same _ (λ (r : Reference). not (same_node r.node c.args.n)) _ (λ x b f k. search rules) _ _ c.retain.ensures.filtered
