@@ -30,7 +30,7 @@ fn asked_of_bundle(alloc: Global, payload: &[u8]) -> Result<Option<(u128, u64)>,
 fn asked_of_run(alloc: Global, payload: &[u8]) -> Result<Option<(u128, u64)>, AllocError>
     ensures { IfOk result (IsAsked 2 payload.now) }
 {
-    match read_run(alloc, payload) {
+    match read_run(Vec::new(alloc), payload) {
         Ok(asked) => Ok(Some((asked.sender, asked.budget))),
         Err(Refusal::Phase(_)) => Ok(None),
         Err(Refusal::Memory) => Err(AllocError),

@@ -215,6 +215,7 @@ pub fn execute(published: &mut Published, storage: &mut Storage, call: &Call) ->
             if outcome.ending == Ending::Returned {
                 published.add_run(&tally);
             }
+            storage.keep_tally(tally);
             Reply::Ran(outcome)
         }
         Err(RunError::Memory) => Reply::Memory,

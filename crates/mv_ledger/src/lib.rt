@@ -49,8 +49,8 @@ pub use modules::Modules;
 pub use mv_interface::StructName;
 use mv_ledger_state::{Published, read_run};
 pub use mv_lines::{Lines, Piece, Side};
-use mv_machine::Outcome;
 pub use mv_machine::Tally;
+use mv_machine::{Arg, Outcome};
 use mv_move_types::Refusal;
 use mv_saved_text::text_of;
 pub use mv_saved_text::{LoadError, Saving};
@@ -59,6 +59,7 @@ pub use mv_storage::{Changes, Entries, Page};
 pub use scratch::Scratch;
 use std::alloc::{AllocError, Global};
 use std::marker::Model;
+use std::mem::replace;
 
 /// What the ledger answers to a record.
 #[derive(Clone, Copy)]
@@ -96,6 +97,8 @@ pub struct Ledger {
     // How many runs there were where each open block was begun, the oldest first.
     run_marks: Vec<u64>,
     scratch: Scratch,
+    // Memory for the arguments of the next run. What it holds means nothing.
+    arguments: Vec<Arg>,
 }
 
 impl Model for Ledger {
@@ -124,6 +127,7 @@ impl Ledger {
             runs: 0,
             run_marks: Vec::new(alloc),
             scratch: Scratch::new(alloc),
+            arguments: Vec::new(alloc),
         }
     }
 
@@ -165,7 +169,8 @@ impl Ledger {
     pub fn execute(&mut self, payload: &[u8]) -> Reply
         ensures { Replies 2 payload.now (told result) self.old self.new }
     {
-        let asked = match read_run(self.alloc, payload) {
+        let list = replace(&mut self.arguments, Vec::new(self.alloc));
+        let asked = match read_run(list, payload) {
             Ok(asked) => asked,
             Err(Refusal::Phase(_)) => return Reply::Rejected(1),
             Err(Refusal::Memory) => return Reply::Memory,
@@ -174,6 +179,7 @@ impl Ledger {
         match admitted(&published.store, self.runs, asked) {
             Ok(call) => {
                 let reply = executing::execute(published, &mut self.storage, &call);
+                self.arguments = call.arguments;
                 if reply.is_told() {
                     self.runs += 1;
                 }

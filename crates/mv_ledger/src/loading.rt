@@ -28,6 +28,7 @@ impl Ledger {
             runs: loaded.runs,
             run_marks: Vec::new(alloc),
             scratch: Scratch::new(alloc),
+            arguments: Vec::new(alloc),
         })
     }
 }

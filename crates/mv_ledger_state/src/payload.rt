@@ -169,25 +169,26 @@ fn argument(reader: &mut Reader<'_>) -> Result<Arg, Refusal>
     }
 }
 
-/// Reads arguments, of which there are at most 16, after their number. Their list has room for one more.
+/// Reads arguments, of which there are at most 16, after their number, into the memory of a list. It has room for one more then.
 #[inline(always)]
-fn arguments(alloc: Global, reader: &mut Reader<'_>) -> Result<Vec<Arg>, Refusal>
+fn arguments(mut list: Vec<Arg>, reader: &mut Reader<'_>) -> Result<Vec<Arg>, Refusal>
     ensures ok { IfOk result (λ v. counted_from 16 argument_from reader.old ≡ Some (v.items, reader.new)) }
     ensures range { IfOk result (λ v. IsTrue (list_all (λ (a : Argument). number_fits a.kind a.number) v.items)) }
     ensures refused { result ≡ Err (Refusal.Phase 2) → counted_from 16 argument_from reader.old ≡ None }
     ensures errors { IfErr result (λ e. (e ≡ Refusal.Phase 2) ⊎ (e ≡ Refusal.Memory)) }
 {
     let count = reader.number(MOST_ARGUMENTS)?;
-    let mut all = Vec::with_capacity(alloc, count as usize + 1)?;
+    list.clear();
+    list.reserve(count as usize + 1)?;
     'each: for _ in 0..count {
         let next = argument(reader)?;
-        all.push_reserved(next);
+        list.push_reserved(next);
     }
-    Ok(all)
+    Ok(list)
 }
 
-/// Reads a run that is asked for.
-fn next_run<'a>(alloc: Global, reader: &mut Reader<'a>) -> Result<RunRecord<'a>, Refusal>
+/// Reads a run that is asked for, with its arguments in the memory of a list.
+fn next_run<'a>(list: Vec<Arg>, reader: &mut Reader<'a>) -> Result<RunRecord<'a>, Refusal>
     ensures ok { IfOk result (λ r. run_from reader.old ≡ Some (request_of r, reader.new)) }
     ensures range { IfOk result (λ r. IsTrue (list_all (λ (a : Argument). number_fits a.kind a.number) r.arguments.items)) }
     ensures refused { result ≡ Err (Refusal.Phase 2) → run_from reader.old ≡ None }
@@ -198,7 +199,7 @@ fn next_run<'a>(alloc: Global, reader: &mut Reader<'a>) -> Result<RunRecord<'a>,
     let module = reader.identifier()?;
     let function = reader.identifier()?;
     let budget = reader.number(u64::MAX)?;
-    let arguments = arguments(alloc, reader)?;
+    let arguments = arguments(list, reader)?;
     Ok(RunRecord {
         sender,
         home,
@@ -209,19 +210,20 @@ fn next_run<'a>(alloc: Global, reader: &mut Reader<'a>) -> Result<RunRecord<'a>,
     })
 }
 
-/// Reads the payload of a run record: the run that it asks for, and nothing after it.
+/// Reads the payload of a run record: the run that it asks for, and nothing after it. Its arguments stand in the memory of a list;
+/// what the list holds means nothing.
 ///
 /// # Errors
 ///
 /// `Phase(2)`, that of malformed bytes, if the payload isn't that of a run record; `Memory` if an allocation failed.
-pub fn read_run<'a>(alloc: Global, payload: &'a [u8]) -> Result<RunRecord<'a>, Refusal>
+pub fn read_run<'a>(list: Vec<Arg>, payload: &'a [u8]) -> Result<RunRecord<'a>, Refusal>
     ensures ok { IfOk result (λ r. IsShaped 2 payload.entry.now (Run (request_of r))) }
     ensures refused { result ≡ Err (Refusal.Phase 2) → IsShapeless 2 payload.entry.now }
     ensures errors { IfErr result (λ e. (e ≡ Refusal.Phase 2) ⊎ (e ≡ Refusal.Memory)) }
     ensures range { IfOk result (λ r. IsTrue (list_all (λ (a : Argument). number_fits a.kind a.number) r.arguments.items)) }
 {
     let mut reader = Reader::new(payload);
-    let asked = next_run(alloc, &mut reader)?;
+    let asked = next_run(list, &mut reader)?;
     if reader.is_empty() {
         Ok(asked)
     } else {

@@ -91,6 +91,5 @@ returns-in-Err-Phase c =
     let none : IsShapeless 2 c.args.payload.now = elim c.in-Err-Phase.ensures.errors
     [ inl p ↦ c.in-Err-Phase.ensures.refused (ap Err p) | inr q ↦ absurd (phase-no-memory _ _ c.in-Err-Phase.field-0-is q) ] in
     let old = c.self.inside.published in
-    subst (λ (v : LedgerView). Replies 2 c.args.payload.now (Some (ToldRejected 1)) v v) c.self.view_is
-    (bad_run_replies c.args.payload.now (marked (view_of old.modules c.self.inside.storage.committed (all_of old.tallies) c.self.inside.runs) (held_marks old.marks c.self.inside.storage.marks c.self.inside.run_marks.items))
-    none c.self.invariant.0.sound)
+    let held = marked (view_of old.modules c.self.inside.storage.committed (all_of old.tallies) c.self.inside.runs) (held_marks old.marks c.self.inside.storage.marks c.self.inside.run_marks.items) in
+    subst (λ (v : LedgerView). Replies 2 c.args.payload.now (Some (ToldRejected 1)) v held) c.self.view_is (bad_run_replies c.args.payload.now held none c.self.invariant.0.sound)

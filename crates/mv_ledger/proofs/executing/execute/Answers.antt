@@ -52,11 +52,17 @@ returns-after-eq-clause-small c = λ runs small.
           (small-kept runs (all_of c.args.published.now.tallies) small)
     ]
 
+pub returns-after-eq-clause-stored : goal.returns-after-eq-clause-stored
+returns-after-eq-clause-stored c = rw c.keep_tally.ensures.same c.in-Ok.ensures.fine
+
+pub returns-after-eq-clause-storage_marks : goal.returns-after-eq-clause-storage_marks
+returns-after-eq-clause-storage_marks c = rw c.keep_tally.ensures.same c.run_over.ensures.storage_marks
+
 pub returns-after-eq-clause-applied : goal.returns-after-eq-clause-applied
 returns-after-eq-clause-applied c =
     let here = (goal.at.returns-after-eq-clause-applied c).In-Ok in
     let old = c.args.published.now in
-    elim c.if-eq.branch [
+    rw c.keep_tally.ensures.same (elim c.if-eq.branch [
       | then-eq w ↦
           let after : all_of c.if-eq.published.tallies ≡ map (tally_after c.in-Ok.tally.items) (all_of c.args.published.now.tallies) =
           ap (λ (p : PublishedView). all_of p.tallies) w.published-is
@@ -70,13 +76,13 @@ returns-after-eq-clause-applied c =
           applied-kept old.modules c.args.call.now c.args.storage.now.committed c.run_over.new.storage.committed (all_of old.tallies) (all_of c.if-eq.published.tallies) c.in-Ok.outcome
           c.in-Ok.tally.items (layers-of here) (machine-of here) other (c.in-Ok.ensures.other other)
           (ap (λ (p : PublishedView). all_of p.tallies) w.published-is ∙ ap all_of c.run_over.ensures.tallies)
-    ]
+    ])
 
 pub returns-after-eq-clause-kept : goal.returns-after-eq-clause-kept
 returns-after-eq-clause-kept c =
-    elim c.if-eq.branch [
+    rw c.keep_tally.ensures.same (elim c.if-eq.branch [
       | then-eq w ↦ let ended : c.in-Ok.outcome.ending ≡ Returned = search rules in runs-to c.in-Ok.outcome _ _ _ _ (λ other. absurd (other ended))
       | else-eq w ↦
           let other : c.in-Ok.outcome.ending ≡ Returned → ⊥ = search rules in
           runs-to c.in-Ok.outcome _ _ _ _ (λ _. (c.in-Ok.ensures.other other, ap (λ (p : PublishedView). all_of p.tallies) w.published-is ∙ ap all_of c.run_over.ensures.tallies))
-    ]
+    ])
