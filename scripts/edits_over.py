@@ -5,6 +5,7 @@ import os
 import re
 import shutil
 import subprocess
+from contextlib import suppress
 from pathlib import Path
 from typing import Dict, List, NamedTuple, Optional, Set, Tuple
 
@@ -18,6 +19,7 @@ NEED = 2_500_000_000
 # What the prover says where it has no function of a name, or several.
 NO_NAME = re.compile(r"^rattle: error: `\w+` [^\n`]*`([^`]*)`", re.M)
 IMPL = re.compile(r"^( *)(?:unsafe )?impl\b(.*)")
+CYCLE = re.compile(r"#\[cycle\((\w+)\)\]")
 # A list of parameters in angle brackets, of which none is in another.
 PARAMETERS = re.compile(r"<[^<>]*>")
 
@@ -27,11 +29,10 @@ RUNNING: Set["subprocess.Popen[bytes]"] = set()
 
 
 class Ended(NamedTuple):
-    """How a check ended, what it printed, and how many seconds it took on the processors."""
+    """How a check ended, and what it printed."""
 
     status: int
     printed: str
-    busy: float
 
 
 def kit() -> Optional[Path]:
@@ -158,19 +159,64 @@ def names_of(place: Place, crate: str) -> List[str]:
     return list(dict.fromkeys([*found, *(["::".join(parts)] if parts else [])]))
 
 
-class Copy:
-    """A copy of a crate's sources, which edits are applied to."""
+def parts_of(place: Place, crate: str) -> Set[str]:
+    """What a module of the proof of a place's function has in its name: the function, or a cycle of calls of its file."""
+    text = (CRATES / crate / place.file).read_text(encoding="utf-8")
+    return {*CYCLE.findall(text), *([] if place.function is None else [functions_of(text)[place.function].name])}
 
-    def __init__(self, crate: str, folder: Path, libraries: Libraries) -> None:
-        self.crate, self.folder, self.libraries = crate, folder, libraries
-        self.own = folder / "crates" / crate
+
+def begins_with(place: Path, folder: Path) -> bool:
+    """Has a new folder of what is proved begin with that of another place; answers whether it does. A check replaces the file of a module
+    and changes none, so these are linked."""
+    def give(one: str, other: str) -> object:
+        if one.endswith(".oantt"):
+            with suppress(OSError):
+                return os.link(one, other)
+        return shutil.copy2(one, other)
+
+    try:
+        shutil.copytree(place, folder, symlinks=True, copy_function=give)
+    except (OSError, shutil.Error):
+        # (another command works there)
+        shutil.rmtree(folder, ignore_errors=True)
+        return False
+    return True
+
+
+class Copy:
+    """A copy of a crate's sources, which edits are applied to, with a folder of what is proved. A check takes from there what is of the
+    same text and of the same libraries."""
+
+    def __init__(self, crate: str, folder: Path, libraries: Libraries, earlier: Path) -> None:
+        self.crate, self.folder, self.libraries, self.earlier = crate, folder, libraries, earlier
+        self.own, self.proved = folder / "crates" / crate, folder / "kept"
+        # What its checks took, in seconds of a processor.
+        self.busy = 0.0
         for part in PARTS:
             if (CRATES / crate / part).is_dir():
                 shutil.copytree(CRATES / crate / part, self.own / part)
+        # What it calls, too, is proved in a check; so each begins with what the last one, or a check of the crate itself, has proved.
+        for place in earlier, libraries.folder / crate / "out/incremental":
+            if place.is_dir() and begins_with(place, self.proved):
+                break
+
+    def keep(self, edits: List[Edit]) -> None:
+        """Leaves what was proved beside these edits to the next run, unless another one does at this time. All that is of the functions that
+        they change goes, also what was refused: the next run proves that anew. Where one changes what is of no function, nothing is left."""
+        if not self.proved.is_dir() or any(place.function is None for edit in edits for place in edit.places):
+            return
+        changed = {name for edit in edits for place in edit.places for name in parts_of(place, self.crate)}
+        for file in self.proved.rglob("*.oantt"):
+            if not changed.isdisjoint(it.lstrip("+") for it in file.name.split(".")):
+                file.unlink()
+        self.earlier.parent.mkdir(exist_ok=True)
+        shutil.rmtree(self.earlier, ignore_errors=True)
+        with suppress(OSError):
+            self.proved.rename(self.earlier)
 
     def run(self, names: List[str]) -> Ended:
         """One check of the functions of these names; of all, where there is none. What it proves is kept for the next one in this copy."""
-        words = [str(self.libraries.tools / "bin/rattle"), "check", *self.libraries.words(self.crate), "--incremental", str(self.folder / "kept")]
+        words = [str(self.libraries.tools / "bin/rattle"), "check", *self.libraries.words(self.crate), "--incremental", str(self.proved)]
         words += [word for name in names for word in ("--only", name)]
         with open(self.folder / "said", "w+", encoding="utf-8", errors="replace") as said:
             run = subprocess.Popen(words, cwd=self.own, stdin=subprocess.DEVNULL, stdout=said, stderr=subprocess.STDOUT)
@@ -179,20 +225,19 @@ class Copy:
             run.returncode = os.WEXITSTATUS(status) if os.WIFEXITED(status) else 128 + os.WTERMSIG(status)
             RUNNING.discard(run)
             said.seek(0)
-            return Ended(run.returncode, said.read(), used.ru_utime + used.ru_stime)
+            self.busy += used.ru_utime + used.ru_stime
+            return Ended(run.returncode, said.read())
 
-    def check(self, edits: List[Edit]) -> Ended:
-        """Checks the functions that these edits change."""
+    def check(self, edits: List[Edit]) -> str:
+        """Checks the functions that these edits change. Answers what that printed."""
         places = {place: names_of(place, self.crate) for edit in edits for place in edit.places}
-        busy = 0.0
         while True:
             asked = sorted({it[0] for it in places.values()})
             ended = self.run([] if "" in asked else asked)
-            busy += ended.busy
             unknown = NO_NAME.findall(ended.printed) if ended.status == 2 else []
             hit = [it for it in places.values() if it[0] in unknown]
             if not hit:
-                return Ended(ended.status, ended.printed, busy)
+                return ended.printed
             for it in hit:
                 it[:] = it[1:] or [""]
 
