@@ -86,7 +86,6 @@ pub use Rattle.mv_lowering.specs.Words.{words_by}
 pub use Rattle.mv_linker.specs.declared.New.{New}
 pub use Rattle.mv_linker.specs.declared.store.code.Callee.{Callee}
 pub use Rattle.mv_linker.specs.declared.store.code.Code.{Code}
-pub use Rattle.mv_linker.specs.declared.store.code.CodeAt.{CodeAt}
 pub use Rattle.mv_linker.specs.declared.store.entry.Name.{Name}
 pub use Rattle.mv_linker.specs.declared.store.entry.Texts.{Texts}
 pub use Rattle.mv_interface.specs.declared.interface.Interface.{Interface}

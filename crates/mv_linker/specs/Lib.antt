@@ -6,6 +6,7 @@ pub mod Indexed
 pub mod Kept
 pub mod KeptTypes
 pub mod Lowered
+pub mod Made
 pub mod Matches
 pub mod News
 pub mod DependencyGraph

@@ -53,10 +53,7 @@ pub fn may_join(
         return Err(Refusal::Phase(13));
     }
     let scope = Scope::of(alloc, s, new)?;
-    if !scope.all_follow() {
-        return Err(Refusal::Phase(13));
-    }
-    scope.links(alloc)
+    scope.joins(alloc)
 }
 
 /// Whether the modules are the sender's, where one is given.

@@ -107,6 +107,35 @@ impl<'a> Scope<'a> {
         Ok(false)
     }
 
+    /// Whether no chain leads back to its module, by a search from each module of the bundle with which the others weren't done.
+    fn none_leads_back(
+        &self,
+        alloc: Global,
+        needed: &[Places],
+        base: usize,
+        met: &mut Places,
+        done: &mut Places,
+    ) -> Result<bool, AllocError>
+        requires few { length (modules_in self.now) ≤ 65536 }
+        requires fits { IsFitting self.now }
+        requires needed { AreDependenciesIn (modules_in self.now) (offered self.now.new.now) needed.now }
+        requires finished { AreFinished (modules_in self.now) base [] }
+        requires met { met.old ≡ [] }
+        requires done { done.old ≡ [] }
+        ensures { IfOk result (λ b. IsTrue b ↔ IsOrdered (modules_in self.now)) }
+    {
+        for k in 0..self.places.len() {
+            let place = self.places[k];
+            if is_finished(base, done, place) {
+                continue;
+            }
+            if self.leads_back(alloc, needed, base, place, met, done)? {
+                return Ok(false);
+            }
+        }
+        Ok(true)
+    }
+
     /// Whether no module depends on itself by a chain, where the modules before `base` are in order by themselves. One search
     /// serves all the modules of the bundle, since a chain that leads back is of one of them, or of those before `base`.
     pub fn is_ordered_from(
@@ -126,15 +155,6 @@ impl<'a> Scope<'a> {
         }
         let mut met = Places::new(alloc);
         let mut done = Places::new(alloc);
-        for k in 0..self.places.len() {
-            let place = self.places[k];
-            if is_finished(base, &done, place) {
-                continue;
-            }
-            if self.leads_back(alloc, needed, base, place, &mut met, &mut done)? {
-                return Ok(false);
-            }
-        }
-        Ok(true)
+        self.none_leads_back(alloc, needed, base, &mut met, &mut done)
     }
 }

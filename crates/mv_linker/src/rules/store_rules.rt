@@ -1,13 +1,16 @@
 // The rules over a whole store, c to g of linking, for the modules that it has once a bundle joins it: c is in named_modules.rt, d in
 // named_structs.rt, e in named_functions.rt, f in acyclic.rt and g in small_structs.rt.
-ghost use Rattle.std.specs.Prelude.{◌+◌, ◌≤◌, length, IsTrue, IfOk, IfErr, OnOk};
+ghost use Rattle.std.specs.Prelude.{◌+◌, ◌≤◌, All, length, IsTrue, IfOk, IfErr, OnOk};
 ghost use Rattle.std.specs.List.{list_all};
 ghost use Rattle.mv_move_types.specs.Refusals.{IsRefusedIn};
+ghost use Rattle.mv_linker.specs.DependencyGraph.{IsOrdered};
 ghost use Rattle.mv_linker.specs.Found.{AreOutlines};
-ghost use Rattle.mv_link_rules.specs.Link.{tables_in};
+ghost use Rattle.mv_linker.specs.News.{published_of};
+ghost use Rattle.mv_link_rules.specs.Link.{IsPublishable, IsStore, are_compatible, tables_in};
 ghost use Rattle.mv_link_rules.specs.StoreRules.{Links, names_hold};
 ghost use Rattle.mv_linker.specs.Relinked.{IsFitting};
 ghost use Rattle.mv_linker.specs.Scope.{offered};
+ghost use Rattle.mv_linker.specs.ScopeDependencies.{AreDependenciesIn};
 ghost use Rattle.mv_linker.specs.Stored.{AreLowered, AreNames, AreNamesOf};
 ghost use Rattle.mv_linker.specs.Targets.{modules_in};
 
@@ -15,6 +18,7 @@ use crate::lowering::to_link::Lowered;
 use crate::rules::named_modules::places_of;
 use crate::rules::pushed::pushed;
 use crate::rules::scope::Scope;
+use crate::store::places::Places;
 use mv_binary_format::Module;
 use mv_interface::Outline;
 use mv_move_types::{Definition, Refusal};
@@ -70,9 +74,47 @@ impl<'a> Scope<'a> {
         Ok(all)
     }
 
+    /// What each module of the bundle depends on; `Phase(13)`, where rule f fails. `names` has what the handles of each name.
+    fn ordered(&self, alloc: Global, names: &[Names]) -> Result<Vec<Places>, Refusal>
+        requires few { length (modules_in self.now) ≤ 65536 }
+        requires fits { IsFitting self.now }
+        requires names { AreNamesOf (modules_in self.now) (offered self.now.new.now) names.now }
+        ensures needed { IfOk result (λ v. AreDependenciesIn (modules_in self.now) (offered self.now.new.now) v.items) }
+        ensures ok { OnOk result (IsOrdered (modules_in self.now)) }
+        ensures refused { IfErr result (IsRefusedIn 13 (IsOrdered (modules_in self.now))) }
+    {
+        let needed = self.dependencies(alloc, names)?;
+        if self.is_ordered(alloc, &needed)? {
+            Ok(needed)
+        } else {
+            Err(Refusal::Phase(13))
+        }
+    }
+
+    /// Tries rules f and g over all the modules, for which c, d and e hold, and links the bundle's. `names` has what the handles of
+    /// each name; `outlines` are theirs, and are kept.
+    fn linked(
+        &self,
+        alloc: Global,
+        names: &[Names],
+        outlines: Vec<Outline>,
+    ) -> Result<Vec<Lowered>, Refusal>
+        requires few { length (modules_in self.now) ≤ 65536 }
+        requires fits { IsFitting self.now }
+        requires names { AreNamesOf (modules_in self.now) (offered self.now.new.now) names.now }
+        requires hold { IsTrue (list_all (names_hold (modules_in self.now)) (offered self.now.new.now)) }
+        requires outlines { AreOutlines (offered self.now.new.now) outlines.items }
+        ensures ok { OnOk result (Links (modules_in self.now)) }
+        ensures lowered { IfOk result (λ v. AreLowered (tables_in self.now.store.now) (offered self.now.new.now) (modules_in self.now) v.items) }
+        ensures refused { IfErr result (IsRefusedIn 13 (Links (modules_in self.now))) }
+    {
+        let needed = self.ordered(alloc, names)?;
+        let sizes = self.sizes(alloc, names)?;
+        Ok(self.lowered(alloc, names, &sizes, outlines, needed)?)
+    }
+
     /// Tries rules c to g over all the modules, and links the bundle's.
-    pub fn links(&self, alloc: Global) -> Result<Vec<Lowered>, Refusal>
-        requires room { length self.now.store.now + length self.now.new.now ≤ 65536 }
+    fn links(&self, alloc: Global) -> Result<Vec<Lowered>, Refusal>
         requires few { length (modules_in self.now) ≤ 65536 }
         requires fits { IsFitting self.now }
         ensures ok { OnOk result (Links (modules_in self.now)) }
@@ -81,11 +123,22 @@ impl<'a> Scope<'a> {
     {
         let outlines = self.outlines(alloc)?;
         let names = self.named(alloc, &outlines)?;
-        let needed = self.dependencies(alloc, &names)?;
-        if !self.is_ordered(alloc, &needed)? {
+        self.linked(alloc, &names, outlines)
+    }
+
+    /// Tries rules c to h, and links the bundle's modules.
+    pub fn joins(&self, alloc: Global) -> Result<Vec<Lowered>, Refusal>
+        requires few { length self.now.store.now + length self.now.new.now ≤ 65536 }
+        requires store { IsStore self.now.store.now }
+        requires passed { All IsPublishable (published_of self.now.new.now) }
+        ensures compatible { OnOk result (IsTrue (are_compatible (tables_in self.now.store.now) (offered self.now.new.now))) }
+        ensures ok { OnOk result (Links (modules_in self.now)) }
+        ensures lowered { IfOk result (λ v. AreLowered (tables_in self.now.store.now) (offered self.now.new.now) (modules_in self.now) v.items) }
+        ensures refused { IfErr result (IsRefusedIn 13 (IsTrue (are_compatible (tables_in self.now.store.now) (offered self.now.new.now)) × Links (modules_in self.now))) }
+    {
+        if !self.all_follow() {
             return Err(Refusal::Phase(13));
         }
-        let sizes = self.sizes(alloc, &names)?;
-        Ok(self.lowered(alloc, &names, &sizes, outlines, needed)?)
+        self.links(alloc)
     }
 }
