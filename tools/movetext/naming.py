@@ -1,5 +1,5 @@
 """How the entries of a module's tables are written where they are named: by a name where that name means the very entry,
-else by an index."""
+otherwise by an index."""
 
 from typing import Dict, Hashable, Iterable, List, Optional, Set, Tuple, Union
 

@@ -191,7 +191,7 @@ class FunctionPrinter:
         self.labels = self.label_names()
 
     def local_names(self) -> List[str]:
-        """The locals' names: those of the text where it has one for each, else by their numbers."""
+        """The locals' names: those of the text where it has one for each, otherwise by their numbers."""
         known = self.source.locals if self.source else []
         if known and len(known) == self.named_locals and len(set(known)) == len(known):
             return [quoted(name) for name in known]

@@ -14,7 +14,7 @@ HEX_TEXT = re.compile(rf'"{HEX}"(?:\s*,\s*"{HEX}")*|(?m:^ {{4,}}{HEX}$\n?)+|(?m:
 
 
 def given_bytes(paths: Iterable[Path]) -> Iterator[Tuple[str, bytes]]:
-    """The bytes that stand in files: a file's own where it is no text, else those in hexadecimal."""
+    """The bytes that stand in files: a file's own where it is no text, otherwise those in hexadecimal."""
     for path in paths:
         data = path.read_bytes()
         if path.suffix in (".stream", ".module", ".ledger"):

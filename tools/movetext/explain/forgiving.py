@@ -33,7 +33,7 @@ class Forgiving:
 
 
 def fitting(subject: Subject) -> model.Certificate:
-    """A certificate of a module that passed phases 2 to 8: the least states where there are any, else ones that come near."""
+    """A certificate of a module that passed phases 2 to 8: the least states where there are any, otherwise ones that come near."""
     found = []
     for of_phase in certificate.domains(subject):
         states = [certificate.least_states(Forgiving(domain), subject.graph(domain.function)) for domain in of_phase]

@@ -37,7 +37,7 @@ fn of_offers_together(alloc: Global, offers: &[Offered<'_>]) -> Result<Published
 ///
 /// # Errors
 ///
-/// `Module`, where one of them fails one of phases 2 to 12; else `Link`, where they are not linked; `Memory`, where a growth
+/// `Module`, where one of them fails one of phases 2 to 12; otherwise `Link`, where they are not linked; `Memory`, where a growth
 /// was refused.
 pub fn of_offers(alloc: Global, offers: &[Offered<'_>]) -> Result<Published, LoadError>
     requires { length offers.now ≤ most_modules }
