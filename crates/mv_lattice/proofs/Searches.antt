@@ -12,7 +12,7 @@ use Rattle.mv_cfg.specs.Graph.{IsBlock, HasEdge}
 use Rattle.mv_lattice.specs.Flow.{IsAt, IsStated, through}
 use Rattle.mv_lattice.specs.Laws.{IsLawful}
 use Rattle.mv_lattice.specs.Order.{Order}
-use Rattle.mv_lattice.specs.Search.{Search, resting, IsSameAt, Raises, nothing, lower, FlowsInto, stays, rises, FlowsIntoEach, ExceedsAt, Makes, IsVisit}
+use Rattle.mv_lattice.specs.Search.{NoneBefore, Search, resting, IsSameAt, Raises, nothing, lower, FlowsInto, stays, rises, FlowsIntoEach, ExceedsAt, Makes, IsVisit}
 use Rattle.mv_lattice.specs.Search.{Exceeds, Reaches, begins, goes_on, IsTurn, EndsWith, MeetsLimit, too_often, too_large, MeetsNeed, need}
 use Rattle.mv_lattice.specs.Work.{AllStated, search_of, IsSearch}
 use Rattle.mv_lattice.proofs.Rises.{set_same, set_other, replicate_at, contains_or_not}
@@ -29,7 +29,7 @@ block_there g k b inside is = slice_get_read g.blocks.items (length g.blocks.ite
 
 -- where no block before k waited, none waits before k and its successors once k was visited
 pub rests_before : {S : Type 0} (o : Order S) (g : Cfg) (k least : ℕ) (b : Block) → IsBlock g k b → least ≤ k → All (λ n. least ≤ n) b.successors.items
-    → (x y : Search S) → ((j : ℕ) → j < k → IsAt x.waiting j false) → IsVisit o g k (resting k x) y → (j : ℕ) → j < least → IsAt y.waiting j false
+    → (x y : Search S) → NoneBefore x.waiting k → IsVisit o g k (resting k x) y → NoneBefore y.waiting least
 rests_before o g k least b at own each x y rest visit j low =
     (visit.flows.outside j outside).1 ∙ set_other x.waiting k j false (λ same. let n : j ≡ k = same in absurd (omega (arith, n, low, own))) ∙ rest j (omega (arith, low, own))
   where
@@ -239,7 +239,7 @@ module _ {S : Type 0} (o : Order S) where
         }
 
     module _ (left : List ℕ) (states : List (Option S)) (waiting : List Bool) (has : IsSearch o g start left states waiting)
-        (k l : ℕ) (waits : IsAt waiting k true) (first : (j : ℕ) → j < k → IsAt waiting j false) (at : IsAt left k l) where
+        (k l : ℕ) (waits : IsAt waiting k true) (first : NoneBefore waiting k) (at : IsAt left k l) where
       next : IsTurn o g start has.visited k (search_of states waiting)
       next = record { reached = has.reached; next = record { waits = waits; first = first } }
 
@@ -278,7 +278,7 @@ module _ {S : Type 0} (o : Order S) where
 
     -- the code's search, when nothing waits
     pub search_ends : (left : List ℕ) (states : List (Option S)) (waiting : List Bool)
-        → IsSearch o g start left states waiting → ((j : ℕ) → j < length waiting → IsAt waiting j false)
+        → IsSearch o g start left states waiting → NoneBefore waiting (length waiting)
         → EndsWith o g start states
     search_ends left states waiting has rests = record {
       visited = has.visited;

@@ -24,10 +24,14 @@ pub record Search (S : Type 0) : Type 0 where
   pub flow : List (Option S)
   pub waiting : List Bool
 
+-- no block before this one waits
+abbrev pub NoneBefore : List Bool → ℕ → Type 0
+NoneBefore waiting k = (j : ℕ) → j < k → IsAt waiting j false
+
 -- of the blocks that wait, k has the least number
 pub record IsNext {S : Type 0} (x : Search S) (k : ℕ) : Type 0 where
   pub waits : IsAt x.waiting k true
-  pub first : (j : ℕ) → j < k → IsAt x.waiting j false
+  pub first : NoneBefore x.waiting k
 
 -- block k waits no more
 abbrev pub resting : {S : Type 0} → ℕ → Search S → Search S

@@ -2,7 +2,7 @@
 ghost use Rattle.std.specs.Prelude.{◌≡◌, ℕ, ◌<◌, ◌≤◌, Option, length, IsTrue, IfOk, IfSome, IfNone, OnOk, IsErrOf, Contains, All, [], ◌∷◌, List, replicate, slice_set, sum, take, ◌⊎◌, true, false};
 ghost use Rattle.mv_cfg.specs.Graph.{IsGraph};
 ghost use Rattle.mv_lattice.specs.Flow.{IsAt, IsFlow, IsClosed, IsStated};
-ghost use Rattle.mv_lattice.specs.Search.{Raises, ExceedsAt, FlowsIntoEach, Exceeds, IsVisit, Makes, EndsWith, MeetsLimit, MeetsNeed};
+ghost use Rattle.mv_lattice.specs.Search.{IsNext, NoneBefore, Raises, ExceedsAt, FlowsIntoEach, Exceeds, IsVisit, Makes, EndsWith, MeetsLimit, MeetsNeed};
 ghost use Rattle.mv_lattice.specs.Work.{HasLarge, HasChain, AllStated, IsLeastFlow, IsNewState, search_of, IsSearch, IsUnderway, OfEachStart};
 
 use crate::flow::carry;
@@ -226,10 +226,10 @@ fn visit<D: Domain>(
 
 /// The first block that waits, where none before `from` does.
 fn first_waiting(waiting: &[bool], from: usize) -> Option<usize>
-    requires before { (j : ℕ) → j < from → IsAt waiting.now j false }
+    requires before { NoneBefore waiting.now from }
     ensures some { IfSome result (λ k. IsAt waiting.now k true) }
-    ensures first { IfSome result (λ k. (j : ℕ) → j < k → IsAt waiting.now j false) }
-    ensures none { IfNone result ((j : ℕ) → j < length waiting.now → IsAt waiting.now j false) }
+    ensures first { IfSome result (NoneBefore waiting.now) }
+    ensures none { IfNone result (NoneBefore waiting.now (length waiting.now)) }
 {
     for k in from..waiting.len() {
         if waiting[k] {
@@ -262,8 +262,7 @@ fn turn<D: Domain>(
     waiting: &mut [bool],
     left: &mut [u16],
 ) -> Result<usize, SolveError>
-    requires waits { IsAt waiting.old k true }
-    requires first { (j : ℕ) → j < k → IsAt waiting.old j false }
+    requires next { IsNext (search_of states.old waiting.old) k }
     requires graph { IsGraph g.now (D.order d.now).size }
     requires same { (D.order d.now).is_graph g.now }
     requires marks { length waiting.old ≡ length g.now.blocks.items }
@@ -274,7 +273,7 @@ fn turn<D: Domain>(
     ensures fails { IsErrOf result SolveError.Need → OfEachStart (D.order d.now) g.now left.old states.old waiting.old (MeetsNeed (D.order d.now) g.now) }
     ensures limit { IsErrOf result SolveError.TooComplex → OfEachStart (D.order d.now) g.now left.old states.old waiting.old (MeetsLimit (D.order d.now) g.now) }
     ensures fewer { OnOk result (sum left.new < sum left.old) }
-    ensures rest { IfOk result (λ from. (j : ℕ) → j < from → IsAt waiting.new j false) }
+    ensures rest { IfOk result (NoneBefore waiting.new) }
 {
     if left[k] == 0 {
         return Err(SolveError::TooComplex);
@@ -303,7 +302,7 @@ fn search_flow<D: Domain>(
         (λ start. IsSearch (D.order d.now) g.now start left.new states.new waiting.new)) }
     ensures fails { IsErrOf result SolveError.Need → OfEachStart (D.order d.now) g.now left.old states.old waiting.old (MeetsNeed (D.order d.now) g.now) }
     ensures limit { IsErrOf result SolveError.TooComplex → OfEachStart (D.order d.now) g.now left.old states.old waiting.old (MeetsLimit (D.order d.now) g.now) }
-    ensures rests { OnOk result ((j : ℕ) → j < length waiting.new → IsAt waiting.new j false) }
+    ensures rests { OnOk result (NoneBefore waiting.new (length waiting.new)) }
 {
     let mut from = 0;
     while let Some(k) = first_waiting(waiting, from) {

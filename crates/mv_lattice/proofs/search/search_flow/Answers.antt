@@ -24,11 +24,8 @@ turn-requires-clause-graph g c = c.requires.graph
 pub turn-requires-clause-same : goal.turn-requires-clause-same
 turn-requires-clause-same g c = c.requires.same
 
-pub turn-requires-clause-waits : goal.turn-requires-clause-waits
-turn-requires-clause-waits g c = c.in-Some.ensures.some
-
-pub turn-requires-clause-first : goal.turn-requires-clause-first
-turn-requires-clause-first g c = c.in-Some.ensures.first
+pub turn-requires-clause-next : goal.turn-requires-clause-next
+turn-requires-clause-next g c = record { waits = c.in-Some.ensures.some; first = c.in-Some.ensures.first }
 
 pub turn-requires-clause-marks : goal.turn-requires-clause-marks
 turn-requires-clause-marks g c = omega (arith, c.loop-k.auto.waiting, c.requires.marks)

@@ -1,5 +1,5 @@
-use Rattle.std.proofs.Common.{ℕ, ◌<◌, false, sum}
-use Rattle.mv_lattice.specs.Flow.{IsAt}
+use Rattle.std.proofs.Common.{sum}
+use Rattle.mv_lattice.specs.Search.{NoneBefore}
 use Rattle.mv_lattice.specs.Work.{IsSearch, OfEachStart}
 use Rattle.mv_lattice.proofs.search.search_flow.Given as goal
 
@@ -8,7 +8,7 @@ invariant-loop-k g l =
     let o = g.D.Domain.order l.d in
     record {
       search : OfEachStart o l.g l.initial.left l.initial.states l.initial.waiting (λ start. IsSearch o l.g start l.left l.states l.waiting);
-      rest : (j : ℕ) → j < l.from → IsAt l.waiting j false;
+      rest : NoneBefore l.waiting l.from;
     }
 
 abbrev pub decreases-loop-k : goal.decreases-loop-k

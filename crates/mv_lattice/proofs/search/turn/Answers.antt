@@ -22,26 +22,26 @@ returns-then-left-k-eq0-clause-limit g c = λ _ start has.
     let o = g.D.Domain.order d in
     let k = c.args.k in
     let l = get_or c.args.left.now k 0 in
-    let left = left_there c.args.waiting.now c.args.left.now _ k c.requires.waits c.requires.lefts c.requires.marks in
-    turn_over o c.args.g.now start c.args.left.now c.args.states.now c.args.waiting.now has k l c.requires.waits c.requires.first left c.if-left-k-eq0.true
+    let left = left_there c.args.waiting.now c.args.left.now _ k c.requires.next.waits c.requires.lefts c.requires.marks in
+    turn_over o c.args.g.now start c.args.left.now c.args.states.now c.args.waiting.now has k l c.requires.next.waits c.requires.next.first left c.if-left-k-eq0.true
 
 pub returns-clause-search : goal.returns-clause-search
 returns-clause-search g c = λ start has.
     let o = g.D.Domain.order c.args.d.now in
     let k = c.args.k in
     let l = get_or c.args.left.now k 0 in
-    let left = left_there c.args.waiting.now c.args.left.now _ k c.requires.waits c.requires.lefts c.requires.marks in
+    let left = left_there c.args.waiting.now c.args.left.now _ k c.requires.next.waits c.requires.lefts c.requires.marks in
     let some : 0 < l = omega (arith, c.if-left-k-eq0.false) in
-    turn_done o c.args.g.now start c.args.left.now c.args.states.now c.args.waiting.now has k l c.requires.waits c.requires.first left some c.visit.new.states c.visit.new.waiting c.in_ok-visit.ensures.ok
+    turn_done o c.args.g.now start c.args.left.now c.args.states.now c.args.waiting.now has k l c.requires.next.waits c.requires.next.first left some c.visit.new.states c.visit.new.waiting c.in_ok-visit.ensures.ok
 
 pub returns-clause-rest : goal.returns-clause-rest
 returns-clause-rest g c =
     let o = g.D.Domain.order c.args.d.now in
     let k = c.args.k in
-    let in' : k < length c.args.waiting.now = slice_get_within c.args.waiting.now k true c.requires.waits in
+    let in' : k < length c.args.waiting.now = slice_get_within c.args.waiting.now k true c.requires.next.waits in
     let block = c.index.result.now in
     rests_before o c.args.g.now k c.least_of.result block (block_there c.args.g.now k block (omega (arith, in', c.requires.marks)) c.index.ensures) c.least_of.ensures.own (subst (All (λ n. c.least_of.result ≤ n)) c.deref.ensures.value c.least_of.ensures.each)
-    (search_of c.args.states.now c.args.waiting.now) (search_of c.visit.new.states c.visit.new.waiting) c.requires.first c.in_ok-visit.ensures.ok
+    (search_of c.args.states.now c.args.waiting.now) (search_of c.visit.new.states c.visit.new.waiting) c.requires.next.first c.in_ok-visit.ensures.ok
 
 pub returns-in_err-visit-clause-fails : goal.returns-in_err-visit-clause-fails
 returns-in_err-visit-clause-fails g c = λ e start has.
@@ -49,9 +49,9 @@ returns-in_err-visit-clause-fails g c = λ e start has.
     let o = g.D.Domain.order c.args.d.now in
     let k = c.args.k in
     let l = get_or c.args.left.now k 0 in
-    let left = left_there c.args.waiting.now c.args.left.now _ k c.requires.waits c.requires.lefts c.requires.marks in
+    let left = left_there c.args.waiting.now c.args.left.now _ k c.requires.next.waits c.requires.lefts c.requires.marks in
     let some : 0 < l = omega (arith, c.if-left-k-eq0.false) in
-    turn_fails o c.args.g.now start c.args.left.now c.args.states.now c.args.waiting.now has k l c.requires.waits c.requires.first left some (c.in_err-visit.ensures.fails (cc (p.1, p.2, e)))
+    turn_fails o c.args.g.now start c.args.left.now c.args.states.now c.args.waiting.now has k l c.requires.next.waits c.requires.next.first left some (c.in_err-visit.ensures.fails (cc (p.1, p.2, e)))
 
 pub returns-in_err-visit-clause-limit : goal.returns-in_err-visit-clause-limit
 returns-in_err-visit-clause-limit g c = λ e start has.
@@ -59,14 +59,14 @@ returns-in_err-visit-clause-limit g c = λ e start has.
     let o = g.D.Domain.order c.args.d.now in
     let k = c.args.k in
     let l = get_or c.args.left.now k 0 in
-    let left = left_there c.args.waiting.now c.args.left.now _ k c.requires.waits c.requires.lefts c.requires.marks in
+    let left = left_there c.args.waiting.now c.args.left.now _ k c.requires.next.waits c.requires.lefts c.requires.marks in
     let some : 0 < l = omega (arith, c.if-left-k-eq0.false) in
-    turn_exceeds o c.args.g.now start c.args.left.now c.args.states.now c.args.waiting.now has k l c.requires.waits c.requires.first left some (c.in_err-visit.ensures.exceeds (cc (p.1, p.2, e)))
+    turn_exceeds o c.args.g.now start c.args.left.now c.args.states.now c.args.waiting.now has k l c.requires.next.waits c.requires.next.first left some (c.in_err-visit.ensures.exceeds (cc (p.1, p.2, e)))
 
 pub returns-clause-fewer : goal.returns-clause-fewer
 returns-clause-fewer g c =
     let k = c.args.k in
-    let in' : k < length c.args.waiting.now = slice_get_within c.args.waiting.now k true c.requires.waits in
+    let in' : k < length c.args.waiting.now = slice_get_within c.args.waiting.now k true c.requires.next.waits in
     let within : k < length c.args.left.now = omega (arith, in', c.requires.lefts, c.requires.marks) in
     fewer_left c.args.left.now k within (omega (arith, c.if-left-k-eq0.false))
 
@@ -75,7 +75,7 @@ visit-requires-clause-graph g c = c.requires.graph
 
 pub visit-requires-clause-inside : goal.visit-requires-clause-inside
 visit-requires-clause-inside g c =
-    let in' : c.args.k < length c.args.waiting.now = slice_get_within c.args.waiting.now c.args.k true c.requires.waits in
+    let in' : c.args.k < length c.args.waiting.now = slice_get_within c.args.waiting.now c.args.k true c.requires.next.waits in
     omega (arith, in', c.requires.marks)
 
 pub visit-requires-clause-entries : goal.visit-requires-clause-entries
@@ -97,4 +97,4 @@ pub visit-requires-clause-stated : goal.visit-requires-clause-stated
 visit-requires-clause-stated g c =
     let d = c.args.d.now in
     let u = c.requires.search in
-    reached_active (g.met.D.Domain.laws d) c.args.g.now c.requires.graph c.requires.same u.start u.valid u.begins u.search.visited (search_of c.args.states.now c.args.waiting.now) u.search.reached c.args.k c.requires.waits
+    reached_active (g.met.D.Domain.laws d) c.args.g.now c.requires.graph c.requires.same u.start u.valid u.begins u.search.visited (search_of c.args.states.now c.args.waiting.now) u.search.reached c.args.k c.requires.next.waits
