@@ -3,17 +3,15 @@ ghost use Rattle.std.specs.Prelude.{◌≡◌, ◌<◌, ◌≤◌, ◌+◌, ℕ,
 ghost use Rattle.std.specs.List.{list_all};
 ghost use Rattle.mv_move_types.specs.Limits.{most_runs, most_steps};
 ghost use Rattle.mv_machine.specs.Ledger.{is_argument, are_arguments, with_signer as with_sender};
-ghost use Rattle.mv_link_rules.specs.Link.{tables_in};
 ghost use Rattle.mv_machine.specs.declared.Arg.{Arg as Argument};
 ghost use Rattle.mv_frames.specs.Counters.{AtMost};
 ghost use Rattle.mv_machine.specs.Arguments.{number_fits, arg_value};
-ghost use Rattle.mv_interpreter.specs.Runs.{IsCall, Agrees, HasEnded};
-ghost use Rattle.mv_ledger_state.specs.View.{IsFineWords};
+ghost use Rattle.mv_interpreter.specs.Runs.{HasEnded};
 ghost use Rattle.mv_ledger.specs.Changes.{RunsTo};
 ghost use Rattle.mv_ledger.specs.Answering.{told};
 ghost use Rattle.mv_ledger_state.specs.Asking.{request_of};
 ghost use Rattle.mv_ledger.specs.ParameterTypes.{asked_type};
-ghost use Rattle.mv_ledger.specs.Running.{IsAdmitted, IsApplied, run_of};
+ghost use Rattle.mv_ledger.specs.Running.{AreFine, IsAdmitted, IsApplied, IsCallTo, IsRunOf};
 ghost use Rattle.mv_ledger_state.specs.Tallying.{HasRoomLeft};
 ghost use Rattle.mv_ledger_state.specs.View.{CanCount, IsSmall};
 ghost use Rattle.mv_machine.specs.Tallies.{all_of};
@@ -110,7 +108,7 @@ fn are_passed(types: &[LinkedType], arguments: &[Arg]) -> bool
 /// `Memory`, where a growth was refused.
 pub fn admitted(store: &Store, runs: u64, asked: RunRecord<'_>) -> Result<Call, Barred>
     requires range { IsTrue (list_all (λ (a : Argument). number_fits a.kind a.number) asked.arguments.items) }
-    ensures call { IfOk result (λ c. IsCall (tables_in store.now) c.function c.arguments.items) }
+    ensures call { IfOk result (IsCallTo store.now) }
     ensures runs { OnOk result (runs < most_runs) }
     ensures budget { IfOk result (λ c. c.budget ≤ most_steps) }
     ensures admitted { IsAdmitted store.now runs (request_of asked.entry) result }
@@ -154,15 +152,14 @@ fn run_over(
     storage: &mut Storage,
     call: &Call,
 ) -> Result<(Outcome, Tally), RunError>
-    requires call { IsCall (tables_in published.old.modules) call.now.function call.now.arguments.items }
-    requires stored { All (IsFineWords (tables_in published.old.modules)) storage.old.committed }
+    requires call { IsCallTo published.old.modules call.now }
+    requires stored { AreFine published.old.modules storage.old.committed }
     ensures modules { published.new.modules ≡ published.old.modules }
     ensures tallies { published.new.tallies ≡ published.old.tallies }
     ensures published_marks { published.new.marks ≡ published.old.marks }
     ensures storage_marks { storage.new.marks ≡ storage.old.marks }
-    ensures machine { IfOk result (λ r. Agrees (tables_in published.old.modules) (run_of published.old.modules storage.old.committed call.now) r.0 r.1.items
-        (record { committed = storage.old.committed; current = storage.new.committed; marks = storage.old.marks })) }
-    ensures fine { IfOk result (λ r. All (IsFineWords (tables_in published.old.modules)) storage.new.committed) }
+    ensures machine { IfOk result (λ r. IsRunOf published.old.modules storage.old call.now r.0 r.1.items storage.new.committed) }
+    ensures fine { IfOk result (λ r. AreFine published.old.modules storage.new.committed) }
     ensures few { IfOk result (λ r. AtMost call.now.budget r.1.items) }
     ensures other { IfOk result (λ r. (HasEnded r.0 → ⊥) → storage.new.committed ≡ storage.old.committed) }
     ensures room { IfOk result (λ r. HasEnded r.0 → CanCount (length r.1.items) published.new) }
@@ -196,14 +193,14 @@ fn run_over(
 
 /// Runs a call. A run that returns keeps what it made of the storage, and its tally is added; any other leaves both.
 pub fn execute(published: &mut Published, storage: &mut Storage, call: &Call) -> Reply
-    requires call { IsCall (tables_in published.old.modules) call.now.function call.now.arguments.items }
-    requires stored { All (IsFineWords (tables_in published.old.modules)) storage.old.committed }
+    requires call { IsCallTo published.old.modules call.now }
+    requires stored { AreFine published.old.modules storage.old.committed }
     requires room { All HasRoomLeft (all_of published.old.tallies) }
     requires budget { call.now.budget ≤ most_steps }
     ensures modules { published.new.modules ≡ published.old.modules }
     ensures published_marks { published.new.marks ≡ published.old.marks }
     ensures storage_marks { storage.new.marks ≡ storage.old.marks }
-    ensures stored { All (IsFineWords (tables_in published.old.modules)) storage.new.committed }
+    ensures stored { AreFine published.old.modules storage.new.committed }
     ensures small { (runs : ℕ) → All (IsSmall runs) (all_of published.old.tallies) → All (IsSmall (runs + 1)) (all_of published.new.tallies) }
     ensures applied { IsApplied published.old.modules call.now (told result) storage.old.committed storage.new.committed (all_of published.old.tallies) (all_of published.new.tallies) }
     ensures kept { RunsTo (told result) storage.old.committed storage.new.committed (all_of published.old.tallies) (all_of published.new.tallies) }
