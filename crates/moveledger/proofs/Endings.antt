@@ -4,7 +4,7 @@ use Rattle.std.specs.Io.KnownBytes.{Keeps}
 use Rattle.std.proofs.KnownBytes.{Appends-kept}
 use Rattle.mv_ledger_state.specs.View.{LedgerView}
 use Rattle.moveledger.specs.Headline.{Headline}
-use Rattle.moveledger.specs.Outcome.{Begun, BegunByLines, Ends, GoesOn, ReadsAll, ReadsOn, Stops, StopsAfter, StopsAt, StopsByLines, StopsReading, Unread}
+use Rattle.moveledger.specs.Outcome.{AnswersOn, Begun, BegunByLines, Ends, GoesOn, ReadsAll, ReadsOn, Stops, StopsAfter, StopsAt, StopsByLines, StopsReading, Unread}
 use Rattle.moveledger.specs.Status.{end_after}
 use Rattle.moveledger.specs.declared.streaming.EngineError.{EngineError}
 use Rattle.moveledger.specs.declared.streaming.EngineError.TheVariants.{Read, Write, Memory}
@@ -98,3 +98,18 @@ ends_after_engine P (Err e) told is_flushed given gives held mid holds old new s
     let memory2 : e ≡ Memory → StopsByLines given gives held mid old new = λ m. memory (ap Err m) in
     subst (λ t. Ends (end_after t is_flushed) given gives held holds old new) (sym is)
     (ends_stopped e is_flushed given gives held mid holds old new err read2 memory2 kept)
+
+-- ---- by numbers that go on
+
+-- all records were answered, and all was read
+pub goes-on : {before : ℕ} {given gives held holds : Option (List ℕ)} {old new : LedgerView} {n : ℕ} → GoesOn before given held holds old new n
+    → ReadsOn before given gives n → AnswersOn before given gives held holds old new n (Ok tt)
+goes-on is taken = record { ok = is; taken = taken; err = tt; read = λ failed. cc; memory = λ failed. cc }
+
+-- an error came
+pub stops-on : {before : ℕ} {given gives held holds : Option (List ℕ)} {old new : LedgerView} {n : ℕ} {result : Result (Unit {0}) EngineError} (e : EngineError) → result ≡ Err e
+    → StopsAfter (StopsAt Begun) before given gives held holds old new n
+    → (result ≡ Err Read → StopsAfter Unread before given gives held holds old new n)
+    → (result ≡ Err Memory → StopsAfter (StopsAt BegunByLines) before given gives held holds old new n)
+    → AnswersOn before given gives held holds old new n result
+stops-on e is err read memory = record { ok = rw is tt; taken = rw is tt; err = rw is err; read = read; memory = memory }

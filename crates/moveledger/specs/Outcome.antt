@@ -13,9 +13,11 @@
 --   StopsWith Last ..                the same of a first input. Where that is at most Begun, it is Stops, and where it is at most
 --                                    BegunByLines, StopsByLines; where it is Unread, StopsReading, and where BrokenOff, StopsWriting
 --   AnswersAll                       the headline holds, and all was read
+--   AnswersInput .. result           what `engine` says of its end: the headline, or how far it came by what failed
+--   AnswersOn before .. result       the same by numbers that go on, but for a failed write, of which BreaksOff says it
 --   Ends end                         what each end says of what was read and written, and of the ledger
 -- The others are parts of these.
-use Rattle.std.specs.Prelude.{◌≡◌, ℕ, ◌+◌, ◌<◌, List, [], ◌++◌, length, Option, Some, None, ◌⊎◌, flat_map}
+use Rattle.std.specs.Prelude.{◌≡◌, ℕ, ◌+◌, ◌<◌, List, [], ◌++◌, length, Option, Some, None, ◌⊎◌, flat_map, Result, Err, IfErr, IfOk, OnErr, OnOk}
 use Rattle.std.specs.Io.{StartsWith}
 use Rattle.std.specs.Io.KnownBytes.{Appends, Consumes}
 use Rattle.mv_ledger_state.specs.View.{LedgerView}
@@ -24,6 +26,8 @@ use Rattle.moveledger.specs.Reading.{IsCutAt, IsTaken, IsUnfinished}
 use Rattle.mv_machine.specs.Lines.{numbered}
 use Rattle.moveledger.specs.Headline.{Headline, Step, Reports, Tells}
 use Rattle.moveledger.specs.Writing.{IsByLines}
+use Rattle.moveledger.specs.declared.streaming.EngineError.{EngineError}
+use Rattle.moveledger.specs.declared.streaming.EngineError.TheVariants as error
 use Rattle.moveledger.specs.declared.ending.End.{End}
 use Rattle.moveledger.specs.declared.ending.End.TheVariants.{Done, Read, Write, Memory, Words, Refused, LoadRefused, TooComplex, TooLong}
 
@@ -143,6 +147,34 @@ StopsWriting = StopsWith BrokenOff
 -- so many records were read and answered, and all there were
 abbrev pub AnswersAll : (given gives held holds : Option (List ℕ)) → (old new : LedgerView) → Type 0
 AnswersAll given gives held holds old new = (n : ℕ) × Headline given held holds old new n × ReadsAll given gives n
+
+-- What stands where an input was answered, so many records or up to an error.
+pub record AnswersInput (given gives held holds : Option (List ℕ)) (old new : LedgerView) (result : Result ℕ EngineError) : Type 0 where
+  -- for every input: the headline
+  pub ok : IfOk result (λ n. Headline given held holds old new n)
+  -- what was read of it: all there was, up to the end of a cut record
+  pub taken : IfOk result (λ n. ReadsAll given gives n)
+  -- whatever the error: a prefix of the report, and the ledger as some records left it
+  pub err : IfErr result (λ _. Stops given gives held holds old new)
+  -- a failed read: exactly the lines of the records that were read whole
+  pub read : result ≡ Err error.Read → StopsReading given gives held holds old new
+  -- a failed write: a prefix of the lines of the record that was being answered, and not all of them, and nothing read behind it
+  pub write : result ≡ Err error.Write → StopsWriting given gives held holds old new
+  -- want of memory: whole lines, unless the last record asks for JSON, which is written entry by entry
+  pub memory : result ≡ Err error.Memory → StopsByLines given gives held holds old new
+
+-- The same by numbers that go on, but for a failed write.
+pub record AnswersOn (before : ℕ) (given gives held holds : Option (List ℕ)) (old new : LedgerView) (n : ℕ) (result : Result (Unit {0}) EngineError) : Type 0 where
+  pub ok : OnOk result (GoesOn before given held holds old new n)
+  pub taken : OnOk result (ReadsOn before given gives n)
+  pub err : OnErr result (StopsAfter (StopsAt Begun) before given gives held holds old new n)
+  pub read : result ≡ Err error.Read → StopsAfter Unread before given gives held holds old new n
+  pub memory : result ≡ Err error.Memory → StopsAfter (StopsAt BegunByLines) before given gives held holds old new n
+
+-- a prefix of a record's lines was written, and not all of them; or all were, and then what is wanted after them failed
+abbrev pub BreaksOff : (Failed : Type 0) → (before : ℕ) → (given gives held holds : Option (List ℕ)) → (old new : LedgerView) → (n : ℕ) → Type 0
+BreaksOff Failed before given gives held holds old new n =
+    StopsAfter BrokenOff before given gives held holds old new n ⊎ (StopsAfter Finished before given gives held holds old new n × Failed)
 
 -- What an end says of an input that was answered. Where it is a failed write, what the writer holds may be the whole report,
 -- of which a part couldn't be written out.

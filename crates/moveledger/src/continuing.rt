@@ -1,6 +1,6 @@
 // An input whose records are numbered on from those of the inputs before it.
-ghost use Rattle.std.specs.Prelude.{◌≡◌, Some, Err, OnOk, OnErr};
-ghost use Rattle.moveledger.specs.Outcome.{Begun, BegunByLines, BrokenOff, GoesOn, ReadsOn, StopsAfter, StopsAt, Unread};
+ghost use Rattle.std.specs.Prelude.{◌≡◌, Some, Err};
+ghost use Rattle.moveledger.specs.Outcome.{AnswersOn, BrokenOff, StopsAfter};
 
 use crate::pacing::Reserving;
 use crate::streaming::{EngineError, answer_from};
@@ -20,20 +20,10 @@ pub fn answer_on<R: Read>(
     ledger: &mut Ledger,
     answered: &mut u64,
 ) -> Result<(), EngineError>
-    ensures ok { OnOk result (GoesOn answered.old (R.remaining reader.old)
-        (Some report.old.items) (Some report.new.items) ledger.old ledger.new answered.new) }
-    // What was read of it: all there was, up to the end of a cut record.
-    ensures taken { OnOk result (ReadsOn answered.old (R.remaining reader.old) (R.remaining reader.new) answered.new) }
-    ensures err { OnErr result (StopsAfter (StopsAt Begun) answered.old (R.remaining reader.old)
-        (R.remaining reader.new) (Some report.old.items) (Some report.new.items) ledger.old ledger.new answered.new) }
-    // A failed read: exactly the lines of the records that were read whole.
-    ensures read { result ≡ Err EngineError.Read → StopsAfter Unread answered.old (R.remaining reader.old)
-        (R.remaining reader.new) (Some report.old.items) (Some report.new.items) ledger.old ledger.new answered.new }
+    ensures ends { AnswersOn answered.old (R.remaining reader.old) (R.remaining reader.new)
+        (Some report.old.items) (Some report.new.items) ledger.old ledger.new answered.new result }
     // A failed write: a prefix of the lines of the record that was being answered, and not all of them, and nothing read behind it.
     ensures write { result ≡ Err EngineError.Write → StopsAfter BrokenOff answered.old (R.remaining reader.old)
-        (R.remaining reader.new) (Some report.old.items) (Some report.new.items) ledger.old ledger.new answered.new }
-    // Want of memory: whole lines, unless the last record asks for JSON.
-    ensures memory { result ≡ Err EngineError.Memory → StopsAfter (StopsAt BegunByLines) answered.old (R.remaining reader.old)
         (R.remaining reader.new) (Some report.old.items) (Some report.new.items) ledger.old ledger.new answered.new }
 {
     answer_from(reader, report, ledger, answered, &mut Reserving)

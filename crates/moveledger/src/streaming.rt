@@ -1,14 +1,13 @@
 // The engine: records in, lines out.
-ghost use Rattle.std.specs.Prelude.{◌≡◌, ◌≢◌, ◌⊎◌, ℕ, List, [], IfOk, IfErr, OnOk, OnErr, Err};
+ghost use Rattle.std.specs.Prelude.{◌≡◌, ◌≢◌, ℕ, List, [], IfOk, IfErr, OnOk, Err};
 ghost use Rattle.std.specs.Io.KnownBytes.{Consumes};
 ghost use Rattle.moveledger.specs.Next.{IsNext};
 ghost use Rattle.moveledger.specs.Reading.{IsUnfinished};
 ghost use Rattle.moveledger.specs.Records.{Record, AreRecords};
 ghost use Rattle.mv_ledger_state.specs.View.{state_of};
-ghost use Rattle.moveledger.specs.Headline.{Headline, IsAccounted};
+ghost use Rattle.moveledger.specs.Headline.{IsAccounted};
 ghost use Rattle.moveledger.specs.OneReport.{OneReport};
-ghost use Rattle.moveledger.specs.Outcome.{ReadsAll, Stops, StopsByLines, StopsReading, StopsWriting};
-ghost use Rattle.moveledger.specs.Outcome.{left_of, Begun, BegunByLines, BrokenOff, Finished, GoesOn, ReadsOn, StopsAfter, StopsAt, Unread};
+ghost use Rattle.moveledger.specs.Outcome.{left_of, AnswersInput, AnswersOn, BreaksOff};
 ghost use Rattle.moveledger.specs.Pacing.{IsDoneForAll, IsDoneUntil, IsFailed};
 
 use crate::answering::{answer, write_reply};
@@ -56,23 +55,9 @@ pub fn engine<R: Read, W: Write>(
     writer: &mut W,
     ledger: &mut Ledger,
 ) -> Result<u64, EngineError>
-    // For every input: the headline.
-    ensures ok { IfOk result (λ n. Headline (R.remaining reader.old)
-        (W.contents writer.old) (W.contents writer.new) ledger.old ledger.new n) }
-    // What was read of it: all there was, up to the end of a cut record.
-    ensures taken { IfOk result (λ n. ReadsAll (R.remaining reader.old) (R.remaining reader.new) n) }
-    // Whatever the error: a prefix of the report, and the ledger as some records left it.
-    ensures err { IfErr result (λ _. Stops (R.remaining reader.old)
-        (R.remaining reader.new) (W.contents writer.old) (W.contents writer.new) ledger.old ledger.new) }
-    // A failed read: exactly the lines of the records that were read whole.
-    ensures read { result ≡ Err EngineError.Read → StopsReading (R.remaining reader.old)
-        (R.remaining reader.new) (W.contents writer.old) (W.contents writer.new) ledger.old ledger.new }
-    // A failed write: a prefix of the lines of the record that was being answered, and not all of them, and nothing read behind it.
-    ensures write { result ≡ Err EngineError.Write → StopsWriting (R.remaining reader.old)
-        (R.remaining reader.new) (W.contents writer.old) (W.contents writer.new) ledger.old ledger.new }
-    // Want of memory: whole lines, unless the last record asks for JSON, which is written entry by entry.
-    ensures memory { result ≡ Err EngineError.Memory → StopsByLines (R.remaining reader.old)
-        (R.remaining reader.new) (W.contents writer.old) (W.contents writer.new) ledger.old ledger.new }
+    // What stands where it ends: the headline, or how far it came by what failed.
+    ensures ends { AnswersInput (R.remaining reader.old) (R.remaining reader.new)
+        (W.contents writer.old) (W.contents writer.new) ledger.old ledger.new result }
     // Whatever the end: what is stored is accounted for, before as after.
     ensures began { IsAccounted (state_of ledger.old) }
     ensures accounted { IsAccounted (state_of ledger.new) }
@@ -139,22 +124,14 @@ pub fn answer_from<R: Read, W: Write, A: AfterRecord<R, W>>(
     answered: &mut u64,
     after: &mut A,
 ) -> Result<(), EngineError>
-    // As the clauses of `engine`, by numbers that go on.
-    ensures ok { OnOk result (GoesOn answered.old (R.remaining reader.old)
-        (W.contents writer.old) (W.contents writer.new) ledger.old ledger.new answered.new) }
-    ensures taken { OnOk result (ReadsOn answered.old (R.remaining reader.old) (R.remaining reader.new) answered.new) }
-    ensures err { OnErr result (StopsAfter (StopsAt Begun) answered.old (R.remaining reader.old)
-        (R.remaining reader.new) (W.contents writer.old) (W.contents writer.new) ledger.old ledger.new answered.new) }
-    ensures read { result ≡ Err EngineError.Read → StopsAfter Unread answered.old (R.remaining reader.old)
-        (R.remaining reader.new) (W.contents writer.old) (W.contents writer.new) ledger.old ledger.new answered.new }
+    // As `engine`, by numbers that go on.
+    ensures ends { AnswersOn answered.old (R.remaining reader.old) (R.remaining reader.new)
+        (W.contents writer.old) (W.contents writer.new) ledger.old ledger.new answered.new result }
     // A failed write: a prefix of a record's lines, and not all of them; or all were written, and what is wanted after them failed.
-    ensures write { result ≡ Err EngineError.Write → StopsAfter BrokenOff answered.old (R.remaining reader.old)
-        (R.remaining reader.new) (W.contents writer.old) (W.contents writer.new) ledger.old ledger.new answered.new
-        ⊎ (StopsAfter Finished answered.old (R.remaining reader.old)
-        (R.remaining reader.new) (W.contents writer.old) (W.contents writer.new) ledger.old ledger.new answered.new
-        × IsFailed R.remaining W.contents A.does answered.old (R.remaining reader.old) (W.contents writer.old) ledger.old EngineError.Write after.new) }
-    ensures memory { result ≡ Err EngineError.Memory → StopsAfter (StopsAt BegunByLines) answered.old (R.remaining reader.old)
-        (R.remaining reader.new) (W.contents writer.old) (W.contents writer.new) ledger.old ledger.new answered.new }
+    ensures write { result ≡ Err EngineError.Write → BreaksOff
+        (IsFailed R.remaining W.contents A.does answered.old (R.remaining reader.old) (W.contents writer.old) ledger.old EngineError.Write after.new)
+        answered.old (R.remaining reader.old) (R.remaining reader.new)
+        (W.contents writer.old) (W.contents writer.new) ledger.old ledger.new answered.new }
     // What is wanted was done after each whole record, before anything behind it was read, and with all lines up to its own written.
     ensures done { OnOk result (IsDoneForAll R.remaining W.contents A.does answered.old (R.remaining reader.old) (W.contents writer.old)
         ledger.old (R.remaining reader.new) answered.new after.old after.new) }

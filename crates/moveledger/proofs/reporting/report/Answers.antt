@@ -4,7 +4,7 @@ use Rattle.moveledger.proofs.reporting.report.Goals as goal
 
 pub returns-clause-ends : goal.returns-clause-ends
 returns-clause-ends g c =
-    rw (c.end_of.ensures) (ends_after c.answer_from-answered.new.answered c.answer_from-answered.result c.is_ok-is_flushed.result _ _ _ _ _ _ _ c.answer_from-answered.ensures.ok c.answer_from-answered.ensures.taken c.answer_from-answered.ensures.err c.answer_from-answered.ensures.read c.answer_from-answered.ensures.memory c.flush.ensures.bytes)
+    rw (c.end_of.ensures) (ends_after c.answer_from-answered.new.answered c.answer_from-answered.result c.is_ok-is_flushed.result _ _ _ _ _ _ _ c.answer_from-answered.ensures.ends.ok c.answer_from-answered.ensures.ends.taken c.answer_from-answered.ensures.ends.err c.answer_from-answered.ensures.ends.read c.answer_from-answered.ensures.ends.memory c.flush.ensures.bytes)
 
 pub returns-clause-done : goal.returns-clause-done
 returns-clause-done g c =

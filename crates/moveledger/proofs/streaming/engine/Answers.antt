@@ -7,26 +7,34 @@ use Rattle.moveledger.proofs.Endings.{Headline-kept}
 use Rattle.moveledger.proofs.HeadlineLemmas.{is_accounted}
 use Rattle.moveledger.proofs.streaming.engine.Goals as goal
 
-pub returns-in-Ok-clause-ok : goal.returns-in-Ok-clause-ok
-returns-in-Ok-clause-ok g c = Headline-kept _ _ _ _ _ _ _ (rw c.in-Ok.is at c.answer_from-end.ensures.ok) (Keeps-refl _)
+pub returns-in-Ok-clause-ends : goal.returns-in-Ok-clause-ends
+returns-in-Ok-clause-ends g c = record {
+  ok = Headline-kept _ _ _ _ _ _ _ (rw c.in-Ok.is at c.answer_from-end.ensures.ends.ok) (Keeps-refl _);
+  taken = rw c.in-Ok.is at c.answer_from-end.ensures.ends.taken;
+  err = tt;
+  read = λ failed. cc;
+  write = λ failed. cc;
+  memory = λ failed. cc;
+}
 
-pub returns-in-Err-clause-err : goal.returns-in-Err-clause-err
-returns-in-Err-clause-err g c = (c.answer_from-end.new.answered, rw c.in-Err.is at c.answer_from-end.ensures.err)
-
-pub returns-in-Err-clause-read : goal.returns-in-Err-clause-read
-returns-in-Err-clause-read g c failed =
-    let same : c.in-Err.error ≡ Read = cc in
-    (c.answer_from-end.new.answered, c.answer_from-end.ensures.read (c.in-Err.is ∙ ap (λ z. Err z) same))
-
-pub returns-in-Err-clause-write : goal.returns-in-Err-clause-write
-returns-in-Err-clause-write g c failed =
-    let same : c.in-Err.error ≡ Write = cc in
-    (c.answer_from-end.new.answered, never-failed (c.answer_from-end.ensures.write (c.in-Err.is ∙ ap (λ z. Err z) same)))
-
-pub returns-in-Err-clause-memory : goal.returns-in-Err-clause-memory
-returns-in-Err-clause-memory g c failed =
-    let same : c.in-Err.error ≡ Memory = cc in
-    (c.answer_from-end.new.answered, c.answer_from-end.ensures.memory (c.in-Err.is ∙ ap (λ z. Err z) same))
+pub returns-in-Err-clause-ends : goal.returns-in-Err-clause-ends
+returns-in-Err-clause-ends g c =
+    let ends = c.answer_from-end.ensures.ends in
+    let n = c.answer_from-end.new.answered in
+    record {
+      ok = tt;
+      taken = tt;
+      err = (n, rw c.in-Err.is at ends.err);
+      read = λ failed.
+          let same : c.in-Err.error ≡ Read = cc in
+          (n, ends.read (c.in-Err.is ∙ ap (λ z. Err z) same));
+      write = λ failed.
+          let same : c.in-Err.error ≡ Write = cc in
+          (n, never-failed (c.answer_from-end.ensures.write (c.in-Err.is ∙ ap (λ z. Err z) same)));
+      memory = λ failed.
+          let same : c.in-Err.error ≡ Memory = cc in
+          (n, ends.memory (c.in-Err.is ∙ ap (λ z. Err z) same));
+    }
 
 pub returns-in-Ok-clause-began : goal.returns-in-Ok-clause-began
 returns-in-Ok-clause-began g c = is_accounted (state_of c.args.ledger.now) c.is_sound.ensures
