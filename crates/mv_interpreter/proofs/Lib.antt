@@ -3,7 +3,7 @@ pub mod Counting
 pub mod Entering
 pub mod Turning
 mod Halves
-mod OneStep
+mod Rounds
 pub mod Flat
 pub mod TypedCalls
 pub mod Joined
