@@ -6,7 +6,7 @@ use Rattle.mv_machine.specs.Run.{FunctionCall, RunOutcome, run}
 use Rattle.mv_machine.specs.Lines.{Reply as Told}
 use Rattle.mv_machine.specs.Ledger.{LedgerState, RunRequest, applied, admitted}
 use Rattle.mv_link_rules.specs.Link.{tables_in}
-use Rattle.mv_frames.specs.declared.counters.StructTally.{StructTally}
+use Rattle.mv_machine.specs.declared.StructTally.{StructTally}
 use Rattle.mv_storage.specs.Map.{Layers}
 use Rattle.mv_interpreter.specs.Runs.{Agrees, IsCall, call_of}
 use Rattle.mv_ledger.specs.declared.executing.Call.{Call}
