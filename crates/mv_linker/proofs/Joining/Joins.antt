@@ -1,5 +1,5 @@
 -- A scope whose bundle joins its store: where its modules stand, and that what they name is there.
-use Rattle.mv_linker.proofs.Common.{ℕ, ◌+◌, ◌==◌, ◌∙◌, ◌≡◌, ◌≤◌, InBounds, IsSome, Joins, List, Module, New, None, PublishedModule, Scope, Some, ap, arith, eq-eqb, false}
+use Rattle.mv_linker.proofs.Common.{ℕ, ◌+◌, ◌==◌, ◌∙◌, ◌≡◌, ◌≤◌, InBounds, IsSome, Joins, List, Module, New, None, PublishedModule, Scope, Some, ap, arith, eq-eqb}
 use Rattle.mv_linker.proofs.Common.{find_index, inl, inr, is_some, length, length-map, modules_in, not, offered}
 use Rattle.mv_linker.proofs.Common.{position, refl, slice_get, slice_get_within, sym, tables_in, WellDefined}
 use Rattle.std.proofs.lemmas.Bool.{not-false}

@@ -1,4 +1,4 @@
-use Rattle.mv_linker.proofs.Common.{ℕ, ◌+◌, ◌∙◌, ◌≡◌, ◌≤◌, Links, all_follow, are_compatible, arith, false, length, modules_in, offered, refl, sym, tables_in, true}
+use Rattle.mv_linker.proofs.Common.{ℕ, ◌+◌, ◌∙◌, ◌≡◌, ◌≤◌, Links, are_compatible, arith, false, modules_in, offered, refl, sym, tables_in, true}
 use Rattle.mv_linker.proofs.Joining.Compatible.{compatible-follow, follow-compatible}
 use Rattle.mv_linker.proofs.Joining.Joins.{few-modules}
 use Rattle.mv_linker.proofs.Outcomes.{if_err}
