@@ -1,4 +1,4 @@
-use Rattle.mv_ledger.proofs.Common.{LedgerView, ◌∙◌, ◌≡◌, ap, arith, subst, sym, All, IfOk, IsFineWords, IsWritable, OnErr, PublishedView, tables_in, all_of, state_of, view_of, LedgerState, []}
+use Rattle.mv_ledger.proofs.Common.{◌∙◌, ◌≡◌, ap, arith, subst, sym, All, IfOk, IsFineWords, IsWritable, OnErr, PublishedView, tables_in, all_of, state_of, view_of, LedgerState}
 use Rattle.mv_saved_text.proofs.Saves.Written.{all-writable}
 use Rattle.mv_saved_text.specs.Flowing.{left_in, GivesNext}
 use Rattle.mv_ledger.proofs.Ledger.next_piece.Goals as goal
