@@ -1,4 +1,3 @@
-use Rattle.std.proofs.Common.{rules}
 use Rattle.moveledger.proofs.Proved.{unlimited-never_long, unlimited-no_proof, unlimited-of_limits}
 use Rattle.moveledger.proofs.proving.prove_text.Goals as goal
 
