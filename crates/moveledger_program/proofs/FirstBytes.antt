@@ -1,5 +1,5 @@
 -- The first byte of a buffer, taken.
-use Rattle.std.proofs.Common.{◌≡◌, ℕ, Bool, true, false, List, [], ◌∷◌, ◌++◌, Option, None, Some, drop, length, refl, sym, subst, cond, ap, arith}
+use Rattle.std.proofs.Common.{◌≡◌, ℕ, Bool, true, false, List, [], ◌∷◌, ◌++◌, Option, None, Some, length, cond, ap, arith}
 use Rattle.std.specs.List.{slice_get}
 use Rattle.std.specs.Io.KnownBytes.{Consumes, prepend_known}
 use Rattle.std.specs.Io.BufRead.{DropsConsumable}

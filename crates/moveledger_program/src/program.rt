@@ -300,19 +300,19 @@ fn apply_to<R: Read + Drop>(
         Ok(None) => false,
         Err(_) => return Answered::none(End::Read),
     };
-    let mut reader = Buffered::new(reader);
     let (end, is_whole) = match size {
         None => {
             let end = report(&mut reader, &mut writer, ledger, &mut Prompt);
             (end, reader.get_ref().is_whole())
         }
         Some(total) if rt.stderr().is_terminal() => {
-            let mut counted = Counted::new(reader);
+            let mut counted = Counted::new(Buffered::new(reader));
             let mut meter = Meter::new(&screen, total);
             let end = report(&mut counted, &mut writer, ledger, &mut meter);
             (end, counted.get_ref().get_ref().is_whole())
         }
         Some(_) => {
+            let mut reader = Buffered::new(reader);
             let end = report_file(&mut reader, &mut writer, ledger);
             (end, reader.get_ref().is_whole())
         }

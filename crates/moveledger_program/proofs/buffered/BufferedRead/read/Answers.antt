@@ -1,4 +1,4 @@
-use Rattle.std.proofs.Common.{◌≡◌, ◌∷◌, [], arith, rules}
+use Rattle.std.proofs.Common.{arith, rules}
 use Rattle.std.proofs.lemmas.List.{take_more_set}
 use Rattle.moveledger_program.proofs.FirstBytes.{first-taken}
 use Rattle.moveledger_program.proofs.buffered.BufferedRead.read.Goals as goal
