@@ -1,9 +1,8 @@
 -- No number stands twice, from the last number to the first.
-use Rattle.std.proofs.Common.{◌≡◌, ℕ, zero, suc, ◌+◌, ◌<◌, ◌==◌, true, false, not, ◌&&◌, List, [], ◌∷◌, length, get_or, drop, refl, sym, ap, ◌∙◌, arith}
+use Rattle.std.proofs.Common.{◌≡◌, ℕ, zero, suc, ◌+◌, ◌<◌, ◌==◌, Bool, true, false, not, ◌&&◌, ◌||◌, List, [], ◌∷◌, length, get_or, drop, refl, sym, ap, ◌∙◌, arith}
 use Rattle.std.specs.List.{list_any}
 use Rattle.std.proofs.Math.Seq.{drop-cons}
 use Rattle.std.proofs.lemmas.Bool.{and_parts, false_from_ne_true, both_ways}
-use Rattle.std.proofs.lemmas.Bool.Decides.{same_from_decides, Decides-eqb}
 use Rattle.mv_bound_rules.specs.Definitions.{all_differ}
 use Rattle.mv_acquires.specs.Acquires.{has_member}
 use Rattle.std.specs.Cmp.{nat_eq_equiv}
@@ -28,3 +27,19 @@ differ-not xs i left e within again = false_from_ne_true (all_differ ◌==◌ xs
     both_ways (all_differ ◌==◌ (drop i xs))
     (ap (all_differ ◌==◌) (from-one xs i left e within) ∙ ap (λ b. not b && all_differ ◌==◌ (drop left xs)) (any-turned (get_or xs i 0) (drop left xs) ∙ again))
     (differ-dropped xs i all))
+
+-- one that doesn't, where those after it differ
+pub differ-more : (xs : List ℕ) (i left : ℕ) → left ≡ i + 1 → i < length xs
+    → has_member (drop left xs) (get_or xs i 0) ≡ false → all_differ ◌==◌ (drop left xs) ≡ true → all_differ ◌==◌ (drop i xs) ≡ true
+differ-more xs i left e within once all =
+    ap (all_differ ◌==◌) (from-one xs i left e within) ∙ ap (λ b. not b && all_differ ◌==◌ (drop left xs)) (any-turned (get_or xs i 0) (drop left xs) ∙ once) ∙ all
+
+-- the numbers from one on are those after it, or it
+pub members-more : (xs : List ℕ) (i left : ℕ) → left ≡ i + 1 → i < length xs → (y : ℕ) → (has_member (drop left xs) y || get_or xs i 0 == y) ≡ has_member (drop i xs) y
+members-more xs i left e within y = either (has_member (drop left xs) y) (get_or xs i 0 == y) ∙ sym (ap (λ l. has_member l y) (from-one xs i left e within))
+  where
+    either : (a b : Bool) → (a || b) ≡ (b || a)
+    either true true = refl
+    either true false = refl
+    either false true = refl
+    either false false = refl

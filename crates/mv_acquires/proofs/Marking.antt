@@ -1,8 +1,9 @@
 -- What is marked, from what was.
-use Rattle.std.proofs.Common.{◌≡◌, ℕ, ◌==◌, Bool, true, List, [], ◌∷◌, refl, sym, ap, inl, inr, ◌∙◌}
+use Rattle.std.proofs.Common.{◌≡◌, ℕ, ◌==◌, ◌||◌, Bool, true, false, List, [], ◌∷◌, refl, sym, ap, inl, inr, ◌∙◌, arith}
+use Rattle.std.specs.Cmp.{nat_eq_equiv}
 use Rattle.std.specs.List.{list_all}
 use Rattle.mv_acquires.specs.Acquires.{has_member, same_members}
-use Rattle.mv_acquires.specs.Marks.{is_marked, IsWithin}
+use Rattle.mv_bit_sets.specs.BitSets.{has, IsWithin}
 use Rattle.std.specs.Bool.{Decides}
 use Rattle.std.proofs.lemmas.Bool.{false≢true, eqb-true, eq-eqb, and_parts, and_from, or_cases, or_left, or_right}
 use Rattle.std.proofs.lemmas.Bool.Decides.{same_from_decides}
@@ -19,16 +20,26 @@ member_of_all p (x ∷ xs) all y is = elim (or_cases (x == y) (has_member xs y) 
 ]
 
 -- the same marks are the same members
-pub same_marks : (marks others : List Bool) (xs ys : List ℕ) (r : Bool) → Decides r (IsWithin marks others × IsWithin others marks)
-    → ((y : ℕ) → is_marked marks y ≡ has_member xs y) → ((y : ℕ) → is_marked others y ≡ has_member ys y)
+pub same_marks : (marks others xs ys : List ℕ) (r : Bool) → Decides r (IsWithin 0 marks others × IsWithin 0 others marks)
+    → ((y : ℕ) → has marks y ≡ has_member xs y) → ((y : ℕ) → has others y ≡ has_member ys y)
     → r ≡ same_members xs ys
 same_marks marks others xs ys r decides first second =
     same_from_decides r (same_members xs ys) decides (
       (λ same. let parts = and_parts (list_all (has_member ys) xs) (list_all (has_member xs) ys) same in (
-        (λ y is. second y ∙ member_of_all (has_member ys) xs parts.0 y (sym (first y) ∙ is)),
-        (λ y is. first y ∙ member_of_all (has_member xs) ys parts.1 y (sym (second y) ∙ is)),
+        (λ y low is. second y ∙ member_of_all (has_member ys) xs parts.0 y (sym (first y) ∙ is)),
+        (λ y low is. first y ∙ member_of_all (has_member xs) ys parts.1 y (sym (second y) ∙ is)),
       )),
       (λ within. and_from (list_all (has_member ys) xs) (list_all (has_member xs) ys)
-          (all_members (has_member ys) xs (λ y is. sym (second y) ∙ within.0 y (first y ∙ is)))
-          (all_members (has_member xs) ys (λ y is. sym (first y) ∙ within.1 y (second y ∙ is)))),
+          (all_members (has_member ys) xs (λ y is. sym (second y) ∙ within.0 y (omega arith) (first y ∙ is)))
+          (all_members (has_member xs) ys (λ y is. sym (first y) ∙ within.1 y (omega arith) (second y ∙ is)))),
     )
+
+-- one more number is marked
+pub marked : (marks more : List ℕ) (number : ℕ) → ((y : ℕ) → has more y ≡ (y == number || has marks y)) → (y : ℕ) → has more y ≡ (has marks y || number == y)
+marked marks more number put y = put y ∙ turned (y == number) (number == y) (has marks y) (nat_eq_equiv.symm y number)
+  where
+    turned : (a b c : Bool) → a ≡ b → (a || c) ≡ (c || b)
+    turned true b true e = refl
+    turned false b true e = refl
+    turned true b false e = e
+    turned false b false e = e

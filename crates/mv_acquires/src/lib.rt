@@ -19,11 +19,13 @@ ghost use Rattle.std.specs.Prelude.{◌≡◌, ℕ, ◌||◌, ◌==◌, ◌<◌,
 ghost use Rattle.std.specs.List.{list_all};
 ghost use Rattle.mv_move_types.specs.Refusals.{IsRefusedIn};
 ghost use Rattle.mv_move_types.specs.Module.{has_key, own_acquires};
+ghost use Rattle.mv_bit_sets.specs.BitSets.{has};
 ghost use Rattle.mv_bound_rules.specs.Definitions.{all_differ};
 ghost use Rattle.mv_acquires.specs.Acquires.{AcquiresHold, reached_by, has_member, same_members, acquires_are_right};
-ghost use Rattle.mv_acquires.specs.Marks.{is_marked, AreFollowed};
+ghost use Rattle.mv_acquires.specs.Marks.{AreFollowed};
 
 use marks::{are_same, is_member, mark, mark_all, marks_of};
+use mv_bit_sets::BitSet;
 use mv_bound_rules::Bounded;
 use mv_move_types::{Instruction, Refusal};
 use std::alloc::{AllocError, Global};
@@ -70,7 +72,7 @@ fn is_right(alloc: Global, m: &Bounded<'_>, f: usize) -> Result<bool, AllocError
 fn is_distinct(alloc: Global, numbers: &[u16]) -> Result<bool, AllocError>
     ensures { IfOk result (λ distinct. distinct ≡ all_differ ◌==◌ numbers.now) }
 {
-    let mut later = Vec::new(alloc);
+    let mut later = BitSet::new(alloc);
     let mut left = numbers.len();
     while left > 0 {
         left -= 1;
@@ -105,15 +107,11 @@ fn is_exact(
 }
 
 /// Marks of the structs that code reaches.
-fn reached_marks(
-    alloc: Global,
-    m: &Bounded<'_>,
-    code: &[Instruction],
-) -> Result<Vec<bool>, AllocError>
-    ensures { IfOk result (λ v. (y : ℕ) → is_marked v.items y ≡ has_member (flat_map (reached_by m.now) code.now) y) }
+fn reached_marks(alloc: Global, m: &Bounded<'_>, code: &[Instruction]) -> Result<BitSet, AllocError>
+    ensures { IfOk result (λ v. (y : ℕ) → has v y ≡ has_member (flat_map (reached_by m.now) code.now) y) }
 {
-    let mut marks = Vec::new(alloc);
-    let mut called = Vec::new(alloc);
+    let mut marks = BitSet::new(alloc);
+    let mut called = BitSet::new(alloc);
     for i in code {
         mark_reached(&mut marks, &mut called, m, *i)?;
     }
@@ -122,14 +120,14 @@ fn reached_marks(
 
 /// Marks the structs that the instruction reaches in the storage, itself or by a call in the own module.
 fn mark_reached(
-    marks: &mut Vec<bool>,
-    called: &mut Vec<bool>,
+    marks: &mut BitSet,
+    called: &mut BitSet,
     m: &Bounded<'_>,
     i: Instruction,
 ) -> Result<(), AllocError>
-    requires { AreFollowed m.now called.old.items marks.old.items }
-    ensures exact { OnOk result ((y : ℕ) → is_marked marks.new.items y ≡ (is_marked marks.old.items y || has_member (reached_by m.now i) y)) }
-    ensures followed { OnOk result (AreFollowed m.now called.new.items marks.new.items) }
+    requires { AreFollowed m.now called.old marks.old }
+    ensures exact { OnOk result ((y : ℕ) → has marks.new y ≡ (has marks.old y || has_member (reached_by m.now i) y)) }
+    ensures followed { OnOk result (AreFollowed m.now called.new marks.new) }
 {
     match i {
         Instruction::MoveFrom(definition)
@@ -142,14 +140,14 @@ fn mark_reached(
 
 /// Marks what the list of a called function has, at the first of its calls.
 fn mark_called(
-    marks: &mut Vec<bool>,
-    called: &mut Vec<bool>,
+    marks: &mut BitSet,
+    called: &mut BitSet,
     m: &Bounded<'_>,
     handle: u16,
 ) -> Result<(), AllocError>
-    requires { AreFollowed m.now called.old.items marks.old.items }
-    ensures exact { OnOk result ((y : ℕ) → is_marked marks.new.items y ≡ (is_marked marks.old.items y || has_member (own_acquires m.now handle) y)) }
-    ensures followed { OnOk result (AreFollowed m.now called.new.items marks.new.items) }
+    requires { AreFollowed m.now called.old marks.old }
+    ensures exact { OnOk result ((y : ℕ) → has marks.new y ≡ (has marks.old y || has_member (own_acquires m.now handle) y)) }
+    ensures followed { OnOk result (AreFollowed m.now called.new marks.new) }
 {
     if is_member(called, handle) {
         return Ok(());

@@ -7,7 +7,6 @@
 --   JoinedOrder       `names-stay`: the order of modules once a bundle joins
 --   DependencyLemmas  `one-more`, `places-within`: dependencies, place by place
 --   DependenciesStay  `those-stay`: those of a module that stays are the same
---   PlaceBits         sets of places as bits
 --   Finished          `ordered-by`, `finished-first`: modules that are in order by themselves, and when all are
 --   Searching         `search-loops`, `search-ends`: the search for a chain that leads back
 pub mod Depends
@@ -15,6 +14,5 @@ pub mod Graphs
 pub mod JoinedOrder
 pub mod DependencyLemmas
 pub mod DependenciesStay
-pub mod PlaceBits
 pub mod Finished
 pub mod Searching

@@ -3,7 +3,7 @@ use Rattle.std.specs.Prelude.{◌≡◌, ◌↔◌, ℕ, ◌<◌, not, ◌==◌,
 use Rattle.mv_move_types.specs.Options.{◌>>=◌}
 use Rattle.mv_move_types.specs.Module.{Module, module_name}
 use Rattle.mv_move_types.specs.Named.{module_place}
-use Rattle.mv_linker.specs.Places.{has}
+use Rattle.mv_bit_sets.specs.BitSets.{has}
 use Rattle.mv_link_rules.specs.StoreRules.{depends_on, Reaches}
 
 -- no module of the store depends on itself by a chain

@@ -7,7 +7,7 @@
 --   GainsNothing old result              no module that takes another's place depends on more
 use Rattle.std.specs.Prelude.{◌≡◌, ◌⊎◌, ℕ, ◌<◌, List, IsTrue, Some, slice_get}
 use Rattle.mv_move_types.specs.Module.{Module}
-use Rattle.mv_linker.specs.Places.{has, IsWithin}
+use Rattle.mv_bit_sets.specs.BitSets.{has, IsWithin}
 use Rattle.mv_link_rules.specs.StoreRules.{depends_on, Reaches}
 
 -- the module at one place depends on the one at another

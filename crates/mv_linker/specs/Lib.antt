@@ -10,7 +10,6 @@ pub mod Made
 pub mod Matches
 pub mod News
 pub mod DependencyGraph
-pub mod Places
 pub mod Questions
 pub mod ScopeDependencies
 pub mod Finished

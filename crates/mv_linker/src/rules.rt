@@ -87,6 +87,7 @@ fn names_differ(alloc: Global, added: &[Entry]) -> Result<bool, AllocError>
 fn is_sent(sender: Address, e: &Entry) -> bool
     ensures { result ≡ is_sent_by sender e.now.published.tables }
 {
+    // For the prover: the module has a name.
     let _name = e.name();
     e.address() == sender
 }

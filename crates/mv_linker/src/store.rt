@@ -9,7 +9,6 @@ pub mod dependencies;
 pub mod entry;
 mod exports;
 pub mod indexed;
-pub mod places;
 mod questions;
 mod stored;
 

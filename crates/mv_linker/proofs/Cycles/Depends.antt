@@ -5,7 +5,7 @@ use Rattle.mv_linker.proofs.Common.{have_one_name, length, module_name, module_p
 use Rattle.mv_linker.proofs.Common.{others, own_name, same_Some, slice_get, slice_get_within, subst, sym, true}
 use Rattle.std.proofs.lemmas.List.Elements.{All-contains_itself}
 use Rattle.mv_linker.specs.DependencyGraph.{AreNeeds, DependsOnThose}
-use Rattle.mv_linker.specs.Places.{has}
+use Rattle.mv_bit_sets.specs.BitSets.{has}
 use Rattle.mv_linker.proofs.Lemmas.{Contains-at, at-Contains, depends_on-from, depends_on-is, have_one_name-from, have_one_name-is, kept_at, module_place-from, module_place-is}
 use Rattle.mv_linker.proofs.Lemmas.{name_at_one, element_at}
 use Rattle.mv_bound_rules.proofs.Found.{kept_from}

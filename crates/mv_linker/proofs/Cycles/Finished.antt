@@ -9,7 +9,7 @@ use Rattle.mv_linker.proofs.Common.{all_differ, ap, arith, both_ways, cases_eq, 
 use Rattle.mv_linker.proofs.Common.{refl, same_Some, slice_get, slice_get_within, subst, sym, true, with_tables}
 use Rattle.std.specs.Prelude.{◌%◌, MatchOption}
 use Rattle.std.proofs.lemmas.Nat.Bits.{bit_at-zero}
-use Rattle.mv_linker.specs.Places.{has, IsOutside, IsWithin}
+use Rattle.mv_bit_sets.specs.BitSets.{has, IsOutside, IsWithin}
 use Rattle.mv_linker.specs.ScopeDependencies.{AreNeedsAt}
 use Rattle.mv_linker.specs.Finished.{AreFinished, GainsNothing, IsNext, IsFinished, LeadsTo, LeadsToFinished}
 use Rattle.mv_linker.proofs.Lemmas.{Contains-at, among-at, among-result, at-Contains, at-among, element_at}

@@ -7,7 +7,7 @@
 use Rattle.mv_linker.proofs.Common.{[], ℕ, zero, suc, ◌++◌, ◌+◌, ◌-◌, ◌<◌, ◌==◌, ◌∙◌, ◌∷◌, ◌≡◌, ◌⊎◌, ◌||◌, Contains, IsOrdered, List, Module, Reaches, Some, ap, arith, both_ways}
 use Rattle.mv_linker.proofs.Common.{cases_eq, cond, directly, eq-eqb, eqb-true, false, false_from_ne_true, further, inl, inr, length, ne_eqb, or_cases, or_left, or_right, refl, same_Some, slice_get}
 use Rattle.mv_linker.proofs.Common.{slice_get-first, slice_get_within, subst, sym, take, true}
-use Rattle.mv_linker.specs.Places.{has, IsWithin}
+use Rattle.mv_bit_sets.specs.BitSets.{has, IsWithin}
 use Rattle.mv_linker.specs.Finished.{AreFinished, IsNext, IsFinished, LeadsTo, LeadsToFinished}
 use Rattle.mv_linker.proofs.Lemmas.{Contains-at, at-Contains, element_at}
 use Rattle.mv_bound_rules.proofs.Found.{slice_get-take}

@@ -1,12 +1,11 @@
 -- A scope whose bundle joins its store: where its modules stand, and that what they name is there.
-use Rattle.mv_linker.proofs.Common.{ℕ, ◌+◌, ◌==◌, ◌∙◌, ◌≡◌, ◌≤◌, InBounds, IsSome, Joins, List, Module, New, None, PublishedModule, Scope, Some, ap, arith, eq-eqb}
+use Rattle.mv_linker.proofs.Common.{ℕ, ◌==◌, ◌∙◌, ◌≡◌, InBounds, IsSome, Joins, List, Module, New, None, Scope, Some, ap, arith, eq-eqb}
 use Rattle.mv_linker.proofs.Common.{find_index, inl, inr, is_some, length, length-map, modules_in, not, offered}
 use Rattle.mv_linker.proofs.Common.{position, refl, slice_get, slice_get_within, sym, tables_in, WellDefined}
 use Rattle.std.proofs.lemmas.Bool.{not-false}
 use Rattle.mv_linker.proofs.Lemmas.{among-at, among-result, element_at}
 use Rattle.mv_linker.proofs.Joining.Assembling.{joining-offered}
 use Rattle.mv_linker.proofs.Joining.Bundled.{bundle-at, old-at, place-at}
-use Rattle.mv_linker.proofs.Joining.Scopes.{with_tables-short}
 use Rattle.mv_linker.proofs.Cycles.DependencyLemmas.{length-places}
 use Rattle.mv_bound_rules.proofs.Found.{position-find_index}
 use Rattle.mv_linker.proofs.ListTests.{find_index-none}
@@ -23,11 +22,6 @@ position-there q k places at =
 -- a bundle takes as many places as it has modules
 pub placed-length : (s : Scope) → length s.places.items ≡ length s.new.now
 placed-length s = ap length s.placed ∙ length-places (tables_in s.store.now) (offered s.new.now) ∙ length-map s.new.now (λ (n : New). n.module)
-
--- there are no more modules than the store and the bundle have
-pub few-modules : (s : Scope) → length s.store.now + length s.new.now ≤ 65536 → length (modules_in s) ≤ 65536
-few-modules s few =
-    omega (arith, few, with_tables-short (tables_in s.store.now) (offered s.new.now), length-map s.store.now (λ (p : PublishedModule). p.tables), length-map s.new.now (λ (n : New). n.module))
 
 -- a bundle that fits
 pub fitting : (s : Scope) → IsFitting s → Joining (tables_in s.store.now) (offered s.new.now)

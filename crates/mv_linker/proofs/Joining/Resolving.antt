@@ -1,6 +1,6 @@
 -- What a handle names, in the module that its module handle leads to.
-use Rattle.mv_linker.proofs.Common.{[], ℕ, ◌++◌, ◌+◌, ◌<◌, ◌>>=◌, ◌∙◌, ◌∷◌, ◌≡◌, ◌≤◌, Abilities, AreTargets, Definition, EachAt, FunctionHandle, IsFunctionAt, IsFunctionIn, IsRefusedIn}
-use Rattle.mv_linker.proofs.Common.{IsOf, IsStructAt, IsStructOf, IsTarget, IsTrue, List, Memory, Module, ModuleName, None, Option, Phase, Refusal, Some, StructHandle, Target}
+use Rattle.mv_linker.proofs.Common.{[], ℕ, ◌++◌, ◌+◌, ◌<◌, ◌>>=◌, ◌∙◌, ◌∷◌, ◌≡◌, ◌≤◌, Abilities, AreTargets, Definition, EachAt, FunctionHandle, IsFunctionAt, IsFunctionIn, Bool}
+use Rattle.mv_linker.proofs.Common.{IsOf, IsStructAt, IsStructOf, IsTarget, IsTrue, List, Module, ModuleName, None, Option, Some, StructHandle, Target}
 use Rattle.mv_linker.proofs.Common.{and_from, and_parts, ap, arith, both_ways, cases_eq, declared, declared_in, false, first_so, function_is_there, function_matches, inl, inr, is_module}
 use Rattle.mv_linker.proofs.Common.{length, length_push, list_all, list_any, module_is_there, module_name, module_named, module_place, modules_are_there, option_and_then, option_map_or}
 use Rattle.mv_linker.proofs.Common.{refl, same_abilities, same_Some, second_so, slice_get, slice_get_past, slice_get_within, struct_is_there, struct_matches, structs_are_there, subst, suc}
@@ -27,12 +27,6 @@ not_there (m ∷ ms) name e = let rest = not_there ms name in grind (arith, rest
 -- and one that is
 pub is_there : (modules : List Module) (name : ModuleName) (k : ℕ) → module_place modules name ≡ Some k → list_any (is_module name) modules ≡ true
 is_there modules name k e = let f = found_at (is_module name) modules k e in among-any (is_module name) modules f.entry (among-at modules k f.entry f.at) f.passes
-
--- ---- refusals
-
-pub refused_by : (P Q : Type 0) (e : Refusal) → (Q → P) → IsRefusedIn 13 P e → IsRefusedIn 13 Q e
-refused_by P Q (Phase p) f r = (r.0, λ q. r.1 (f q))
-refused_by P Q Memory f r = r
 
 -- ---- structs and functions
 
@@ -154,24 +148,32 @@ more-targets modules m targets more h t s e is =
       there = subst (λ n. modules_are_there modules m n ≡ true) (sym next) (and_from (module_is_there modules m h) (modules_are_there modules m h) there s.there);
     }
 
-pub record StructsSoFar (modules : List Module) (m : Module) (ds : List Definition) (h : ℕ) : Type 0 where
+-- where what the first handles name is defined, structs or functions, and that it is there
+pub record FoundSoFar {H : Type 0} (handles : List H) (IsAt : ℕ → Definition → Type 0) (is_there : ℕ → H → Bool) (ds : List Definition) (h : ℕ) : Type 0 where
   pub len : length ds ≡ h
-  pub each : (k : ℕ) (d : Definition) → slice_get ds k ≡ Some d → IsStructAt modules m k d
-  pub there : (k : ℕ) (s : StructHandle) → k < h → slice_get m.struct_handles k ≡ Some s → struct_is_there modules m k s ≡ true
+  pub each : EachAt IsAt ds
+  pub there : (k : ℕ) (x : H) → k < h → slice_get handles k ≡ Some x → is_there k x ≡ true
 
-pub no-structs : (modules : List Module) (m : Module) (ds : List Definition) → ds ≡ [] → StructsSoFar modules m ds 0
-no-structs modules m ds e = record { len = ap length e; each = λ k d p. absurd (nothing_at ds k d e p); there = λ k s l p. absurd (omega (arith, l)) }
+abbrev pub StructsSoFar : List Module → Module → List Definition → ℕ → Type 0
+StructsSoFar modules m = FoundSoFar m.struct_handles (IsStructAt modules m) (struct_is_there modules m)
 
-pub more-structs : (modules : List Module) (m : Module) (ds more : List Definition) (h : ℕ) (handle : StructHandle) (d : Definition) → StructsSoFar modules m ds h → more ≡ ds ++ d ∷ []
-    → slice_get m.struct_handles h ≡ Some handle → IsStructAt modules m h d → struct_is_there modules m h handle ≡ true → StructsSoFar modules m more (h + 1)
-more-structs modules m ds more h handle d s e at is there = record {
-  len = ap length e ∙ length_push ds d ∙ ap (λ n. n + 1) s.len;
-  each = λ k x p. each_push (IsStructAt modules m) ds d s.each (subst (λ n. IsStructAt modules m n d) (sym s.len) is) k x (sym (ap (λ l. slice_get l k) e) ∙ p);
-  there = λ k x l p. elim (cases_eq k h) [
-    | inl q ↦ (let same : x ≡ handle = same_Some x handle (sym p ∙ ap (slice_get m.struct_handles) q ∙ at) in rw (q, same) there)
-    | inr q ↦ s.there k x (omega (arith, l, q)) p
-  ];
-}
+abbrev pub FunctionsSoFar : List Module → Module → List Definition → ℕ → Type 0
+FunctionsSoFar modules m = FoundSoFar m.function_handles (IsFunctionAt modules m) (λ h. function_is_there modules m)
+
+module _ {H : Type 0} (handles : List H) (IsAt : ℕ → Definition → Type 0) (is_there : ℕ → H → Bool) where
+  pub none-found : (ds : List Definition) → ds ≡ [] → FoundSoFar handles IsAt is_there ds 0
+  none-found ds e = record { len = ap length e; each = λ k d p. absurd (nothing_at ds k d e p); there = λ k x l p. absurd (omega (arith, l)) }
+
+  pub one-found-more : (ds more : List Definition) (h : ℕ) (handle : H) (d : Definition) → FoundSoFar handles IsAt is_there ds h → more ≡ ds ++ d ∷ []
+      → slice_get handles h ≡ Some handle → IsAt h d → is_there h handle ≡ true → FoundSoFar handles IsAt is_there more (h + 1)
+  one-found-more ds more h handle d s e at is there = record {
+    len = ap length e ∙ length_push ds d ∙ ap (λ n. n + 1) s.len;
+    each = λ k x p. each_push IsAt ds d s.each (subst (λ n. IsAt n d) (sym s.len) is) k x (sym (ap (λ l. slice_get l k) e) ∙ p);
+    there = λ k x l p. elim (cases_eq k h) [
+      | inl q ↦ (let same : x ≡ handle = same_Some x handle (sym p ∙ ap (slice_get handles) q ∙ at) in rw (q, same) there)
+      | inr q ↦ s.there k x (omega (arith, l, q)) p
+    ];
+  }
 
 pub all-structs : (modules : List Module) (m : Module) (ds : List Definition) (h : ℕ) → StructsSoFar modules m ds h → length m.struct_handles ≤ h
     → structs_are_there modules m 0 m.struct_handles ≡ true
@@ -185,25 +187,6 @@ pub struct-of-all : (modules : List Module) (m : Module) (h : ℕ) (handle : Str
 struct-of-all modules m h handle p e =
     let zero_left : 0 + h ≡ h = omega arith in
     sym (ap (λ n. struct_is_there modules m n handle) zero_left) ∙ structs_there_at modules m 0 m.struct_handles h handle e p
-
-pub record FunctionsSoFar (modules : List Module) (m : Module) (ds : List Definition) (h : ℕ) : Type 0 where
-  pub len : length ds ≡ h
-  pub each : (k : ℕ) (d : Definition) → slice_get ds k ≡ Some d → IsFunctionAt modules m k d
-  pub there : (k : ℕ) (f : FunctionHandle) → k < h → slice_get m.function_handles k ≡ Some f → function_is_there modules m f ≡ true
-
-pub no-functions : (modules : List Module) (m : Module) (ds : List Definition) → ds ≡ [] → FunctionsSoFar modules m ds 0
-no-functions modules m ds e = record { len = ap length e; each = λ k d p. absurd (nothing_at ds k d e p); there = λ k s l p. absurd (omega (arith, l)) }
-
-pub more-functions : (modules : List Module) (m : Module) (ds more : List Definition) (h : ℕ) (handle : FunctionHandle) (d : Definition) → FunctionsSoFar modules m ds h → more ≡ ds ++ d ∷ []
-    → slice_get m.function_handles h ≡ Some handle → IsFunctionAt modules m h d → function_is_there modules m handle ≡ true → FunctionsSoFar modules m more (h + 1)
-more-functions modules m ds more h handle d s e at is there = record {
-  len = ap length e ∙ length_push ds d ∙ ap (λ n. n + 1) s.len;
-  each = λ k x p. each_push (IsFunctionAt modules m) ds d s.each (subst (λ n. IsFunctionAt modules m n d) (sym s.len) is) k x (sym (ap (λ l. slice_get l k) e) ∙ p);
-  there = λ k x l p. elim (cases_eq k h) [
-    | inl q ↦ (let same : x ≡ handle = same_Some x handle (sym p ∙ ap (slice_get m.function_handles) q ∙ at) in rw same there)
-    | inr q ↦ s.there k x (omega (arith, l, q)) p
-  ];
-}
 
 pub all-functions : (modules : List Module) (m : Module) (ds : List Definition) (h : ℕ) → FunctionsSoFar modules m ds h → length m.function_handles ≤ h
     → list_all (function_is_there modules m) m.function_handles ≡ true

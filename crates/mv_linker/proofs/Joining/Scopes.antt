@@ -1,5 +1,5 @@
 -- The modules of a scope are found by name and by place.
-use Rattle.mv_linker.proofs.Common.{[], ℕ, ◌++◌, ◌+◌, ◌<◌, ◌==◌, ◌∙◌, ◌∷◌, ◌≡◌, ◌≤◌, Bool, List, Module, ModuleName, New, None, Option, PublishedModule, Some, all_named, and_from}
+use Rattle.mv_linker.proofs.Common.{[], ℕ, ◌++◌, ◌+◌, ◌<◌, ◌==◌, ◌∙◌, ◌∷◌, ◌≡◌, ◌≤◌, Bool, List, Module, ModuleName, New, None, Option, PublishedModule, Some, all_named, and_from, length-map}
 use Rattle.mv_linker.proofs.Common.{ap, arith, cases_Bool, cases_cond, cond, false, find_index, first_so, found_among, have_one_name, inl, inr, is_module, is_some, length, map-append}
 use Rattle.mv_linker.proofs.Common.{map-map, module_place, nat_tests, offered, option_map, option_map_or, own_name, place_for, places_in, published_of, published_one, refl}
 use Rattle.mv_linker.proofs.Common.{second_so, slice_get, suc, sym, tables_in, take, true, unwrap_or, with_module, with_modules, with_table, with_tables, zero}
@@ -177,3 +177,8 @@ with_tables-short ms [] = omega arith
 with_tables-short ms (n ∷ ns) =
     let rest = with_tables-short (with_table ms n) ns in
     elim (cases_cond (place_for ms n == length ms) _ _ _ (length-with_table ms n)) [ inl e ↦ omega (arith, rest, e) | inr e ↦ omega (arith, rest, e) ]
+
+-- a store and a bundle have no more than both together
+pub few_modules : (ps : List PublishedModule) (news : List New) → length ps + length news ≤ 65536 → length (with_tables (tables_in ps) (offered news)) ≤ 65536
+few_modules ps news few =
+    omega (arith, few, with_tables-short (tables_in ps) (offered news), length-map ps (λ (p : PublishedModule). p.tables), length-map news (λ (n : New). n.module))

@@ -1,6 +1,6 @@
 // Rule e of linking: the functions that a module's handles name are there, with the same types, and public where they are of
 // another module. Types are compared by names in a bundle, and by where structs are defined with what the store keeps.
-ghost use Rattle.std.specs.Prelude.{◌≡◌, ◌<◌, ◌≤◌, ◌&&◌, ◌||◌, List, true, false, length, slice_get, Some, IsTrue, IfOk, IfErr, IfSome, OnOk, MatchOption};
+ghost use Rattle.std.specs.Prelude.{◌≡◌, ◌<◌, ◌&&◌, ◌||◌, List, true, false, slice_get, Some, IsTrue, IfOk, IfErr, IfSome, OnOk, MatchOption};
 ghost use Rattle.std.specs.List.{list_all};
 ghost use Rattle.std.specs.Option.{option_map_or};
 ghost use Rattle.mv_move_types.specs.Module.{Module as Tables, FunctionDefinition as FunctionTable, module_name as name_of_module, own_name};
@@ -119,7 +119,8 @@ fn function_in(
     found: &Found<'_>,
     likely: Option<usize>,
 ) -> Option<usize>
-    ensures found { (modules : List Tables) (n : Tables) (home : ModuleName) → IsOf m.now handle.module n home → IsFound modules n found.now → AreStructsAt modules m.now structs.now
+    ensures found { (modules : List Tables) (n : Tables) (home : ModuleName) → IsOf m.now handle.module n home
+        → IsFound modules n found.now → AreStructsAt modules m.now structs.now
         → MatchOption result (function_matches m.now handle n ≡ false) (λ k. (function_matches m.now handle n ≡ true) × IsFunctionIn m.now handle n k) }
     ensures few { IfSome result (λ k. k < 65536) }
 {
@@ -146,7 +147,6 @@ impl<'a> Scope<'a> {
         requires named { AreTargets (modules_in self.now) m.now targets.now }
         requires structs { AreStructsAt (modules_in self.now) m.now structs.now }
         requires handle { slice_get m.now.function_handles h ≡ Some handle }
-        requires few { length (modules_in self.now) ≤ 65536 }
         ensures ok { IfOk result (IsFunctionAt (modules_in self.now) m.now h) }
         ensures there { OnOk result (IsTrue (function_is_there (modules_in self.now) m.now handle)) }
         ensures refused { IfErr result (IsRefusedIn 13 (IsTrue (function_is_there (modules_in self.now) m.now handle))) }
@@ -171,7 +171,6 @@ impl<'a> Scope<'a> {
     ) -> Result<Vec<Definition>, Refusal>
         requires named { AreTargets (modules_in self.now) m.now targets.now }
         requires structs { AreStructsAt (modules_in self.now) m.now structs.now }
-        requires few { length (modules_in self.now) ≤ 65536 }
         ensures ok { IfOk result (λ v. AreFunctionsAt (modules_in self.now) m.now v.items) }
         ensures there { OnOk result (IsTrue (list_all (function_is_there (modules_in self.now) m.now) m.now.function_handles)) }
         ensures refused { IfErr result (IsRefusedIn 13 (IsTrue (list_all (function_is_there (modules_in self.now) m.now) m.now.function_handles))) }

@@ -1,5 +1,5 @@
 // Rule d of linking: the structs that a module's handles name are there, with the same abilities.
-ghost use Rattle.std.specs.Prelude.{◌≡◌, ◌<◌, ◌≤◌, true, false, length, slice_get, None, Some, IsTrue, IfOk, IfErr, IfSome, IfNone, OnOk, MatchOption};
+ghost use Rattle.std.specs.Prelude.{◌≡◌, ◌<◌, true, false, slice_get, None, Some, IsTrue, IfOk, IfErr, IfSome, IfNone, OnOk, MatchOption};
 ghost use Rattle.mv_move_types.specs.Module.{Module as Tables};
 ghost use Rattle.mv_move_types.specs.Names.{ModuleName};
 ghost use Rattle.mv_move_types.specs.Refusals.{IsRefusedIn};
@@ -72,7 +72,6 @@ impl<'a> Scope<'a> {
     ) -> Result<Definition, Refusal>
         requires named { AreTargets (modules_in self.now) m.now targets.now }
         requires handle { slice_get m.now.struct_handles h ≡ Some handle }
-        requires few { length (modules_in self.now) ≤ 65536 }
         ensures ok { IfOk result (IsStructAt (modules_in self.now) m.now h) }
         ensures there { OnOk result (IsTrue (struct_is_there (modules_in self.now) m.now h handle)) }
         ensures refused { IfErr result (IsRefusedIn 13 (IsTrue (struct_is_there (modules_in self.now) m.now h handle))) }
@@ -94,7 +93,6 @@ impl<'a> Scope<'a> {
         targets: &[Target<'_>],
     ) -> Result<Vec<Definition>, Refusal>
         requires named { AreTargets (modules_in self.now) m.now targets.now }
-        requires few { length (modules_in self.now) ≤ 65536 }
         ensures ok { IfOk result (λ v. AreStructsAt (modules_in self.now) m.now v.items) }
         ensures there { OnOk result (IsTrue (structs_are_there (modules_in self.now) m.now 0 m.now.struct_handles)) }
         ensures refused { IfErr result (IsRefusedIn 13 (IsTrue (structs_are_there (modules_in self.now) m.now 0 m.now.struct_handles))) }

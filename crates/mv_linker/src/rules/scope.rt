@@ -5,7 +5,7 @@ ghost use Rattle.mv_bound_rules.specs.Definitions.{all_differ};
 ghost use Rattle.mv_linker.specs.Indexed.{ArePlacesOf};
 ghost use Rattle.mv_linker.specs.Kept.{name_in};
 ghost use Rattle.mv_link_rules.specs.Link.{IsStore, tables_in, have_one_name};
-ghost use Rattle.mv_linker.specs.Scope.{offered, places_in, all_named};
+ghost use Rattle.mv_linker.specs.Scope.{offered, places_in, all_named, with_tables};
 
 use crate::store::entry::{Name, asked_for};
 use crate::store::indexed::{PlacesByName, place_of};
@@ -27,6 +27,7 @@ pub struct Scope<'a> {
     pub names: PlacesByName<'a>,
     ghost placed: { places.items ≡ places_in (tables_in store.now) (offered new.now) },
     ghost named: { IsTrue (all_named (offered new.now)) },
+    ghost few: { length (with_tables (tables_in store.now) (offered new.now)) ≤ 65536 },
     ghost once: { IsTrue (all_differ have_one_name (offered new.now)) },
     ghost found: { ArePlacesOf names (offered new.now) places.items },
 }
@@ -75,6 +76,7 @@ fn places_of<'a>(alloc: Global, store: &Store, new: &'a [New<'a>]) -> Result<Pla
 
 impl<'a> Scope<'a> {
     /// The scope of a store and a bundle.
+    #[tactic(auto, using(crate::proofs::Joining::Scopes::few_modules))]
     pub fn of(alloc: Global, store: &'a Store, new: &'a [New<'a>]) -> Result<Self, AllocError>
         requires few { length store.now + length new.now ≤ 65536 }
         requires once { IsTrue (all_differ have_one_name (offered new.now)) }

@@ -1,67 +1,54 @@
 // The search for a chain of dependencies that leads back to its module.
-ghost use Rattle.std.specs.Prelude.{◌≡◌, ◌↔◌, ◌<◌, ◌≤◌, [], length, slice_get, ℕ, Some, IsTrue, IfOk, MatchBool, MatchOption};
+ghost use Rattle.std.specs.Prelude.{◌≡◌, ◌↔◌, ◌<◌, [], length, slice_get, ℕ, Some, IsTrue, IfOk, MatchBool, MatchOption};
 ghost use Rattle.mv_link_rules.specs.Link.{IsStore};
 ghost use Rattle.mv_linker.specs.DependencyGraph.{IsOrdered};
-ghost use Rattle.mv_linker.specs.Places.{IsWithin};
-ghost use Rattle.mv_linker.specs.ScopeDependencies.{AreDependenciesIn, AreNeedsAt};
+ghost use Rattle.mv_bit_sets.specs.BitSets.{IsWithin};
+ghost use Rattle.mv_linker.specs.ScopeDependencies.{AreNeedsAt};
 ghost use Rattle.mv_linker.specs.Relinked.{IsFitting};
-ghost use Rattle.mv_linker.specs.Scope.{offered};
 ghost use Rattle.mv_linker.specs.Finished.{AreFinished, IsNext, IsSearched, IsFinished, LeadsToFinished};
 ghost use Rattle.mv_linker.specs.Targets.{modules_in};
 
-use crate::rules::scope::Scope;
-use crate::store::places::Places;
+use crate::rules::acyclic::Dependencies;
+use mv_bit_sets::BitSet;
 use std::alloc::{AllocError, Global};
 
 /// Whether a place is one of the first, or one that the search is done with.
-fn is_finished(base: usize, done: &Places, place: usize) -> bool
+fn is_finished(base: usize, done: &BitSet, place: usize) -> bool
     ensures { IsTrue result ↔ IsFinished base done.now place }
 {
     place < base || done.contains(place)
 }
 
-impl<'a> Scope<'a> {
-    /// The places that the module at a place depends on; `needed` has what the bundle's modules do. Nothing is decoded.
-    fn needs_at<'d>(&'d self, needed: &'d [Places], place: usize) -> &'d Places
-        requires store { IsStore self.now.store.now }
-        requires needed { AreDependenciesIn (modules_in self.now) (offered self.now.new.now) needed.now }
-        requires place { place < length (modules_in self.now) }
-        ensures { AreNeedsAt (modules_in self.entry.now) place result.now }
+impl<'s, 'a, 'n> Dependencies<'s, 'a, 'n> {
+    /// The places that the module at a place depends on. Nothing is decoded.
+    fn needs_at(&self, place: usize) -> &BitSet
+        requires store { IsStore self.now.scope.now.store.now }
+        requires place { place < length (modules_in self.now.scope.now) }
+        ensures { AreNeedsAt (modules_in self.entry.now.scope.now) place result.now }
     {
-        match self.bundled(place) {
-            Some(k) => &needed[k],
-            None => self.store.needs_at(place),
+        match self.scope.bundled(place) {
+            Some(k) => &self.needed[k],
+            None => self.scope.store.needs_at(place),
         }
     }
 
     /// A place that the module at one depends on, from `base` on, with which the search isn't done.
-    fn next_after(
-        &self,
-        needed: &[Places],
-        base: usize,
-        done: &Places,
-        place: usize,
-    ) -> Option<usize>
-        requires store { IsStore self.now.store.now }
-        requires needed { AreDependenciesIn (modules_in self.now) (offered self.now.new.now) needed.now }
-        requires place { place < length (modules_in self.now) }
-        ensures { MatchOption result (LeadsToFinished (modules_in self.now) base done.now place) (IsNext (modules_in self.now) base done.now place) }
+    fn next_after(&self, base: usize, done: &BitSet, place: usize) -> Option<usize>
+        requires store { IsStore self.now.scope.now.store.now }
+        requires place { place < length (modules_in self.now.scope.now) }
+        ensures { MatchOption result (LeadsToFinished (modules_in self.now.scope.now) base done.now place) (IsNext (modules_in self.now.scope.now) base done.now place) }
     {
-        self.needs_at(needed, place).outside(base, done)
+        self.needs_at(place).outside(base, done)
     }
 
     /// Whether each module of the bundle depends on modules before `base` alone.
-    fn need_first_alone(&self, alloc: Global, needed: &[Places], base: usize) -> bool
-        requires fits { IsFitting self.now }
-        requires needed { AreDependenciesIn (modules_in self.now) (offered self.now.new.now) needed.now }
-        ensures { IsTrue result ↔ ((k p : ℕ) → slice_get self.now.places.items k ≡ Some p → LeadsToFinished (modules_in self.now) base [] p) }
+    fn need_first_alone(&self, alloc: Global, base: usize) -> bool
+        requires { IsFitting self.now.scope.now }
+        ensures { IsTrue result ↔ ((k p : ℕ) → slice_get self.now.scope.now.places.items k ≡ Some p → LeadsToFinished (modules_in self.now.scope.now) base [] p) }
     {
-        let none = Places::new(alloc);
-        for k in 0..self.places.len() {
-            if self
-                .next_after(needed, base, &none, self.places[k])
-                .is_some()
-            {
+        let none = BitSet::new(alloc);
+        for k in 0..self.scope.places.len() {
+            if self.next_after(base, &none, self.scope.places[k]).is_some() {
                 return false;
             }
         }
@@ -73,27 +60,24 @@ impl<'a> Scope<'a> {
     fn leads_back(
         &self,
         alloc: Global,
-        needed: &[Places],
         base: usize,
         start: usize,
-        met: &mut Places,
-        done: &mut Places,
+        met: &mut BitSet,
+        done: &mut BitSet,
     ) -> Result<bool, AllocError>
-        requires few { length (modules_in self.now) ≤ 65536 }
-        requires store { IsStore self.now.store.now }
-        requires needed { AreDependenciesIn (modules_in self.now) (offered self.now.new.now) needed.now }
-        requires start { start < length (modules_in self.now) }
+        requires store { IsStore self.now.scope.now.store.now }
+        requires start { start < length (modules_in self.now.scope.now) }
         requires fresh { IsFinished base done.old start → ⊥ }
         requires met { IsWithin 0 met.old done.old }
-        requires finished { AreFinished (modules_in self.now) base done.old }
-        ensures { IfOk result (λ b. MatchBool b (IsOrdered (modules_in self.now) → ⊥) (IsSearched (modules_in self.now) base start done.old met.new done.new)) }
+        requires finished { AreFinished (modules_in self.now.scope.now) base done.old }
+        ensures { IfOk result (λ b. MatchBool b (IsOrdered (modules_in self.now.scope.now) → ⊥) (IsSearched (modules_in self.now.scope.now) base start done.old met.new done.new)) }
     {
         let mut chain = Vec::new(alloc);
         met.insert(start)?;
         chain.push(start)?;
         'search: while let Some(last) = chain.last() {
             let place = *last;
-            let Some(next) = self.next_after(needed, base, done, place) else {
+            let Some(next) = self.next_after(base, done, place) else {
                 done.insert(place)?;
                 chain.pop();
                 continue;
@@ -111,25 +95,22 @@ impl<'a> Scope<'a> {
     fn none_leads_back(
         &self,
         alloc: Global,
-        needed: &[Places],
         base: usize,
-        met: &mut Places,
-        done: &mut Places,
+        met: &mut BitSet,
+        done: &mut BitSet,
     ) -> Result<bool, AllocError>
-        requires few { length (modules_in self.now) ≤ 65536 }
-        requires fits { IsFitting self.now }
-        requires needed { AreDependenciesIn (modules_in self.now) (offered self.now.new.now) needed.now }
-        requires finished { AreFinished (modules_in self.now) base [] }
+        requires fits { IsFitting self.now.scope.now }
+        requires finished { AreFinished (modules_in self.now.scope.now) base [] }
         requires met { met.old ≡ [] }
         requires done { done.old ≡ [] }
-        ensures { IfOk result (λ b. IsTrue b ↔ IsOrdered (modules_in self.now)) }
+        ensures { IfOk result (λ b. IsTrue b ↔ IsOrdered (modules_in self.now.scope.now)) }
     {
-        for k in 0..self.places.len() {
-            let place = self.places[k];
+        for k in 0..self.scope.places.len() {
+            let place = self.scope.places[k];
             if is_finished(base, done, place) {
                 continue;
             }
-            if self.leads_back(alloc, needed, base, place, met, done)? {
+            if self.leads_back(alloc, base, place, met, done)? {
                 return Ok(false);
             }
         }
@@ -138,23 +119,16 @@ impl<'a> Scope<'a> {
 
     /// Whether no module depends on itself by a chain, where the modules before `base` are in order by themselves. One search
     /// serves all the modules of the bundle, since a chain that leads back is of one of them, or of those before `base`.
-    pub fn is_ordered_from(
-        &self,
-        alloc: Global,
-        needed: &[Places],
-        base: usize,
-    ) -> Result<bool, AllocError>
-        requires few { length (modules_in self.now) ≤ 65536 }
-        requires fits { IsFitting self.now }
-        requires needed { AreDependenciesIn (modules_in self.now) (offered self.now.new.now) needed.now }
-        requires finished { AreFinished (modules_in self.now) base [] }
-        ensures { IfOk result (λ b. IsTrue b ↔ IsOrdered (modules_in self.now)) }
+    pub fn is_ordered_from(&self, alloc: Global, base: usize) -> Result<bool, AllocError>
+        requires fits { IsFitting self.now.scope.now }
+        requires finished { AreFinished (modules_in self.now.scope.now) base [] }
+        ensures { IfOk result (λ b. IsTrue b ↔ IsOrdered (modules_in self.now.scope.now)) }
     {
-        if self.need_first_alone(alloc, needed, base) {
+        if self.need_first_alone(alloc, base) {
             return Ok(true);
         }
-        let mut met = Places::new(alloc);
-        let mut done = Places::new(alloc);
-        self.none_leads_back(alloc, needed, base, &mut met, &mut done)
+        let mut met = BitSet::new(alloc);
+        let mut done = BitSet::new(alloc);
+        self.none_leads_back(alloc, base, &mut met, &mut done)
     }
 }

@@ -1,5 +1,5 @@
 // Rule g of linking: the structs of a bundle are small.
-ghost use Rattle.std.specs.Prelude.{◌≤◌, length, map, IsSome, IfOk, IfErr, OnOk};
+ghost use Rattle.std.specs.Prelude.{map, IsSome, IfOk, IfErr, OnOk};
 ghost use Rattle.std.specs.List.{AllZip};
 ghost use Rattle.mv_move_types.specs.Module.{name_at};
 ghost use Rattle.mv_move_types.specs.Refusals.{IsRefusedIn};
@@ -56,7 +56,6 @@ impl<'a> Scope<'a> {
     /// The sizes of the structs of the bundle's modules; `Phase(13)`, where one is not small. `names` has what the handles of
     /// each module name.
     pub fn sizes(&self, alloc: Global, names: &[Names]) -> Result<Vec<Vec<Size>>, Refusal>
-        requires few { length (modules_in self.now) ≤ 65536 }
         requires fits { IsFitting self.now }
         requires names { AreNamesOf (modules_in self.now) (offered self.now.new.now) names.now }
         ensures ok { IfOk result (λ v. AreSizes (modules_in self.now) (offered self.now.new.now) (map (λ r. r.items) v.items)) }

@@ -1,6 +1,6 @@
 // The rules over a whole store, c to g of linking, for the modules that it has once a bundle joins it: c is in named_modules.rt, d in
 // named_structs.rt, e in named_functions.rt, f in acyclic.rt and g in small_structs.rt.
-ghost use Rattle.std.specs.Prelude.{◌+◌, ◌≤◌, All, length, IsTrue, IfOk, IfErr, OnOk};
+ghost use Rattle.std.specs.Prelude.{All, IsTrue, IfOk, IfErr, OnOk};
 ghost use Rattle.std.specs.List.{list_all};
 ghost use Rattle.mv_move_types.specs.Refusals.{IsRefusedIn};
 ghost use Rattle.mv_linker.specs.DependencyGraph.{IsOrdered};
@@ -15,11 +15,12 @@ ghost use Rattle.mv_linker.specs.Stored.{AreLowered, AreNames, AreNamesOf};
 ghost use Rattle.mv_linker.specs.Targets.{modules_in};
 
 use crate::lowering::to_link::Lowered;
+use crate::rules::acyclic::Dependencies;
 use crate::rules::named_modules::places_of;
 use crate::rules::pushed::pushed;
 use crate::rules::scope::Scope;
-use crate::store::places::Places;
 use mv_binary_format::Module;
+use mv_bit_sets::BitSet;
 use mv_interface::Outline;
 use mv_move_types::{Definition, Refusal};
 use std::alloc::Global;
@@ -39,7 +40,6 @@ impl<'a> Scope<'a> {
     /// What a module's handles name; `Phase(13)`, where something is not there as a handle says. `outlines` has those of the
     /// bundle.
     fn names(&self, alloc: Global, outlines: &[Outline], m: &Module<'_>) -> Result<Names, Refusal>
-        requires few { length (modules_in self.now) ≤ 65536 }
         requires fits { IsFitting self.now }
         requires outlines { AreOutlines (offered self.now.new.now) outlines.now }
         ensures names { IfOk result (AreNames (modules_in self.now) m.now) }
@@ -59,7 +59,6 @@ impl<'a> Scope<'a> {
 
     /// What the handles of the bundle's modules name; `Phase(13)`, where rule c, d or e fails.
     fn named(&self, alloc: Global, outlines: &[Outline]) -> Result<Vec<Names>, Refusal>
-        requires few { length (modules_in self.now) ≤ 65536 }
         requires fits { IsFitting self.now }
         requires outlines { AreOutlines (offered self.now.new.now) outlines.now }
         ensures names { IfOk result (λ v. AreNamesOf (modules_in self.now) (offered self.now.new.now) v.items) }
@@ -75,8 +74,7 @@ impl<'a> Scope<'a> {
     }
 
     /// What each module of the bundle depends on; `Phase(13)`, where rule f fails. `names` has what the handles of each name.
-    fn ordered(&self, alloc: Global, names: &[Names]) -> Result<Vec<Places>, Refusal>
-        requires few { length (modules_in self.now) ≤ 65536 }
+    fn ordered(&self, alloc: Global, names: &[Names]) -> Result<Vec<BitSet>, Refusal>
         requires fits { IsFitting self.now }
         requires names { AreNamesOf (modules_in self.now) (offered self.now.new.now) names.now }
         ensures needed { IfOk result (λ v. AreDependenciesIn (modules_in self.now) (offered self.now.new.now) v.items) }
@@ -84,7 +82,11 @@ impl<'a> Scope<'a> {
         ensures refused { IfErr result (IsRefusedIn 13 (IsOrdered (modules_in self.now))) }
     {
         let needed = self.dependencies(alloc, names)?;
-        if self.is_ordered(alloc, &needed)? {
+        let dependencies = Dependencies {
+            scope: self,
+            needed: &needed,
+        };
+        if dependencies.is_ordered(alloc)? {
             Ok(needed)
         } else {
             Err(Refusal::Phase(13))
@@ -99,7 +101,6 @@ impl<'a> Scope<'a> {
         names: &[Names],
         outlines: Vec<Outline>,
     ) -> Result<Vec<Lowered>, Refusal>
-        requires few { length (modules_in self.now) ≤ 65536 }
         requires fits { IsFitting self.now }
         requires names { AreNamesOf (modules_in self.now) (offered self.now.new.now) names.now }
         requires hold { IsTrue (list_all (names_hold (modules_in self.now)) (offered self.now.new.now)) }
@@ -115,7 +116,6 @@ impl<'a> Scope<'a> {
 
     /// Tries rules c to g over all the modules, and links the bundle's.
     fn links(&self, alloc: Global) -> Result<Vec<Lowered>, Refusal>
-        requires few { length (modules_in self.now) ≤ 65536 }
         requires fits { IsFitting self.now }
         ensures ok { OnOk result (Links (modules_in self.now)) }
         ensures lowered { IfOk result (λ v. AreLowered (tables_in self.now.store.now) (offered self.now.new.now) (modules_in self.now) v.items) }
@@ -128,7 +128,6 @@ impl<'a> Scope<'a> {
 
     /// Tries rules c to h, and links the bundle's modules.
     pub fn joins(&self, alloc: Global) -> Result<Vec<Lowered>, Refusal>
-        requires few { length self.now.store.now + length self.now.new.now ≤ 65536 }
         requires store { IsStore self.now.store.now }
         requires passed { All IsPublishable (published_of self.now.new.now) }
         ensures compatible { OnOk result (IsTrue (are_compatible (tables_in self.now.store.now) (offered self.now.new.now))) }

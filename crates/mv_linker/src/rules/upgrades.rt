@@ -1,6 +1,6 @@
 // Rule h of linking: what a module has to keep of the one that it replaces. Of the old module only what is kept of it is read, and a
 // struct in its types is compared by its name.
-ghost use Rattle.std.specs.Prelude.{◌≡◌, ◌<◌, ◌≤◌, false, length, option_map, slice_get, Some, IfSome};
+ghost use Rattle.std.specs.Prelude.{◌≡◌, ◌<◌, false, length, option_map, slice_get, Some, IfSome};
 ghost use Rattle.std.specs.Option.{option_map_or};
 ghost use Rattle.std.specs.Str.{bytes_eq};
 ghost use Rattle.mv_move_types.specs.AbilitySets.{same_abilities};
@@ -116,12 +116,11 @@ impl<'a> Replaced<'a> {
     /// That of a store at a place.
     fn of(store: &'a Store, place: usize) -> Self
         requires there { place < length store.now }
-        requires few { length store.now ≤ 65536 }
         ensures store { result.store.now ≡ store.entry.now }
         ensures place { result.place ≡ place }
         ensures kept { IfSome (slice_get (tables_in result.store.now) result.place) (λ m. IsInterface (tables_in result.store.now) m result.interface.now × IsSound m) }
     {
-        // For the prover: the store's modules passed what a publish tries.
+        // For the prover: the store's modules are few, and passed what a publish tries.
         let _count = store.len();
         Replaced {
             store,
@@ -254,7 +253,6 @@ impl<'a> Scope<'a> {
     /// Whether the module of the bundle at an index replaces nothing in the store, or what it may replace.
     fn follows(&self, k: usize) -> bool
         requires there { k < length self.now.new.now }
-        requires few { length self.now.store.now ≤ 65536 }
         ensures { (n : Tables) → slice_get (offered self.now.new.now) k ≡ Some n → result ≡ follows (tables_in self.now.store.now) n }
     {
         let place = self.places[k];
@@ -267,7 +265,6 @@ impl<'a> Scope<'a> {
 
     /// Whether each module of the bundle replaces nothing in the store, or what it may replace.
     pub fn all_follow(&self) -> bool
-        requires { length self.now.store.now ≤ 65536 }
         ensures { result ≡ each_follows (tables_in self.now.store.now) (offered self.now.new.now) }
     {
         'each: for k in 0..self.new.len() {

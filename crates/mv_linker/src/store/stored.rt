@@ -14,7 +14,7 @@ ghost use Rattle.mv_linker.specs.Stored.{IsSizeAt};
 use crate::Store;
 use crate::rules::sizes::Size;
 use crate::store::code::Code;
-use crate::store::places::Places;
+use mv_bit_sets::BitSet;
 use mv_interface::{Interface, Part, Signature, StructName};
 use mv_move_types::Definition;
 
@@ -104,7 +104,7 @@ impl Store {
     }
 
     /// The places of the modules that the module at a place depends on.
-    pub(crate) fn needs_at(&self, place: usize) -> &Places
+    pub(crate) fn needs_at(&self, place: usize) -> &BitSet
         requires { place < length self.now }
         ensures { AreNeedsAt (tables_in self.now) place result.now }
     {

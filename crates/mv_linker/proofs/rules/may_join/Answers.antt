@@ -1,7 +1,8 @@
-use Rattle.mv_linker.proofs.Common.{◌∙◌, ◌≡◌, AreSentBy, Links, List, MayJoin, Module, PublishedModule, all_differ, ap, are_compatible, false, have_one_name}
+use Rattle.mv_linker.proofs.Common.{◌∙◌, ◌≡◌, AreSentBy, Links, List, MayJoin, Module, PublishedModule, all_differ, ap, are_compatible, false, have_one_name, IfErr-weaker}
 use Rattle.mv_linker.proofs.Common.{offered, published_of, refl, subst, sym, tables_in, true, with_modules, with_tables}
 use Rattle.mv_linker.proofs.Joining.Scopes.{offered-tables, scope-tables}
-use Rattle.mv_linker.proofs.Outcomes.{if_err, on_ok_both}
+use Rattle.mv_linker.proofs.Outcomes.{on_ok_both}
+use Rattle.mv_move_types.proofs.Refusals.{refused-wider}
 use Rattle.mv_linker.proofs.rules.may_join.Goals as goal
 
 pub returns-then-not-are_sent_by-clause-refused : goal.returns-then-not-are_sent_by-clause-refused
@@ -27,9 +28,6 @@ of-requires-clause-once c =
     subst (λ (l : List Module). all_differ have_one_name l ≡ true) (offered-tables c.args.new.now)
     (sym (ap (λ (l : List PublishedModule). all_differ have_one_name (tables_in l)) c.requires.same) ∙ sym c.in_ok-differ.ensures ∙ c.if-not-differ.false)
 
-pub joins-requires-clause-few : goal.joins-requires-clause-few
-joins-requires-clause-few c = rw (c.in_ok-scope.ensures.store, c.in_ok-scope.ensures.new) c.requires.few
-
 pub joins-requires-clause-store : goal.joins-requires-clause-store
 joins-requires-clause-store c = rw c.in_ok-scope.ensures.store c.in_ok-scope.ensures.sound
 
@@ -52,8 +50,9 @@ returns-clause-lowered c =
 
 pub returns-clause-refused : goal.returns-clause-refused
 returns-clause-refused c =
-    if_err _ _ _ (λ (j : MayJoin c.args.sender (tables_in c.args.s.now) (tables_in (published_of c.args.new.now)) (tables_in (with_modules c.args.s.now (published_of c.args.new.now)))).
+    let whole = MayJoin c.args.sender (tables_in c.args.s.now) (tables_in (published_of c.args.new.now)) (tables_in (with_modules c.args.s.now (published_of c.args.new.now))) in
+    IfErr-weaker c.joins.result _ _ (λ e. refused-wider 13 _ whole e (λ j.
     rw (c.in_ok-scope.ensures.store, c.in_ok-scope.ensures.new) (
       subst (λ (l : List Module). are_compatible (tables_in c.args.s.now) l ≡ true) (offered-tables c.args.new.now) j.compatible,
       subst Links (scope-tables c.args.s.now c.args.new.now) j.links,
-    )) c.joins.ensures.refused
+    ))) c.joins.ensures.refused

@@ -44,7 +44,7 @@ pub needs_of-requires : goal.needs_of-requires
 needs_of-requires c =
     let s = c.args.self.now in
     let x = next (goal.at.needs_of-requires c).After-deref in
-    others-below (modules_in s) x.m c.index.result.now c.deref.result.now x.was_found (differ-result (tables_in s.store.now) (offered s.new.now) c.requires.store.once) x.handles c.requires.few
+    others-below (modules_in s) x.m c.index.result.now c.deref.result.now x.was_found (differ-result (tables_in s.store.now) (offered s.new.now) c.requires.store.once) x.handles c.args.self.now.few
 
 pub loop-k-preserved : goal.loop-k-preserved
 loop-k-preserved c =

@@ -24,8 +24,8 @@ returns-then-place-len c n at =
     (sym (replaced-none (tables_in s.store.now) (offered s.new.now) c.args.k c.index-place.result.now n s.named s.once at (place-here (goal.at.returns-then-place-len c).After-index-place)
     (omega (arith, c.if-place-len.true, c.len.ensures.count, length-map s.store.now (λ (p : PublishedModule). p.tables))))))
 
-pub of-requires-clause-there : goal.of-requires-clause-there
-of-requires-clause-there c = omega (arith, c.if-place-len.false, c.len.ensures.count)
+pub of-requires : goal.of-requires
+of-requires c = omega (arith, c.if-place-len.false, c.len.ensures.count)
 
 pub returns : goal.returns
 returns c n at =

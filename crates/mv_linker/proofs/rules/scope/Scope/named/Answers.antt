@@ -1,8 +1,8 @@
 use Rattle.mv_linker.proofs.Common.{[], ◌++◌, ◌+◌, ◌∙◌, ◌∷◌, ◌≡◌, Some, ap, arith, length, refl, slice_get, subst, sym, take, take_all, take_more, same_Some, slice_get_read, list_all, IsTrue, Module}
 use Rattle.mv_linker.proofs.Common.{tables_in, err_from_is_err_and, Links, names_hold, offered, AreNames, modules_in, New}
+use Rattle.mv_move_types.proofs.Refusals.{refused-wider}
 use Rattle.mv_linker.proofs.Joining.Assembling.{bundle-links, named-more, offered-among, offered-at, no-names, more-names, all-names}
 use Rattle.mv_linker.proofs.Members.{all-among}
-use Rattle.mv_linker.proofs.Joining.Resolving.{refused_by}
 use Rattle.mv_linker.proofs.rules.scope.Scope.named.Goals as goal
 
 pub loop-i-init : goal.loop-i-init
@@ -14,7 +14,7 @@ returns-in_err-names-clause-refused c =
     let s = c.args.self.now in
     let n = c.index-self-i.result in
     let among = offered-among s.new.now c.loop-i.i n (slice_get_read s.new.now (length s.new.now) c.loop-i.i n refl c.loop-i-test.true c.index-self-i.is) in
-    rw (p.1, p.2) (refused_by (IsTrue (names_hold (modules_in s) c.module.result.now)) (Links (modules_in s)) _
+    rw (p.1, p.2) (refused-wider 13 (IsTrue (names_hold (modules_in s) c.module.result.now)) (Links (modules_in s)) _
     (λ (links : Links (modules_in s)). ap (names_hold (modules_in s)) c.module.ensures.value ∙ ap (λ (x : New). names_hold (modules_in s) x.module) (sym c.index-self-i.is)
     ∙ all-among (names_hold (modules_in s)) (offered s.new.now) n.module (bundle-links (tables_in s.store.now) (offered s.new.now) c.requires.fits.once links).named among) c.in_err-names.ensures.refused)
 

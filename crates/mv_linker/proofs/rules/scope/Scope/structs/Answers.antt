@@ -1,21 +1,22 @@
 use Rattle.mv_linker.proofs.Common.{ap, arith, length, err_from_is_err_and, modules_in}
-use Rattle.mv_linker.proofs.Joining.Resolving.{refused_by, no-structs, more-structs, all-structs, struct-of-all}
+use Rattle.mv_move_types.proofs.Refusals.{refused-wider}
+use Rattle.mv_linker.proofs.Joining.Resolving.{all-structs, struct-of-all, none-found, one-found-more}
 use Rattle.mv_linker.proofs.Orders.{within-same, past-same, read-same}
 use Rattle.mv_linker.proofs.rules.scope.Scope.structs.Goals as goal
 
 pub loop-h-init : goal.loop-h-init
-loop-h-init c = no-structs _ _ _ c.in_ok-found.ensures.items
+loop-h-init c = none-found _ _ _ _ c.in_ok-found.ensures.items
 
 pub returns-in_err-definition-clause-refused : goal.returns-in_err-definition-clause-refused
 returns-in_err-definition-clause-refused c =
     let low = within-same c.loop-h.h c.struct_handles-h-end.result.now c.args.m.now.struct_handles c.loop-h-test.true c.struct_handles-h-end.ensures in
     let p = err_from_is_err_and c.from_residual-in_err-definition.result c.from_residual-in_err-definition.ensures.1 in
-    rw (p.1, p.2) (refused_by _ _ _ (struct-of-all (modules_in c.args.self.now) c.args.m.now c.loop-h.h _ (read-same c.loop-h.h _ _ _ c.struct_handles.ensures low)) c.in_err-definition.ensures.refused)
+    rw (p.1, p.2) (refused-wider 13 _ _ _ (struct-of-all (modules_in c.args.self.now) c.args.m.now c.loop-h.h _ (read-same c.loop-h.h _ _ _ c.struct_handles.ensures low)) c.in_err-definition.ensures.refused)
 
 pub loop-h-preserved : goal.loop-h-preserved
 loop-h-preserved c =
     let low = within-same c.loop-h.h c.struct_handles-h-end.result.now c.args.m.now.struct_handles c.loop-h-test.true c.struct_handles-h-end.ensures in
-    more-structs _ _ _ _ _ _ c.in_ok-definition.definition c.loop-h.invariant c.in_ok-pushed.ensures.ok (read-same c.loop-h.h _ _ _ c.struct_handles.ensures low) c.in_ok-definition.ensures.ok c.in_ok-definition.ensures.there
+    one-found-more _ _ _ _ _ _ _ c.in_ok-definition.definition c.loop-h.invariant c.in_ok-pushed.ensures.ok (read-same c.loop-h.h _ _ _ c.struct_handles.ensures low) c.in_ok-definition.ensures.ok c.in_ok-definition.ensures.there
 
 pub returns-clause-ok : goal.returns-clause-ok
 returns-clause-ok c = record {
@@ -35,6 +36,3 @@ pub structure-requires-clause-handle : goal.structure-requires-clause-handle
 structure-requires-clause-handle c =
     let low = within-same c.loop-h.h c.struct_handles-h-end.result.now c.args.m.now.struct_handles c.loop-h-test.true c.struct_handles-h-end.ensures in
     read-same c.loop-h.h _ _ _ c.struct_handles.ensures low
-
-pub structure-requires-clause-few : goal.structure-requires-clause-few
-structure-requires-clause-few c = c.requires.few

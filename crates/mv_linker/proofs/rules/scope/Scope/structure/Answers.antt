@@ -22,7 +22,7 @@ returns-in-None-clause-refused c = (
 
 pub definition-requires-clause-place : goal.definition-requires-clause-place
 definition-requires-clause-place c =
-    below-most _ _ _ (target_below (modules_in c.args.self.now) c.args.m.now c.args.targets.now c.requires.named c.args.handle.module c.in-Some.target.now c.in-Some.ensures.there) c.requires.few
+    below-most _ _ _ (target_below (modules_in c.args.self.now) c.args.m.now c.args.targets.now c.requires.named c.args.handle.module c.in-Some.target.now c.in-Some.ensures.there) c.args.self.now.few
 
 pub returns-in-Some-struct_in-clause-ok : goal.returns-in-Some-struct_in-clause-ok
 returns-in-Some-struct_in-clause-ok c =

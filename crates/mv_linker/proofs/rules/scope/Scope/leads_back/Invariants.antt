@@ -1,9 +1,0 @@
-use Rattle.mv_linker.proofs.Common.{◌+◌, length, modules_in}
-use Rattle.mv_linker.proofs.Cycles.Searching.{IsSearch, left}
-use Rattle.mv_linker.proofs.rules.scope.Scope.leads_back.Given as goal
-
-abbrev pub invariant-search : goal.invariant-search
-invariant-search l = IsSearch (modules_in l.self) l.base l.start l.fn.done l.chain.items l.met l.done
-
-abbrev pub decreases-search : goal.decreases-search
-decreases-search l = left l.met (length (modules_in l.self)) + left l.done (length (modules_in l.self))

@@ -1,6 +1,0 @@
-use Rattle.mv_linker.proofs.Common.{◌≡◌, ◌<◌, [], ℕ, Some, modules_in, slice_get}
-use Rattle.mv_linker.specs.Finished.{LeadsToFinished}
-use Rattle.mv_linker.proofs.rules.scope.Scope.need_first_alone.Given as goal
-
-abbrev pub invariant-loop-k : goal.invariant-loop-k
-invariant-loop-k l = (k p : ℕ) → k < l.k → slice_get l.self.places.items k ≡ Some p → LeadsToFinished (modules_in l.self) l.base [] p

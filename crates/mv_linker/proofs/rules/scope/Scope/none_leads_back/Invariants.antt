@@ -1,6 +1,0 @@
-use Rattle.mv_linker.proofs.Common.{modules_in}
-use Rattle.mv_linker.proofs.Cycles.Searching.{IsSearchOfFirst}
-use Rattle.mv_linker.proofs.rules.scope.Scope.none_leads_back.Given as goal
-
-abbrev pub invariant-loop-k : goal.invariant-loop-k
-invariant-loop-k l = IsSearchOfFirst (modules_in l.self) l.base l.self.places.items l.met l.done l.k
