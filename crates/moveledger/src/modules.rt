@@ -21,8 +21,10 @@ pub fn sound<'a>(alloc: Global, bytes: &'a [u8]) -> Result<Typed<'a>, Refusal>
     are_bytes(bytes);
     let module = mv_binary_format::decode(alloc, bytes)?;
     let bounded = mv_bounds::check(alloc, module)?;
+    // For the prover: the module is in bounds, and its definitions are its own.
     let _defined = bounded.module();
     let typed = mv_type_states::check(alloc, bounded)?;
+    // For the prover: the module is well typed.
     let _sound = typed.module();
     Ok(typed)
 }

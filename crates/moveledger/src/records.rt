@@ -30,7 +30,8 @@ fn length_at(bytes: &[u8]) -> Option<(usize, usize)>
 
 /// The record that bytes begin with; None where no whole one stands there. It isn't answered, and takes no memory.
 pub fn first_record(bytes: &[u8]) -> Option<Front<'_>>
-    ensures { MatchOption result (NoWhole bytes.entry.now) (λ front. IsText (take front.length bytes.entry.now) front.kind front.payload.now × (front.length ≤ length bytes.entry.now)) }
+    ensures { MatchOption result (NoWhole bytes.entry.now) (λ front. IsText (take front.length bytes.entry.now) front.kind front.payload.now
+        × (front.length ≤ length bytes.entry.now)) }
 {
     let (kind, rest) = bytes.split_first()?;
     let (length, used) = length_at(rest)?;

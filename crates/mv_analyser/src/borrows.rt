@@ -51,7 +51,7 @@ fn stated_and(
     Ok(blocks)
 }
 
-/// No struct has more than 32 fields, and no field is a reference.
+/// For the prover: no struct has more than 32 fields, and no field is a reference.
 fn has_plain_fields(m: &Typed<'_>)
     ensures few { IsTrue (list_all (λ d. nat_le (length d.fields) 32) m.now.structs) }
     ensures plain { IsTrue (list_all (λ d. list_all (λ f. not (is_reference_token f.token)) d.fields) m.now.structs) }

@@ -239,7 +239,7 @@ impl<'a> Module<'a> {
         &self.parts().field_handles
     }
 
-    /// Each of its parts has a text, and so the whole module has one.
+    /// For the prover: each of its parts has a text, and so the whole module has one.
     pub fn has_text(&self)
         ensures { HasText self.now }
     {

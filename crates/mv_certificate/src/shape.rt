@@ -36,7 +36,7 @@ pub fn function_at<'t, 'm>(m: &'t Typed<'m>, f: usize) -> &'t FunctionDefinition
     &m.module().functions()[f]
 }
 
-/// The module defines no more structs than an index can name.
+/// For the prover: the module defines no more structs than an index can name.
 pub fn has_few_structs(m: &Typed<'_>)
     ensures { length m.now.structs ≤ 65536 }
 {
@@ -52,7 +52,7 @@ pub fn graph_of<'t>(m: &'t Typed<'_>, f: usize, function: &FunctionDefinition) -
     m.graph(f)
 }
 
-/// There is a state with which function `f` begins: its locals have types.
+/// For the prover: there is a state with which function `f` begins: its locals have types.
 pub fn has_start(m: &Typed<'_>, f: usize, function: &FunctionDefinition)
     requires inside { f < length m.now.functions }
     requires known { slice_get m.now.functions f ≡ Some function.now }

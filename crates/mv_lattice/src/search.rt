@@ -383,6 +383,7 @@ pub fn search_is_least<D: Domain>(d: &D, g: &Cfg, start: &D::State)
     requires begins { (D.order d.now).may_begin start.now }
     ensures found { (flow : List (Option D.State)) → EndsWith (D.order d.now) g.now start.now flow
         → IsLeastFlow (D.order d.now) g.now start.now flow }
-    ensures need { MeetsNeed (D.order d.now) g.now start.now → (flow : List (Option D.State)) → IsFlow (D.order d.now) g.now flow → ¬ IsClosed (D.order d.now) g.now start.now flow }
+    ensures need { MeetsNeed (D.order d.now) g.now start.now → (flow : List (Option D.State)) → IsFlow (D.order d.now) g.now flow
+        → ¬ IsClosed (D.order d.now) g.now start.now flow }
     ensures complex { MeetsLimit (D.order d.now) g.now start.now → HasLarge (D.order d.now) ⊎ HasChain (D.order d.now) }
 {}

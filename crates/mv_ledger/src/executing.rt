@@ -202,8 +202,10 @@ pub fn execute(published: &mut Published, storage: &mut Storage, call: &Call) ->
     ensures storage_marks { storage.new.marks ≡ storage.old.marks }
     ensures stored { AreFine published.old.modules storage.new.committed }
     ensures small { (runs : ℕ) → All (IsSmall runs) (all_of published.old.tallies) → All (IsSmall (runs + 1)) (all_of published.new.tallies) }
-    ensures applied { IsApplied published.old.modules call.now (told result) storage.old.committed storage.new.committed (all_of published.old.tallies) (all_of published.new.tallies) }
-    ensures kept { RunsTo (told result) storage.old.committed storage.new.committed (all_of published.old.tallies) (all_of published.new.tallies) }
+    ensures applied { IsApplied published.old.modules call.now (told result) storage.old.committed storage.new.committed
+        (all_of published.old.tallies) (all_of published.new.tallies) }
+    ensures kept { RunsTo (told result) storage.old.committed storage.new.committed
+        (all_of published.old.tallies) (all_of published.new.tallies) }
 {
     // For the prover: the tallies are those of the modules.
     published.is_tallied();

@@ -85,6 +85,7 @@ impl Ledger {
     {
         let published = &self.published;
         let key = key_in(address, published.store.definition(name)?);
+        // Where nothing is stored, there are no lines.
         let _words = self.storage.get(&key)?;
         Some(self.lines_of(self.storage.value_at(key), format))
     }

@@ -108,7 +108,8 @@ impl Blocks {
     /// Notes what takes a change back, if a block is open.
     pub fn note(&mut self, before: TallyBefore)
         requires { CanNote 1 self.old }
-        ensures held { Ascend self.old → (modules : List PublishedModule) (old new : List (List Counts)) → tally_back before new ≡ old → held_in self.new modules new ≡ held_in self.old modules old }
+        ensures held { Ascend self.old → (modules : List PublishedModule) (old new : List (List Counts)) → tally_back before new ≡ old
+            → held_in self.new modules new ≡ held_in self.old modules old }
         ensures ascend { Ascend self.old → Ascend self.new }
         ensures len { vec_len self.new.noted ≤ vec_len self.old.noted + 1 }
         ensures capacity { vec_capacity self.new.noted ≡ vec_capacity self.old.noted }

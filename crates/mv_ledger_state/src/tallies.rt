@@ -246,7 +246,8 @@ impl Tallies {
         structs: &[u16],
     ) -> Result<Vec<Tally>, AllocError>
         requires { place < 65536 }
-        ensures { IfOk result (λ v. v.items ≡ unwrap_or (slice_get self.now place) [] ++ map (fresh_tally place) (drop (length (unwrap_or (slice_get self.now place) [])) structs.now)) }
+        ensures { IfOk result (λ v. v.items ≡ unwrap_or (slice_get self.now place) []
+            ++ map (fresh_tally place) (drop (length (unwrap_or (slice_get self.now place) [])) structs.now)) }
     {
         let mut tallies = Vec::new(alloc);
         tallies.extend_from_slice(self.at(place))?;

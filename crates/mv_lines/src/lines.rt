@@ -171,7 +171,8 @@ impl<'a> Lines<'a> {
     ///
     /// If an allocation failed. The same lines are left then.
     pub fn next_piece(&mut self) -> Result<Option<Piece>, AllocError>
-        ensures piece { IfOk result (λ piece. MatchOption piece ((self.old.left ≡ []) × (self.new.left ≡ [])) (λ p. TakesPiece p.is_last p.text.items self.old.left self.new.left)) }
+        ensures piece { IfOk result (λ piece. MatchOption piece ((self.old.left ≡ []) × (self.new.left ≡ []))
+            (λ p. TakesPiece p.is_last p.text.items self.old.left self.new.left)) }
         // A line of text is one piece.
         ensures whole { self.old.format ≡ AsText → IfOk result (λ piece. IfSome piece (λ p. p.is_last ≡ true)) }
         ensures format { self.new.format ≡ self.old.format }

@@ -70,7 +70,8 @@ fn text_of(
     is_json: bool,
     entry: Entry<'_>,
 ) -> Result<Vec<u8>, AllocError>
-    ensures { IfOk result (λ text. text.items ≡ cond is_json (object_of (tables_in store.now) (item_of entry.entry) ++ codes ",") (line_of (tables_in store.now) (item_of entry.entry))) }
+    ensures { IfOk result (λ text. text.items ≡ cond is_json (object_of (tables_in store.now) (item_of entry.entry)
+        ++ codes ",") (line_of (tables_in store.now) (item_of entry.entry))) }
 {
     match entry {
         Entry::Value(key, words) => {

@@ -241,7 +241,8 @@ fn page_with(
     from: Address,
 ) -> Result<PageText, AllocError>
     requires { All (λ e. is_own d e.key ≡ true → AreLeaves kinds.now e.words) storage.now.committed }
-    ensures text { IfOk result (λ page. page.text.items ++ option_map_or (λ next. values_coded kinds.now (values_from storage.now.committed d next)) page.next [] ≡ values_coded kinds.now (values_from storage.now.committed d from)) }
+    ensures text { IfOk result (λ page. page.text.items ++ option_map_or (λ next. values_coded kinds.now (values_from storage.now.committed d next)) page.next []
+        ≡ values_coded kinds.now (values_from storage.now.committed d from)) }
     ensures next { IfOk result (λ page. IfSome page.next (λ next. from < next)) }
 {
     let most = (PAGE_BYTES / value_size(kinds).max(1)).max(1);
@@ -260,7 +261,8 @@ fn page(
     from: Address,
 ) -> Result<PageText, AllocError>
     requires { All (IsFineWords layouts.now) storage.now.committed }
-    ensures text { IfOk result (λ page. values_text (storage_of layouts.now storage.now.committed) d from ≡ page.text.items ++ option_map_or (values_text (storage_of layouts.now storage.now.committed) d) page.next []) }
+    ensures text { IfOk result (λ page. values_text (storage_of layouts.now storage.now.committed) d from
+        ≡ page.text.items ++ option_map_or (values_text (storage_of layouts.now storage.now.committed) d) page.next []) }
     ensures next { IfOk result (λ page. IfSome page.next (λ next. from < next)) }
 {
     // For the prover: the modules are a store's, so each stored value has the leaves that its struct says.

@@ -165,6 +165,7 @@ impl Overlay<'_> {
             (λ k. k ≡ record { address = address; place = place; index = index }) }
     {
         let storage = &*self.storage;
+        // For the prover: what the storage has under a key is as it was committed.
         let _work = &storage.work;
         if place > u16::MAX as u128 {
             return None;

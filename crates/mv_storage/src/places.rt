@@ -186,9 +186,12 @@ impl Places {
         from: usize,
         width: usize,
     ) -> &mut [u128]
-        requires { IfSome place (λ p. (1 ≤ width) × (p < length self.old.slots.items) × ((s : Slot) → slice_get self.old.slots.items p ≡ Some s → IsOwn s × IfSome (of_layer Current s) (λ words. from + width ≤ length words))) }
+        requires { IfSome place (λ p. (1 ≤ width) × (p < length self.old.slots.items)
+            × ((s : Slot) → slice_get self.old.slots.items p ≡ Some s
+            → IsOwn s × IfSome (of_layer Current s) (λ words. from + width ≤ length words))) }
         ensures* loan { sem 𝓛 (LendsAt self.entry place from result) }
-        ensures words { IfSome place (λ p. Some result.now ≡ option_map (λ words. take width (drop from words)) (option_and_then (of_layer Current) (slice_get self.old.slots.items p))) }
+        ensures words { IfSome place (λ p. Some result.now
+            ≡ option_map (λ words. take width (drop from words)) (option_and_then (of_layer Current) (slice_get self.old.slots.items p))) }
         ensures none { place ≡ None → result.now ≡ [] }
     {
         match place {

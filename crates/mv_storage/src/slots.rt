@@ -135,7 +135,8 @@ impl Work {
         ensures at_work { IsAtWork self.new }
         ensures pinned { KeepsPinned self.old.places self.new.places }
         ensures same { (layer : Layer) → ShowsSame layer self.old.places self.new.places }
-        ensures none { IfOk result (λ found. is_some found ≡ is_some (option_and_then (piece from width) (value_at Current self.old.places (record { address = address; place = place; index = index })))) }
+        ensures none { IfOk result (λ found. is_some found ≡ is_some (option_and_then (piece from width)
+            (value_at Current self.old.places (record { address = address; place = place; index = index })))) }
         ensures own { IfOk result (λ found. IfSome found (IsOwnAt self.new.places (record { address = address; place = place; index = index }))) }
     {
         let key = Key {
@@ -174,6 +175,7 @@ impl Work {
         ensures same { (layer : Layer) → ShowsSame layer self.old.places self.new.places }
         ensures at { IfOk result (λ place. get key_cmp self.new.places.tree key ≡ Some place) }
     {
+        // For the prover: a module's place has 16 bits.
         let _place = key.place;
         let fresh = self.places.vacancy()?;
         let had = enter_noted(&mut self.places.tree, &mut self.touched, key, fresh)?;

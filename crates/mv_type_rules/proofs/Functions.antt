@@ -1,12 +1,12 @@
 -- All functions of a module, one after another, and the phases.
 use Rattle.mv_type_rules.proofs.Common.{[], ℕ, ◌++◌, ◌+◌, ◌<◌, ◌∙◌, ◌∷◌, ◌≡◌, Bool, IfSome, IsTrue, List, None, Option, Some, ap, arith, get_or, length, length-append, map, refl, slice_get}
 use Rattle.mv_type_rules.proofs.Common.{subst, suc, sym, take, length-map, map-append, take_more, MatchOption-at_some, get_or_from_slice_get, same_Some, slice_get-get_or}
-use Rattle.mv_type_rules.proofs.Common.{slice_get_read, slice_get_within, FunctionDefinition, Module, IsRefusedBy, IsRefusedIn, Refusal, Cfg, AreGraphs, types_before, Types}
+use Rattle.mv_type_rules.proofs.Common.{slice_get_read, slice_get_within, FunctionDefinition, Module, IsRefusedIn, Refusal, Cfg, AreGraphs, types_before, Types}
 use Rattle.mv_type_rules.proofs.Common.{function_is_typed}
 use Rattle.std.proofs.Common.{option_map, ◌⊎◌, ⊎_elim}
 use Rattle.std.specs.List.{list_all}
 use Rattle.std.proofs.lemmas.Option.{slice_get-map}
-use Rattle.mv_move_types.proofs.Refusals.{refused-weaker, refused-wider}
+use Rattle.mv_move_types.proofs.Refusals.{refused-wider}
 use Rattle.mv_cfg.specs.Blocks.{ends_well, FlowHolds}
 use Rattle.mv_cfg.specs.FlowGraph.{IsFlowGraph}
 use Rattle.mv_type_rules.specs.TypesHold.{TypesHold}
@@ -16,10 +16,6 @@ use Rattle.mv_bound_rules.proofs.Entries.{last_or_before, all_at, element_at}
 pub list_all-each : {A : Type 0} (p : A → Bool) (xs : List A) → ((i : ℕ) (x : A) → slice_get xs i ≡ Some x → IsTrue (p x)) → IsTrue (list_all p xs)
 list_all-each p [] each = refl
 list_all-each p (x ∷ xs) each = rw (each 0 x refl) (list_all-each p xs (λ i y h. each (suc i) y h))
-
--- a refusal in a phase, told as a failure of that phase
-pub refused-as : (phase : ℕ) (rules : Type 0) (Fails : ℕ → Type 0) (e : Refusal) → ((rules → ⊥) → Fails phase) → IsRefusedIn phase rules e → IsRefusedBy Fails e
-refused-as phase rules Fails e so = refused-weaker (λ p. (p ≡ phase) × (rules → ⊥)) Fails e (λ p r. subst Fails (sym r.0) (so r.1))
 
 pub AreGraphs-push : (fs : List FunctionDefinition) (n : ℕ) (gs : List Cfg) (g : Cfg) → AreGraphs fs n gs → n < length fs → IfSome (slice_get fs n) (λ d. IsFlowGraph d.code g)
     → AreGraphs fs (n + 1) (gs ++ g ∷ [])

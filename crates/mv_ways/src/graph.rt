@@ -88,7 +88,7 @@ impl Graph {
         self.provenances.to_edges(alloc)
     }
 
-    /// The edges ascend.
+    /// For the prover: the edges ascend.
     #[tactic(auto, using(crate::proofs::Held::held_ascending))]
     pub(crate) fn ascend(&self)
         ensures { IsTrue (are_ascending self.now) }

@@ -26,7 +26,8 @@ fn push_reborrow<'a>(
     place: u16,
     token: Token,
 ) -> Result<(), AllocError>
-    ensures { OnOk result ((es : List EdgeRecord) → taken_over reborrows.new.items es ≡ taken_over reborrows.old.items es ++ result_edges mutable.now all.now place (token ∷ []) es) }
+    ensures { OnOk result ((es : List EdgeRecord) → taken_over reborrows.new.items es
+        ≡ taken_over reborrows.old.items es ++ result_edges mutable.now all.now place (token ∷ []) es) }
 {
     let givers = match token {
         Token::Plain(_) => return Ok(()),

@@ -34,6 +34,7 @@ impl<'d, 'm> Site<'d, 'm> {
         ensures { result ≡ position_of self.now field }
     {
         let module = self.scope.module.module();
+        // For the prover: structs have few fields, so that a position fits.
         let _structs = module.structs();
         match self.field_handle(field) {
             Some(handle) => Some(handle.position as u8),
@@ -54,8 +55,10 @@ impl<'d, 'm> Site<'d, 'm> {
     /// Borrows a field: the new reference stands where its operand stood.
     #[tactic(auto, using(crate::proofs::Rows::field_borrowed), unfolding(mv_certificate_rules::specs::BorrowRules::edges_after))]
     pub fn borrow_field(&self, alloc: Global, field: u16, s: &mut Graph) -> Result<(), AllocError>
-        ensures mutable { IsSome (edges_after self.now (Instruction.MutBorrowField field) s.old) → OnOk result (ordered (edges_after self.now (Instruction.MutBorrowField field) s.old) ≡ Some s.new) }
-        ensures immutable { IsSome (edges_after self.now (Instruction.ImmBorrowField field) s.old) → OnOk result (ordered (edges_after self.now (Instruction.ImmBorrowField field) s.old) ≡ Some s.new) }
+        ensures mutable { IsSome (edges_after self.now (Instruction.MutBorrowField field) s.old)
+            → OnOk result (ordered (edges_after self.now (Instruction.MutBorrowField field) s.old) ≡ Some s.new) }
+        ensures immutable { IsSome (edges_after self.now (Instruction.ImmBorrowField field) s.old)
+            → OnOk result (ordered (edges_after self.now (Instruction.ImmBorrowField field) s.old) ≡ Some s.new) }
     {
         match self.position(field) {
             Some(position) => s.extend(alloc, position, self.top()),

@@ -29,7 +29,8 @@ pub fn read_body(
     tallies: &mut Tallies,
 ) -> Result<Storage, Unread>
     requires few { length store.now ≤ 65536 }
-    ensures ok { IfOk result (λ s. body_from (form_of form) (tables_in store.now) (length (all_of tallies.old)) reader.old ≡ Some ((map counts_of (all_of tallies.new), s.committed), [])) }
+    ensures ok { IfOk result (λ s. body_from (form_of form) (tables_in store.now) (length (all_of tallies.old)) reader.old
+        ≡ Some ((map counts_of (all_of tallies.new), s.committed), [])) }
     ensures refused { IfErr result (IsUnreadBody (form_of form) (tables_in store.now) (length (all_of tallies.old)) reader.old) }
     ensures kept { map (map struct_of) tallies.new ≡ map (map struct_of) tallies.old }
     ensures few { IfOk result (λ s. length s.committed < 2 ^ 64) }

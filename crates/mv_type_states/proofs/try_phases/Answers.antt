@@ -1,6 +1,7 @@
 use Rattle.mv_type_states.proofs.Common.{err_from_is_err_and}
+use Rattle.mv_move_types.proofs.Refusals.{refused-as}
 use Rattle.mv_type_rules.specs.Sound.{ill_signed, unable, endless, ill_typed}
-use Rattle.mv_type_rules.proofs.Functions.{refused-as, FlowHolds-from_AreGraphs}
+use Rattle.mv_type_rules.proofs.Functions.{FlowHolds-from_AreGraphs}
 use Rattle.mv_type_states.proofs.try_phases.Goals as goal
 
 pub returns-in_err-check-clause-refused : goal.returns-in_err-check-clause-refused

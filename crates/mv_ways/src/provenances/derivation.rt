@@ -116,7 +116,8 @@ impl ProvenanceGraph {
     ) -> bool
         requires inside { end < length self.now.provenances }
         requires room { end < length room.old }
-        ensures { IsTold S.after sink.old (edges_with self.now.sources to (origins_at (all_derived self.now.provenances) end) (a_tail (record { path = []; is_open = is_open }) ∷ [])) result sink.new }
+        ensures { IsTold S.after sink.old (edges_with self.now.sources to (origins_at (all_derived self.now.provenances) end)
+            (a_tail (record { path = []; is_open = is_open }) ∷ [])) result sink.new }
     {
         let mut at = room.len();
         let mut next = Some(end);

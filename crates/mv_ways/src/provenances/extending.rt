@@ -28,7 +28,8 @@ impl ProvenanceGraph {
     /// Whether a function returned what a provenance leads to, so that all that leads there is open.
     pub(super) fn is_returned(&self, place: usize) -> bool
         requires { place < length self.now.provenances }
-        ensures fields { IsTrue result → (f : ℕ) → changed_origins (extended f) (origins_at (all_origins self.now.provenances) place) ≡ origins_at (all_origins self.now.provenances) place }
+        ensures fields { IsTrue result → (f : ℕ) → changed_origins (extended f) (origins_at (all_origins self.now.provenances) place)
+            ≡ origins_at (all_origins self.now.provenances) place }
         ensures opened { IsTrue result → changed_origins opened (origins_at (all_origins self.now.provenances) place) ≡ origins_at (all_origins self.now.provenances) place }
     {
         match &self.provenances()[place] {
@@ -41,7 +42,8 @@ impl ProvenanceGraph {
     fn alike_field(&self, over: usize, position: u8) -> Option<usize>
         requires { over < length self.now.provenances }
         ensures below { IfSome result (λ provenance. provenance < length self.now.provenances) }
-        ensures origins { IfSome result (λ provenance. origins_at (all_origins self.now.provenances) provenance ≡ changed_origins (extended position) (origins_at (all_origins self.now.provenances) over)) }
+        ensures origins { IfSome result (λ provenance. origins_at (all_origins self.now.provenances) provenance
+            ≡ changed_origins (extended position) (origins_at (all_origins self.now.provenances) over)) }
     {
         let provenances = self.provenances();
         for place in over + 1..provenances.len() {
@@ -57,7 +59,8 @@ impl ProvenanceGraph {
         requires { over < length self.old.provenances }
         ensures below { IfOk result (λ provenance. provenance < length self.new.provenances) }
         ensures more { OnOk result (HasMoreProvenances self.old self.new) }
-        ensures origins { IfOk result (λ provenance. origins_at (all_origins self.new.provenances) provenance ≡ changed_origins (extended position) (origins_at (all_origins self.old.provenances) over)) }
+        ensures origins { IfOk result (λ provenance. origins_at (all_origins self.new.provenances) provenance
+            ≡ changed_origins (extended position) (origins_at (all_origins self.old.provenances) over)) }
     {
         if self.is_returned(over) {
             return Ok(over);
@@ -73,7 +76,11 @@ impl ProvenanceGraph {
     fn put_reference(&mut self, place: usize, node: Node, provenance: usize)
         requires inside { place < length self.old.references }
         requires below { provenance < length self.old.provenances }
-        ensures { self.new ≡ record { sources = self.old.sources; provenances = self.old.provenances; references = slice_set self.old.references place (a_reference node provenance) } }
+        ensures { self.new ≡ record {
+          sources = self.old.sources;
+          provenances = self.old.provenances;
+          references = slice_set self.old.references place (a_reference node provenance);
+        } }
     {
         self.references[place] = Reference { node, provenance };
     }

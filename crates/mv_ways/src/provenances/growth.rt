@@ -134,7 +134,8 @@ impl ProvenanceGraph {
         requires below { IsTrue (goes_below (length self.old.provenances) provenance) }
         requires known { IsTrue (is_known (length self.old.sources) provenance) }
         ensures referred { OnOk result (self.new ≡ referred node provenance self.old) }
-        ensures edges { OnOk result (edges_of self.new ≡ edges_of self.old ++ flat_map (origin_edges self.old.sources node) (origins_of (all_origins self.old.provenances) provenance)) }
+        ensures edges { OnOk result (edges_of self.new ≡ edges_of self.old
+            ++ flat_map (origin_edges self.old.sources node) (origins_of (all_origins self.old.provenances) provenance)) }
     {
         let place = self.push_provenance(provenance)?;
         self.push_reference(node, place)

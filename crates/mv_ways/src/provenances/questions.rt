@@ -174,7 +174,8 @@ impl ProvenanceGraph {
         requires below { IsTrue (list_all (λ k. nat_lt k place) provenances.now) }
         requires room { place ≤ length noted.now }
         requires noted { AreNoted self.now (P.test from.now) position place noted.now }
-        ensures { SaysOf self.now.sources (P.test from.now) position result (flat_map (λ over. changed_origins opened (origins_at (all_origins self.now.provenances) over)) provenances.now) }
+        ensures { SaysOf self.now.sources (P.test from.now) position result
+            (flat_map (λ over. changed_origins opened (origins_at (all_origins self.now.provenances) over)) provenances.now) }
     {
         let mut passing = Passing::Never;
         for over in provenances {

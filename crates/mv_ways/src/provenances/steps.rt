@@ -205,7 +205,12 @@ impl ProvenanceGraph {
     /// Takes away the last reference, if it is one of a node, and says its provenance.
     fn pop_provenance_of(&mut self, n: Node) -> Option<usize>
         ensures below { IfSome result (λ provenance. provenance < length self.new.provenances) }
-        ensures popped { self.old ≡ record { sources = self.new.sources; provenances = self.new.provenances; references = self.new.references ++ option_map_or (λ provenance. a_reference n provenance ∷ []) result [] } }
+        ensures popped { self.old ≡ record {
+          sources = self.new.sources;
+          provenances = self.new.provenances;
+          references = self.new.references
+              ++ option_map_or (λ provenance. a_reference n provenance ∷ []) result [];
+        } }
     {
         let provenance = self.last_provenance_of(n)?;
         self.pop_reference(n, provenance);

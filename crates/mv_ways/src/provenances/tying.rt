@@ -87,7 +87,8 @@ impl ProvenanceGraph {
         requires { IsTrue (list_all (λ k. nat_lt k (length self.now.provenances)) provenances.now) }
         ensures only { IfSome result (λ provenance. provenances.now ≡ provenance ∷ []) }
         ensures below { IfSome result (λ provenance. provenance < length self.now.provenances) }
-        ensures opened { IfSome result (λ provenance. changed_origins opened (origins_at (all_origins self.now.provenances) provenance) ≡ origins_at (all_origins self.now.provenances) provenance) }
+        ensures opened { IfSome result (λ provenance. changed_origins opened (origins_at (all_origins self.now.provenances) provenance)
+            ≡ origins_at (all_origins self.now.provenances) provenance) }
     {
         match provenances {
             [provenance] => if self.is_returned(*provenance) {
@@ -124,7 +125,8 @@ impl ProvenanceGraph {
     ) -> Result<Vec<Reference>, AllocError>
         ensures kept { OnOk result (edges_of self.new ≡ edges_of self.old) }
         ensures below { IfOk result (λ new. IsTrue (are_below (length self.new.provenances) new.items)) }
-        ensures edges { IfOk result (λ new. sorted (flat_map (reference_edges self.new.sources (all_origins self.new.provenances)) new.items) ≡ sorted (taken_over reborrows.now (edges_of self.old))) }
+        ensures edges { IfOk result (λ new. sorted (flat_map (reference_edges self.new.sources (all_origins self.new.provenances)) new.items)
+            ≡ sorted (taken_over reborrows.now (edges_of self.old))) }
     {
         let mut new: Vec<Reference> = Vec::new(alloc);
         for place in 0..reborrows.len() {

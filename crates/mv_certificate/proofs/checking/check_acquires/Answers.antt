@@ -1,7 +1,7 @@
 use Rattle.mv_certificate.proofs.Common.{IfErr-weaker, subst}
+use Rattle.mv_move_types.proofs.Refusals.{refused-as}
 use Rattle.mv_acquires.specs.Acquires.{AcquiresHold}
 use Rattle.mv_certificate.specs.Answers.{bad_acquires}
-use Rattle.mv_type_rules.proofs.Functions.{refused-as}
 use Rattle.mv_certificate.proofs.checking.check_acquires.Goals as goal
 
 pub returns-clause-refused : goal.returns-clause-refused

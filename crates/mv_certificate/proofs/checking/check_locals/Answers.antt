@@ -1,6 +1,6 @@
 use Rattle.mv_certificate.proofs.Common.{IfErr-weaker}
+use Rattle.mv_move_types.proofs.Refusals.{refused-as}
 use Rattle.mv_certificate.specs.Answers.{bad_locals}
-use Rattle.mv_type_rules.proofs.Functions.{refused-as}
 use Rattle.mv_certificate.proofs.checking.check_locals.Goals as goal
 
 pub returns-clause-refused : goal.returns-clause-refused

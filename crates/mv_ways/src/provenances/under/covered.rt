@@ -131,7 +131,8 @@ impl ProvenanceGraph {
     ) -> bool
         requires inside { place < length self.now.provenances }
         requires covered { AreCovered self.now to others.now covered.now }
-        ensures { (provenance : ProvenanceRecord) → slice_get self.now.provenances place ≡ Some provenance → result ≡ edges_leq (begun_edges self.now.sources to provenance (open_tail path.now ∷ [])) others.now }
+        ensures { (provenance : ProvenanceRecord) → slice_get self.now.provenances place ≡ Some provenance
+            → result ≡ edges_leq (begun_edges self.now.sources to provenance (open_tail path.now ∷ [])) others.now }
     {
         match &self.provenances()[place] {
             Provenance::Stated(origins) => self.are_origins_under(

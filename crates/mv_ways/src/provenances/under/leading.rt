@@ -102,8 +102,10 @@ fn unmark(marks: &mut [Mark])
 /// Notes of provenances that a function had them and returned something that leads there.
 fn mark_given(marks: &mut [Mark], provenances: &[usize])
     requires { IsTrue (list_all (λ k. nat_lt k (length marks.old)) provenances.now) }
-    ensures leads { (k : ℕ) (d : MarkRecord) → k < length marks.old → does_lead (slice_index_or marks.new k d) ≡ (does_lead (slice_index_or marks.old k d) || list_any (λ over. over == k) provenances.now) }
-    ensures given { (k : ℕ) (d : MarkRecord) → k < length marks.old → was_given (slice_index_or marks.new k d) ≡ (was_given (slice_index_or marks.old k d) || list_any (λ over. over == k) provenances.now) }
+    ensures leads { (k : ℕ) (d : MarkRecord) → k < length marks.old
+        → does_lead (slice_index_or marks.new k d) ≡ (does_lead (slice_index_or marks.old k d) || list_any (λ over. over == k) provenances.now) }
+    ensures given { (k : ℕ) (d : MarkRecord) → k < length marks.old
+        → was_given (slice_index_or marks.new k d) ≡ (was_given (slice_index_or marks.old k d) || list_any (λ over. over == k) provenances.now) }
 {
     for over in provenances {
         marks[*over] = Mark::Given;
@@ -113,8 +115,11 @@ fn mark_given(marks: &mut [Mark], provenances: &[usize])
 /// Notes that what a provenance goes over leads where the provenance does.
 fn mark_over(marks: &mut [Mark], provenance: &Provenance)
     requires { IsTrue (goes_below (length marks.old) provenance.now) }
-    ensures leads { (k : ℕ) (d : MarkRecord) → k < length marks.old → does_lead (slice_index_or marks.new k d) ≡ (does_lead (slice_index_or marks.old k d) || goes_over provenance.now k) }
-    ensures given { (k : ℕ) (d : MarkRecord) → k < length marks.old → was_given (slice_index_or marks.new k d) ≡ (was_given (slice_index_or marks.old k d) || list_any (λ over. over == k) (given provenance.now)) }
+    ensures leads { (k : ℕ) (d : MarkRecord) → k < length marks.old
+        → does_lead (slice_index_or marks.new k d) ≡ (does_lead (slice_index_or marks.old k d) || goes_over provenance.now k) }
+    ensures given { (k : ℕ) (d : MarkRecord) → k < length marks.old
+        → was_given (slice_index_or marks.new k d) ≡ (was_given (slice_index_or marks.old k d)
+        || list_any (λ over. over == k) (given provenance.now)) }
 {
     if let Some(over) = derived_from(provenance) {
         marks[over] = marks[over].leading();
