@@ -3,6 +3,7 @@ which crates they are tried later (tests/edits/later)."""
 
 import hashlib
 import re
+from pathlib import Path
 from threading import Lock
 from typing import Dict, Iterable, Iterator, List, NamedTuple
 
@@ -11,7 +12,9 @@ from common import CRATES, TOP
 from must_fail import MORE, Edit, edits_of
 
 FIXED, TRIED, LATER = TOP / "tests/edits/fixed", TOP / "tests/edits/tried", TOP / "tests/edits/later"
-PARTS = "src", "specs", "proofs"
+PARTS = "src", "specs"
+# How a line begins that is a comment, by the kind of file.
+COMMENTS = {".rt": "//", ".antt": "--"}
 # The gate tries so many at least each time.
 LEAST = 60
 # More edits than so many that weren't tried on the text of today are for who changed it, before the landing.
@@ -22,8 +25,9 @@ PAGES = "crates/moveledger/specs/Headline.antt", "crates/moveledger/specs/Outcom
 CLAUSE = re.compile(r"^(abbrev|record|data) pub (\w+)|^pub (abbrev|record|data) (\w+)|^  (?:pub )?([a-z]\w*) : (.*)")
 ONLY_NAMED = re.compile(r"(?:List .*|LedgerView|Request)$")
 NOTING = Lock()
-ABOUT = """# On which text the must-fail edits were tried last, when a goal refused each: a line for each crate, with the checksum of its src, specs and
-# proofs then, and below it each of its edits, with the checksum of the edit's own text. scripts/try-edits CRATE writes it.
+ABOUT = """# On which text the must-fail edits were tried last, when a goal refused each: a line for each crate, with the checksum of its src and specs
+# then, without comments and layout, and below it each of its edits, with the checksum of the edit's own text. scripts/try-edits CRATE
+# writes it.
 """
 
 
@@ -32,12 +36,19 @@ def name_of(edit: Edit) -> str:
     return edit.name[len(MORE):] if edit.name.startswith(MORE) else edit.name
 
 
+def said_in(file: Path) -> str:
+    """What a file says: without the lines that are comments, and without its layout."""
+    lines = file.read_text(encoding="utf-8").splitlines()
+    return " ".join(word for line in lines if not line.lstrip().startswith(COMMENTS[file.suffix]) for word in line.split())
+
+
 def sum_of_code(crate: str) -> str:
-    """The checksum of a crate's code, definitions and proofs, by their names and bytes."""
+    """The checksum of what a crate's code, contracts and definitions say, by the names of their files. A proof proves no wrong body, so proofs
+    don't count."""
     told = hashlib.sha256()
     for part in PARTS:
-        for file in sorted(it for it in (CRATES / crate / part).rglob("*") if it.suffix in (".rt", ".antt")):
-            told.update(f"{hashlib.sha256(file.read_bytes()).hexdigest()} {file.relative_to(CRATES / crate).as_posix()}\n".encode())
+        for file in sorted(it for it in (CRATES / crate / part).rglob("*") if it.suffix in COMMENTS):
+            told.update(f"{hashlib.sha256(said_in(file).encode()).hexdigest()} {file.relative_to(CRATES / crate).as_posix()}\n".encode())
     return told.hexdigest()
 
 
