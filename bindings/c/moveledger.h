@@ -2,9 +2,10 @@
  *
  * A ledger is held by a `moveledger` of yours, which holds none where `own` is NULL. Calls that only read (save, changes, changed_modules,
  * show, audit, and the questions by names and addresses) may use one ledger at once; a call that changes it (apply, begin, rollback,
- * commit, free) is alone with it. A call that finds the ledger in use answers BUSY, and nothing changes. Different ledgers may be used by
- * different threads at the same time. Every call returns, and answers a status. No call aborts the process, if its thread has
- * moveledger_stack_bytes of stack.
+ * commit, free) is alone with it. A call that finds the ledger in use answers BUSY, and nothing changes. That is a guard, and not a lock:
+ * nothing waits, and where some call reads at any time, none that changes begins. Threads that share a ledger take a reader-writer lock that
+ * lets writers in (docs/EMBEDDING.md, Threads). Different ledgers may be used by different threads at the same time. Every call returns, and
+ * answers a status. No call aborts the process, if its thread has moveledger_stack_bytes of stack.
  * What a call changes, and what stays as it was, stands beside it.
  *
  * Compilers: what has the __atomic builtins (GCC, Clang), otherwise C11 with <stdatomic.h>. */
@@ -45,7 +46,8 @@ enum moveledger_status {
     MOVELEDGER_STOPPED = 10        /* the function that takes the pieces of a save answered other than 0 */
 };
 
-/* What holds a ledger, or none: begin with {NULL, 0}. Both parts are the library's own; never copy it to a second one that is used. */
+/* What holds a ledger, or none: begin with {NULL, 0}. Both parts are the library's own; never copy it to a second one that is used. One that
+ * holds none may be a constant. One that holds a ledger isn't: calls that take it as const count themselves in `users`. */
 typedef struct moveledger {
     void *own;
     int32_t users;                      /* how many calls read it now; -1 while one changes it */
@@ -105,8 +107,9 @@ void moveledger_free(moveledger_own *ledger);
 int32_t moveledger_apply(moveledger_own *ledger, const uint8_t *records, size_t length, uint64_t *answered, moveledger_bytes *report);
 /* Blocks. begin opens a block: records are answered in it as ever. rollback closes the newest block and gives back the ledger as it was
  * when that block was opened; commit closes it and keeps what was changed, as a part of the block around it, if there is one. Blocks nest.
- * rollback and commit take no memory and can't fail; NO_BLOCK where no block is open. begin answers MEMORY where memory runs out, and
- * no block is opened then. A block notes what each change replaced, 96 bytes for a value and 80 for a count; the first bundle that is
+ * rollback and commit take no memory and can't fail while a block is open and no other call uses the ledger. While one does, also one that
+ * only reads, they answer BUSY, and the block stays open: ask again when it has ended. NO_BLOCK where no block is open. begin answers MEMORY
+ * where memory runs out, and no block is opened then. A block notes what each change replaced, 96 bytes for a value and 80 for a count; the first bundle that is
  * published in a block also copies the published modules. A save, a show and the questions tell what is held now; a ledger that is loaded
  * has no open block. */
 int32_t moveledger_begin(moveledger_own *ledger);
@@ -126,7 +129,8 @@ int32_t moveledger_changed_modules(moveledger_own *ledger, moveledger_bytes *nam
 int32_t moveledger_save(moveledger_own *ledger, moveledger_bytes *saved);
 /* The same text in pieces of at most 65,536 bytes, one after another: what is needed beside the ledger doesn't grow with what is stored, so a
  * ledger that ran out of memory can be saved. save_to calls `write` with each piece and with `context`, until it answers other than 0: that
- * is STOPPED. It counts as one call that reads the ledger.
+ * is STOPPED. It counts as one call that reads the ledger, so that `write` may ask it, and is answered BUSY where it would change it. `write`
+ * returns, and never leaves by longjmp. In C++ it may throw: the save has then ended, and what it took is freed.
  * It is made of these three: begin makes *saving ready; next gives a piece, or ABSENT at the end, and after MEMORY it may be asked again; end
  * frees what begin and next took. Between the first piece and the last the ledger may not change: otherwise the pieces are those of
  * different ledgers. */
@@ -192,11 +196,28 @@ static inline int moveledger_is_slice(const uint8_t *bytes, size_t length) {
 }
 /* Changes a ledger's number of users from `*from`, unless it is another one, which it then puts there. */
 static inline int moveledger_changes_users(const moveledger *ledger, int32_t *from, int32_t to) {
-    int32_t *users = (int32_t *)&ledger->users;
+    int32_t *users = (int32_t *)(uintptr_t)&ledger->users;
 #ifdef __GNUC__
     return __atomic_compare_exchange_n(users, from, to, 0, __ATOMIC_ACQ_REL, __ATOMIC_ACQUIRE);
 #else
     return atomic_compare_exchange_strong((_Atomic int32_t *)users, from, to);
+#endif
+}
+/* Whether a ledger is held. Nothing is written, so that what holds none may be a constant. */
+static inline int moveledger_holds(const moveledger *ledger) {
+    if (!ledger) return 0;
+#ifdef __GNUC__
+    return __atomic_load_n(&ledger->own, __ATOMIC_RELAXED) != NULL;
+#else
+    return atomic_load((void *_Atomic *)(uintptr_t)&ledger->own) != NULL;
+#endif
+}
+/* Puts what is held. Another call may look meanwhile whether a ledger is. */
+static inline void moveledger_puts_own(moveledger *ledger, void *own) {
+#ifdef __GNUC__
+    __atomic_store_n(&ledger->own, own, __ATOMIC_RELAXED);
+#else
+    atomic_store((void *_Atomic *)&ledger->own, own);
 #endif
 }
 /* Begins a call that changes a ledger. */
@@ -249,51 +270,51 @@ static inline int32_t moveledger_free_tested(moveledger *ledger) {
     if (!ledger) return MOVELEDGER_DONE;
     if (!moveledger_begins_change(ledger)) return MOVELEDGER_BUSY;
     moveledger_own own = {ledger->own};
-    ledger->own = NULL;
+    moveledger_puts_own(ledger, NULL);
     moveledger_free(&own);
     moveledger_ends_use(ledger);
     return MOVELEDGER_DONE;
 }
 static inline int32_t moveledger_apply_tested(moveledger *ledger, const uint8_t *records, size_t length, uint64_t *answered,
                                               moveledger_bytes *report) {
-    if (!ledger || !moveledger_is_slice(records, length) || !answered || !report) return MOVELEDGER_ARGUMENTS;
+    if (!moveledger_holds(ledger) || !moveledger_is_slice(records, length) || !answered || !report) return MOVELEDGER_ARGUMENTS;
     if (!moveledger_begins_change(ledger)) return MOVELEDGER_BUSY;
     moveledger_own own = {ledger->own};
     const int32_t status = moveledger_apply(&own, records, length, answered, report);
-    ledger->own = own.own;
+    moveledger_puts_own(ledger, own.own);
     moveledger_ends_use(ledger);
     return status;
 }
 static inline int32_t moveledger_begin_tested(moveledger *ledger) {
-    if (!ledger) return MOVELEDGER_ARGUMENTS;
+    if (!moveledger_holds(ledger)) return MOVELEDGER_ARGUMENTS;
     if (!moveledger_begins_change(ledger)) return MOVELEDGER_BUSY;
     moveledger_own own = {ledger->own};
     const int32_t status = moveledger_begin(&own);
-    ledger->own = own.own;
+    moveledger_puts_own(ledger, own.own);
     moveledger_ends_use(ledger);
     return status;
 }
 static inline int32_t moveledger_rollback_tested(moveledger *ledger) {
-    if (!ledger) return MOVELEDGER_ARGUMENTS;
+    if (!moveledger_holds(ledger)) return MOVELEDGER_ARGUMENTS;
     if (!moveledger_begins_change(ledger)) return MOVELEDGER_BUSY;
     moveledger_own own = {ledger->own};
     const int32_t status = moveledger_rollback(&own);
-    ledger->own = own.own;
+    moveledger_puts_own(ledger, own.own);
     moveledger_ends_use(ledger);
     return status;
 }
 static inline int32_t moveledger_commit_tested(moveledger *ledger) {
-    if (!ledger) return MOVELEDGER_ARGUMENTS;
+    if (!moveledger_holds(ledger)) return MOVELEDGER_ARGUMENTS;
     if (!moveledger_begins_change(ledger)) return MOVELEDGER_BUSY;
     moveledger_own own = {ledger->own};
     const int32_t status = moveledger_commit(&own);
-    ledger->own = own.own;
+    moveledger_puts_own(ledger, own.own);
     moveledger_ends_use(ledger);
     return status;
 }
 static inline int32_t moveledger_save_tested(const moveledger *ledger, moveledger_bytes *saved) {
     moveledger_clear_bytes(saved);
-    if (!ledger || !saved) return MOVELEDGER_ARGUMENTS;
+    if (!moveledger_holds(ledger) || !saved) return MOVELEDGER_ARGUMENTS;
     if (!moveledger_begins_reading(ledger)) return MOVELEDGER_BUSY;
     moveledger_own own = {ledger->own};
     const int32_t status = moveledger_save(&own, saved);
@@ -303,7 +324,7 @@ static inline int32_t moveledger_save_tested(const moveledger *ledger, moveledge
 static inline int32_t moveledger_changes_tested(const moveledger *ledger, moveledger_bytes *before, moveledger_bytes *now) {
     moveledger_clear_bytes(before);
     moveledger_clear_bytes(now);
-    if (!ledger || !before || !now) return MOVELEDGER_ARGUMENTS;
+    if (!moveledger_holds(ledger) || !before || !now) return MOVELEDGER_ARGUMENTS;
     if (!moveledger_begins_reading(ledger)) return MOVELEDGER_BUSY;
     moveledger_own own = {ledger->own};
     const int32_t status = moveledger_changes(&own, before, now);
@@ -312,7 +333,7 @@ static inline int32_t moveledger_changes_tested(const moveledger *ledger, movele
 }
 static inline int32_t moveledger_changed_modules_tested(const moveledger *ledger, moveledger_bytes *names) {
     moveledger_clear_bytes(names);
-    if (!ledger || !names) return MOVELEDGER_ARGUMENTS;
+    if (!moveledger_holds(ledger) || !names) return MOVELEDGER_ARGUMENTS;
     if (!moveledger_begins_reading(ledger)) return MOVELEDGER_BUSY;
     moveledger_own own = {ledger->own};
     const int32_t status = moveledger_changed_modules(&own, names);
@@ -326,7 +347,7 @@ static inline int32_t moveledger_save_begin_tested(moveledger_saving *saving) {
 }
 static inline int32_t moveledger_save_next_tested(const moveledger *ledger, moveledger_saving *saving, moveledger_bytes *piece) {
     moveledger_clear_bytes(piece);
-    if (!ledger || !saving || !piece) return MOVELEDGER_ARGUMENTS;
+    if (!moveledger_holds(ledger) || !saving || !piece) return MOVELEDGER_ARGUMENTS;
     if (!moveledger_begins_reading(ledger)) return MOVELEDGER_BUSY;
     moveledger_own own = {ledger->own};
     const int32_t status = moveledger_save_next(&own, saving, piece);
@@ -336,26 +357,46 @@ static inline int32_t moveledger_save_next_tested(const moveledger *ledger, move
 static inline void moveledger_save_end_tested(moveledger_saving *saving) {
     if (saving) moveledger_save_end(saving);
 }
+/* A save whose pieces are handed to a function, the ledger that is in use by it, and the piece that the function has. */
+typedef struct moveledger_handing {
+    const moveledger *ledger;
+    moveledger_saving saving;
+    moveledger_bytes piece;
+#ifdef __cplusplus
+    ~moveledger_handing();
+#endif
+} moveledger_handing;
+static inline void moveledger_ends_handing(moveledger_handing *handing) {
+    moveledger_bytes_free(&handing->piece);
+    moveledger_save_end(&handing->saving);
+    moveledger_ends_use(handing->ledger);
+}
+#ifdef __cplusplus
+/* Also where the function throws. */
+inline moveledger_handing::~moveledger_handing() {
+    moveledger_ends_handing(this);
+}
+#endif
 /* Hands the pieces of a save to a function. */
 static inline int32_t moveledger_save_to(const moveledger *ledger, int (*write)(void *context, const uint8_t *bytes, size_t length),
                                          void *context) {
-    moveledger_saving saving = {NULL};
-    moveledger_bytes piece = {NULL, 0, NULL};
-    if (!ledger || !write) return MOVELEDGER_ARGUMENTS;
+    if (!moveledger_holds(ledger) || !write) return MOVELEDGER_ARGUMENTS;
     if (!moveledger_begins_reading(ledger)) return MOVELEDGER_BUSY;
+    moveledger_handing handing = {ledger, {NULL}, {NULL, 0, NULL}};
     moveledger_own own = {ledger->own};
-    int32_t status = moveledger_save_begin(&saving);
-    while (status == MOVELEDGER_DONE && (status = moveledger_save_next(&own, &saving, &piece)) == MOVELEDGER_DONE) {
-        if (write(context, piece.bytes, piece.length)) status = MOVELEDGER_STOPPED;
-        moveledger_bytes_free(&piece);
+    int32_t status = moveledger_save_begin(&handing.saving);
+    while (status == MOVELEDGER_DONE && (status = moveledger_save_next(&own, &handing.saving, &handing.piece)) == MOVELEDGER_DONE) {
+        if (write(context, handing.piece.bytes, handing.piece.length)) status = MOVELEDGER_STOPPED;
+        moveledger_bytes_free(&handing.piece);
     }
-    moveledger_save_end(&saving);
-    moveledger_ends_use(ledger);
+#ifndef __cplusplus
+    moveledger_ends_handing(&handing);
+#endif
     return status == MOVELEDGER_ABSENT ? (int32_t)MOVELEDGER_DONE : status;
 }
 static inline int32_t moveledger_show_tested(const moveledger *ledger, uint32_t form, moveledger_bytes *lines) {
     moveledger_clear_bytes(lines);
-    if (!ledger || !lines) return MOVELEDGER_ARGUMENTS;
+    if (!moveledger_holds(ledger) || !lines) return MOVELEDGER_ARGUMENTS;
     if (!moveledger_begins_reading(ledger)) return MOVELEDGER_BUSY;
     moveledger_own own = {ledger->own};
     const int32_t status = moveledger_show(&own, form, lines);
@@ -364,7 +405,7 @@ static inline int32_t moveledger_show_tested(const moveledger *ledger, uint32_t 
 }
 static inline int32_t moveledger_audit_tested(const moveledger *ledger, uint32_t form, moveledger_bytes *lines) {
     moveledger_clear_bytes(lines);
-    if (!ledger || !lines) return MOVELEDGER_ARGUMENTS;
+    if (!moveledger_holds(ledger) || !lines) return MOVELEDGER_ARGUMENTS;
     if (!moveledger_begins_reading(ledger)) return MOVELEDGER_BUSY;
     moveledger_own own = {ledger->own};
     const int32_t status = moveledger_audit(&own, form, lines);
@@ -380,7 +421,7 @@ static inline const uint8_t *moveledger_text(const char *text) {
 static inline int32_t moveledger_show_value_tested(const moveledger *ledger, const uint8_t *address, const moveledger_struct *name,
                                                    uint32_t form, moveledger_bytes *lines) {
     moveledger_clear_bytes(lines);
-    if (!ledger || !address || !moveledger_is_named(name) || !lines) return MOVELEDGER_ARGUMENTS;
+    if (!moveledger_holds(ledger) || !address || !moveledger_is_named(name) || !lines) return MOVELEDGER_ARGUMENTS;
     if (!moveledger_begins_reading(ledger)) return MOVELEDGER_BUSY;
     moveledger_own own = {ledger->own};
     const int32_t status = moveledger_show_value(&own, address, name->address, moveledger_text(name->module), strlen(name->module),
@@ -391,7 +432,7 @@ static inline int32_t moveledger_show_value_tested(const moveledger *ledger, con
 static inline int32_t moveledger_show_at_tested(const moveledger *ledger, const uint8_t *address, uint32_t form,
                                                 moveledger_bytes *lines) {
     moveledger_clear_bytes(lines);
-    if (!ledger || !address || !lines) return MOVELEDGER_ARGUMENTS;
+    if (!moveledger_holds(ledger) || !address || !lines) return MOVELEDGER_ARGUMENTS;
     if (!moveledger_begins_reading(ledger)) return MOVELEDGER_BUSY;
     moveledger_own own = {ledger->own};
     const int32_t status = moveledger_show_at(&own, address, form, lines);
@@ -402,7 +443,7 @@ static inline int32_t moveledger_show_page_tested(const moveledger *ledger, cons
                                                   uint32_t form, moveledger_bytes *lines, uint8_t *is_more) {
     moveledger_clear_bytes(lines);
     moveledger_clear_reason(is_more);
-    if (!ledger || !moveledger_is_named(name) || !from || !lines || !is_more) return MOVELEDGER_ARGUMENTS;
+    if (!moveledger_holds(ledger) || !moveledger_is_named(name) || !from || !lines || !is_more) return MOVELEDGER_ARGUMENTS;
     if (!moveledger_begins_reading(ledger)) return MOVELEDGER_BUSY;
     moveledger_own own = {ledger->own};
     const int32_t status = moveledger_show_page(&own, name->address, moveledger_text(name->module), strlen(name->module),
@@ -412,7 +453,7 @@ static inline int32_t moveledger_show_page_tested(const moveledger *ledger, cons
 }
 static inline int32_t moveledger_modules_tested(const moveledger *ledger, moveledger_bytes *names) {
     moveledger_clear_bytes(names);
-    if (!ledger || !names) return MOVELEDGER_ARGUMENTS;
+    if (!moveledger_holds(ledger) || !names) return MOVELEDGER_ARGUMENTS;
     if (!moveledger_begins_reading(ledger)) return MOVELEDGER_BUSY;
     moveledger_own own = {ledger->own};
     const int32_t status = moveledger_modules(&own, names);
@@ -423,7 +464,7 @@ static inline int32_t moveledger_module_tested(const moveledger *ledger, const u
                                                moveledger_bytes *module, moveledger_bytes *certificate) {
     moveledger_clear_bytes(module);
     moveledger_clear_bytes(certificate);
-    if (!ledger || !address || !name || !module || !certificate) return MOVELEDGER_ARGUMENTS;
+    if (!moveledger_holds(ledger) || !address || !name || !module || !certificate) return MOVELEDGER_ARGUMENTS;
     if (!moveledger_begins_reading(ledger)) return MOVELEDGER_BUSY;
     moveledger_own own = {ledger->own};
     const int32_t status = moveledger_module(&own, address, moveledger_text(name), strlen(name), module, certificate);
@@ -432,7 +473,7 @@ static inline int32_t moveledger_module_tested(const moveledger *ledger, const u
 }
 static inline int32_t moveledger_runs_tested(const moveledger *ledger, uint64_t *runs) {
     moveledger_clear_count(runs);
-    if (!ledger || !runs) return MOVELEDGER_ARGUMENTS;
+    if (!moveledger_holds(ledger) || !runs) return MOVELEDGER_ARGUMENTS;
     if (!moveledger_begins_reading(ledger)) return MOVELEDGER_BUSY;
     moveledger_own own = {ledger->own};
     const int32_t status = moveledger_runs(&own, runs);
@@ -443,7 +484,7 @@ static inline int32_t moveledger_tally_tested(const moveledger *ledger, const mo
                                               uint64_t *unpacked) {
     moveledger_clear_count(packed);
     moveledger_clear_count(unpacked);
-    if (!ledger || !moveledger_is_named(name) || !packed || !unpacked) return MOVELEDGER_ARGUMENTS;
+    if (!moveledger_holds(ledger) || !moveledger_is_named(name) || !packed || !unpacked) return MOVELEDGER_ARGUMENTS;
     if (!moveledger_begins_reading(ledger)) return MOVELEDGER_BUSY;
     moveledger_own own = {ledger->own};
     const int32_t status = moveledger_tally(&own, name->address, moveledger_text(name->module), strlen(name->module),
