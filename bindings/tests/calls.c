@@ -198,6 +198,38 @@ static void try_name(const moveledger *ledger, const moveledger_struct *name, bo
     want(it.is_more == 0 && memcmp(it.from, (uint8_t[16]){0}, 16) == 0, what);
 }
 
+/* What holds no ledger may be a constant, in memory that can't be written. */
+static const moveledger NONE = {NULL, 0};
+
+static int take_none(void *context, const uint8_t *bytes, size_t size)
+{
+    (void)context, (void)bytes, (void)size;
+    want(false, "no piece is handed on where there is no ledger");
+    return 0;
+}
+
+static void try_constant(void)
+{
+    moveledger_saving saving = {NULL};
+    struct answers it = unanswered();
+    want_refused(&NONE, MOVELEDGER_ARGUMENTS, "a question of a constant without a ledger");
+    want_nothing(moveledger_save(&NONE, &it.bytes), MOVELEDGER_ARGUMENTS, &it.bytes, "a save of a constant");
+    want(moveledger_save_to(&NONE, take_none, NULL) == MOVELEDGER_ARGUMENTS, "a save of a constant in pieces");
+    it = unanswered();
+    want_nothing(moveledger_show(&NONE, MOVELEDGER_TEXT, &it.bytes), MOVELEDGER_ARGUMENTS, &it.bytes, "a show of a constant");
+    it = unanswered();
+    want_nothing(moveledger_audit(&NONE, MOVELEDGER_JSON, &it.bytes), MOVELEDGER_ARGUMENTS, &it.bytes, "an audit of a constant");
+    it = unanswered();
+    want_nothing(moveledger_changes(&NONE, &it.bytes, &it.second), MOVELEDGER_ARGUMENTS, &it.bytes, "changes of a constant, before");
+    want_nothing(MOVELEDGER_ARGUMENTS, MOVELEDGER_ARGUMENTS, &it.second, "changes of a constant, now");
+    it = unanswered();
+    want_nothing(moveledger_changed_modules(&NONE, &it.bytes), MOVELEDGER_ARGUMENTS, &it.bytes, "changed modules of a constant");
+    it = unanswered();
+    want(moveledger_save_begin(&saving) == MOVELEDGER_DONE, "a save is begun");
+    want_nothing(moveledger_save_next(&NONE, &saving, &it.bytes), MOVELEDGER_ARGUMENTS, &it.bytes, "a piece of a constant");
+    moveledger_save_end(&saving);
+}
+
 static void try_arguments_of_questions(const moveledger *ledger)
 {
     const moveledger none = {NULL, 0};
@@ -306,6 +338,40 @@ static void try_pages(moveledger *ledger, size_t most, unsigned long wanted)
         ++pages;
     }
     want(told == wanted && pages >= wanted / most, "all pages tell all values");
+}
+
+/* Takes a piece of a save, and asks the ledger and would change it meanwhile. */
+static int meddle(void *context, const uint8_t *bytes, size_t size)
+{
+    moveledger *ledger = context;
+    moveledger_bytes report = {NULL, 0, NULL};
+    uint64_t count = 7;
+    (void)bytes, (void)size;
+    want(moveledger_commit(ledger) == MOVELEDGER_BUSY, "a block of a ledger that is read isn't kept");
+    want(moveledger_rollback(ledger) == MOVELEDGER_BUSY, "a block of a ledger that is read isn't taken back");
+    want(moveledger_begin(ledger) == MOVELEDGER_BUSY, "no block is opened of a ledger that is read");
+    want(moveledger_apply(ledger, stream, length, &count, &report) == MOVELEDGER_BUSY && count == 7, "a ledger that is read isn't changed");
+    want(moveledger_free(ledger) == MOVELEDGER_BUSY && ledger->own != NULL, "a ledger that is read isn't freed");
+    want(moveledger_runs(ledger, &count) == MOVELEDGER_DONE && count == 2, "a ledger that is read is asked");
+    return 0;
+}
+
+/* A call that finds a ledger in use does nothing: the block stays open, and is closed when the other call has ended. */
+static void try_busy(void)
+{
+    moveledger ledger = {NULL, 0};
+    moveledger_bytes report = {NULL, 0, NULL};
+    uint64_t answered = 0, runs = 0;
+    want(moveledger_new(&ledger) == MOVELEDGER_DONE, "a ledger is made");
+    want(moveledger_apply(&ledger, stream, length, &answered, &report) == MOVELEDGER_DONE, "records are answered");
+    want(moveledger_begin(&ledger) == MOVELEDGER_DONE, "a block is opened");
+    want(moveledger_apply(&ledger, stream + FIRST, length - FIRST, &answered, &report) == MOVELEDGER_DONE, "a record is answered in it");
+    want(moveledger_save_to(&ledger, meddle, &ledger) == MOVELEDGER_DONE, "a save in a block");
+    want(moveledger_rollback(&ledger) == MOVELEDGER_DONE, "the block stayed open");
+    want(moveledger_runs(&ledger, &runs) == MOVELEDGER_DONE && runs == 1, "it is taken back");
+    want(moveledger_rollback(&ledger) == MOVELEDGER_NO_BLOCK, "no further one is open");
+    moveledger_bytes_free(&report);
+    moveledger_free(&ledger);
 }
 
 /* Questions by names and addresses: they change nothing, and a ledger that is changed meanwhile isn't asked. */
@@ -524,6 +590,8 @@ int main(int words, char **word)
     length = fread(stream, 1, sizeof stream, file);
     fclose(file);
     try_arguments();
+    try_constant();
+    try_busy();
     try_questions();
     try_threads();
     const unsigned long often = words > 2 ? strtoul(word[2], NULL, 10) : FIRST_COUNT;
