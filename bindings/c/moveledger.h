@@ -217,7 +217,7 @@ static inline void moveledger_puts_own(moveledger *ledger, void *own) {
 #ifdef __GNUC__
     __atomic_store_n(&ledger->own, own, __ATOMIC_RELAXED);
 #else
-    atomic_store((void *_Atomic *)&ledger->own, own);
+    atomic_store((void *_Atomic *)(uintptr_t)&ledger->own, own);
 #endif
 }
 /* Begins a call that changes a ledger. */
@@ -362,27 +362,25 @@ typedef struct moveledger_handing {
     const moveledger *ledger;
     moveledger_saving saving;
     moveledger_bytes piece;
-#ifdef __cplusplus
-    ~moveledger_handing();
-#endif
 } moveledger_handing;
 static inline void moveledger_ends_handing(moveledger_handing *handing) {
     moveledger_bytes_free(&handing->piece);
     moveledger_save_end(&handing->saving);
     moveledger_ends_use(handing->ledger);
 }
-#ifdef __cplusplus
-/* Also where the function throws. */
-inline moveledger_handing::~moveledger_handing() {
-    moveledger_ends_handing(this);
-}
-#endif
 /* Hands the pieces of a save to a function. */
 static inline int32_t moveledger_save_to(const moveledger *ledger, int (*write)(void *context, const uint8_t *bytes, size_t length),
                                          void *context) {
     if (!moveledger_holds(ledger) || !write) return MOVELEDGER_ARGUMENTS;
     if (!moveledger_begins_reading(ledger)) return MOVELEDGER_BUSY;
     moveledger_handing handing = {ledger, {NULL}, {NULL, 0, NULL}};
+#ifdef __cplusplus
+    struct ending { /* also where `write` throws */
+        moveledger_handing *handing;
+        ~ending() { moveledger_ends_handing(handing); }
+    } const ends = {&handing};
+    (void)ends;
+#endif
     moveledger_own own = {ledger->own};
     int32_t status = moveledger_save_begin(&handing.saving);
     while (status == MOVELEDGER_DONE && (status = moveledger_save_next(&own, &handing.saving, &handing.piece)) == MOVELEDGER_DONE) {
