@@ -173,7 +173,7 @@ int32_t moveledger_tally(moveledger_own *ledger, const uint8_t *home, const uint
 
 /* Calls without a ledger. Through this header, read_record gives the record at the front of bytes in a moveledger_record, without answering
  * it; ABSENT where no whole one stands there, and *record is zeros after anything but DONE. With its budget moveledger_most_bytes tells how
- * much it may store. */
+ * much it may store, on average. */
 int32_t moveledger_read_record(const uint8_t *records, size_t length, size_t *size, uint8_t *kind, uint8_t *is_shaped, uint8_t *sender,
                                uint64_t *budget);
 /* prove: the certificate's hexadecimal, as the command prints it, without a line end. It has no limit of time; prove_within takes so many
@@ -496,8 +496,9 @@ static inline int32_t moveledger_read_record_tested(const uint8_t *records, size
                ? moveledger_read_record(records, length, &record->length, &record->kind, &record->is_shaped, record->sender, &record->budget)
                : (int32_t)MOVELEDGER_ARGUMENTS;
 }
-/* The most bytes by which a run with this budget makes a ledger grow: a value of at most 4,300 bytes for each three steps. A budget above
- * 10,000,000 is rejected, and stores nothing. */
+/* The most bytes that a run with this budget adds to a ledger, on average of runs: a value of at most 4,300 bytes for each three steps. A
+ * single run may add more, since lists double: at a power of two of values it adds 32 bytes for each value that is stored, and in a block
+ * the notes grow likewise. docs/EMBEDDING.md says what to leave room for. A budget above 10,000,000 is rejected, and stores nothing. */
 static inline uint64_t moveledger_most_bytes(uint64_t budget) {
     return budget > 10000000 ? 0 : budget / 3 * 4300;
 }

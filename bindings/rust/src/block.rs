@@ -10,7 +10,8 @@ use std::ops::Deref;
 /// as it was when the block was opened.
 ///
 /// Questions are asked of the block as of the ledger. Records are answered through the block, and a block within it is opened
-/// through it, so that none is closed behind another's back.
+/// through it, so that none is closed behind another's back. A block that is forgotten (`std::mem::forget`) stays open as long as
+/// the ledger is there, and no call closes it any more: what is answered afterwards is answered in it.
 #[must_use = "a block that is dropped takes back what was answered in it"]
 #[derive(Debug)]
 pub struct Block<'a> {
