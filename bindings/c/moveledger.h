@@ -108,10 +108,10 @@ int32_t moveledger_apply(moveledger_own *ledger, const uint8_t *records, size_t 
 /* Blocks. begin opens a block: records are answered in it as ever. rollback closes the newest block and gives back the ledger as it was
  * when that block was opened; commit closes it and keeps what was changed, as a part of the block around it, if there is one. Blocks nest.
  * rollback and commit take no memory and can't fail while a block is open and no other call uses the ledger. While one does, also one that
- * only reads, they answer BUSY, and the block stays open: ask again when it has ended. NO_BLOCK where no block is open. begin answers MEMORY
- * where memory runs out, and no block is opened then. A block notes what each change replaced, 96 bytes for a value and 80 for a count; the first bundle that is
- * published in a block also copies the published modules. A save, a show and the questions tell what is held now; a ledger that is loaded
- * has no open block. */
+ * only reads, they answer BUSY, and the block stays open: ask again when it has ended. NO_BLOCK where no block is open. begin answers
+ * MEMORY where memory runs out, and no block is opened then. A block notes what each change replaced, 96 bytes for a value and 80 for a
+ * count, in lists that double; the first bundle that is published in a block also copies the published modules. A save, a show and the
+ * questions tell what is held now; a ledger that is loaded has no open block. */
 int32_t moveledger_begin(moveledger_own *ledger);
 int32_t moveledger_rollback(moveledger_own *ledger);
 int32_t moveledger_commit(moveledger_own *ledger);
@@ -270,8 +270,8 @@ static inline int32_t moveledger_free_tested(moveledger *ledger) {
     if (!ledger) return MOVELEDGER_DONE;
     if (!moveledger_begins_change(ledger)) return MOVELEDGER_BUSY;
     moveledger_own own = {ledger->own};
-    moveledger_puts_own(ledger, NULL);
     moveledger_free(&own);
+    moveledger_puts_own(ledger, own.own);
     moveledger_ends_use(ledger);
     return MOVELEDGER_DONE;
 }
