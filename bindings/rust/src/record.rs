@@ -50,7 +50,7 @@ pub struct Front {
 }
 
 impl Front {
-    /// The most bytes by which the record makes a ledger grow, if it is a run.
+    /// The most bytes that the record adds to a ledger, on average of runs, if it is a run.
     pub fn most_bytes(&self) -> Option<u64> {
         match (self.kind, self.asked) {
             (2, Some((_, budget))) if budget <= 10_000_000 => Some(budget / 3 * 4_300),
