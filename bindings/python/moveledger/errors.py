@@ -55,7 +55,7 @@ class TooLong(LedgerError):
 
 
 class NoBlock(LedgerError):
-    """No block of the ledger is open. Nothing has changed."""
+    """No block of the ledger is open, or that which was asked isn't. Nothing has changed."""
 
 
 class OutOfMemory(LedgerError, MemoryError):

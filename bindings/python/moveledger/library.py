@@ -93,6 +93,7 @@ class Library:
             call = getattr(self.calls, f"moveledger_{name}")
             call.argtypes = arguments
             call.restype = None if name in NO_ANSWER else c_int32
+            setattr(self, name, call)
 
     def __getattr__(self, name: str) -> Callable[..., int]:
         call: Callable[..., int] = getattr(self.calls, f"moveledger_{name}")
@@ -100,7 +101,7 @@ class Library:
 
     def taken(self, given: Bytes) -> bytes:
         """A copy of bytes that the library gave, which are freed."""
-        data = ctypes.string_at(given.bytes, given.length) if given.length else b""
+        data = copied(given)
         self.bytes_free(byref(given))
         return data
 
@@ -124,6 +125,11 @@ class Library:
         status = getattr(self, name)(*words, byref(given), byref(why))
         data = self.taken(given)
         return data if status == DONE else fail(status, why.value)
+
+
+def copied(given: Bytes) -> bytes:
+    """A copy of bytes that the library gave."""
+    return ctypes.string_at(given.bytes, given.length) if given.length else b""
 
 
 def fail(status: int, why: int) -> NoReturn:
