@@ -135,11 +135,12 @@ class Misuse(unittest.TestCase):
         for answered in -1, 1 << 64:
             with self.subTest(answered), self.assertRaises(ValueError):
                 moveledger.Ledger(answered=answered)
-            with moveledger.Ledger() as ledger:
-                ledger.answered = answered
+            with moveledger.Ledger(answered=5) as ledger:
                 with self.assertRaises(ValueError):
-                    ledger.apply(FIRST)
-                self.assertEqual(ledger.show(), [])
+                    ledger.answered = answered
+                self.assertEqual(ledger.answered, 5)
+                ledger.answered = 7
+                self.assertEqual(ledger.apply(FIRST).text, "8 published 1\n9 returned 5\n")
 
     def test_it_has_a_version(self) -> None:
         self.assertRegex(moveledger.__version__, r"^\d+\.\d+\.\d+$")
