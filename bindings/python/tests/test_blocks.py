@@ -12,7 +12,7 @@ from typing import Callable, Generator, Iterator, List, Optional
 
 import moveledger
 
-from test_ledger import COIN, FIRST, PUBLISH, mint
+from test_ledger import COIN, PUBLISH, mint
 
 # How many records take so long that an alarm comes while they are answered, and how many scopes are broken off at random.
 MANY, SCOPES = 40_000, 3_000
