@@ -15,7 +15,7 @@ import moveledger
 from test_ledger import COIN, PUBLISH, mint
 
 # How many records take so long that an alarm comes while they are answered, and how many scopes are broken off at random.
-MANY, SCOPES = 40_000, 3_000
+MANY, SCOPES = 15_000, 1_500
 
 
 class Alarm(Exception):
@@ -199,7 +199,7 @@ class Signals(WithLedger):
     def break_off(self, call: Callable[[], object], is_done: Callable[[], object]) -> None:
         """Has a call broken off while the library is at work. Where the alarm came before that, nothing was done, and it is called again."""
         for _ in range(50):
-            self.assertTrue(self.is_broken_off(0.005, call))
+            self.assertTrue(self.is_broken_off(0.003, call))
             if is_done():
                 return
         self.fail("no call was broken off at work")
@@ -322,10 +322,16 @@ class Signals(WithLedger):
 
         signal.signal(signal.SIGALRM, ring)
         self.addCleanup(signal.setitimer, signal.ITIMER_REAL, 0)
-        records = b"".join(mint(sender) for sender in range(10 * MANY))
-        signal.setitimer(signal.ITIMER_REAL, 0.05, 5)
-        with self.assertRaisesRegex(RuntimeError, "goes on in this thread"):
-            self.ledger.apply(records)
+        records = b"".join(mint(sender) for sender in range(MANY))
+        for _ in range(50):
+            rung.clear()
+            signal.setitimer(signal.ITIMER_REAL, 0.003, 10)
+            try:
+                self.ledger.apply(records)
+            except RuntimeError as error:
+                self.assertIn("goes on in this thread", str(error))
+                return
+        self.fail("no call came while another one was at work")
 
 
 class Reading:
