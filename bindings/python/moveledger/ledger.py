@@ -552,7 +552,7 @@ class Record(NamedTuple):
 
     @property
     def most_bytes(self) -> int:
-        """The most bytes by which a run makes a ledger grow: a value for each three steps. 0 for other kinds, whose bytes say it."""
+        """The most bytes that a run adds to a ledger, on average: a value for each three steps. 0 for other kinds, whose bytes say it."""
         return self.budget // 3 * 4300 if self.budget <= 10_000_000 else 0
 
 
