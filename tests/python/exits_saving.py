@@ -493,6 +493,70 @@ def written_to(folder: str) -> Found:
     yield "a file that has no name any more", found, (NOT_KEPT, b"old", (None, []))
 
 
+def led_elsewhere(folder: str) -> Found:
+    """What comes of a name that leads to something else at the end than at the start."""
+    found: object
+    shelf = Shelf(folder)
+    example = STREAM.read_bytes()
+    for shows in "pipe", "link to a device":
+        place, other = shelf.folder / "place", shelf.file("other", OLD)
+        if shows == "pipe":
+            os.mkfifo(place)
+        else:
+            place.symlink_to("/dev/null")
+        one = Running([program(), "apply", "--save", place, "-"])
+        lines = one.sent(example, 2)
+        place.unlink()
+        place.symlink_to(other)
+        said = f"fault: write\nmoveledger: {place}: {IN_USE}\n"
+        found = lines, one.closed(), other.read_bytes()
+        yield f"a {shows}, and then a ledger of that name", found, (REPORT, (1, b"", said), OLD)
+        place.unlink()
+    for text, is_linked, mode in (OLD, True, 0o600), (OLD, False, 0o600), (b"", False, 0o640):
+        kept = shelf.file("kept", text)
+        kept.chmod(mode)
+        one = Running([program(), "apply", "--save", kept, "-"], preexec_fn=lambda: os.umask(0) and None)
+        lines = one.sent(example, 2)
+        kept.rename(shelf.folder / "moved")
+        if is_linked:
+            kept.symlink_to("moved")
+        status = one.closed()[0]
+        new = shelf.folder / ("kept.unsaved" if is_linked else "kept")
+        found = lines, status, new.exists() and (new.read_bytes(), new.stat().st_mode & 0o7777)
+        yield f"the mode {mode:o} stays where a file is moved{', and a link put there' if is_linked else ''}", found, (REPORT, int(is_linked), (SAVED, mode))
+        for path in kept, new:
+            path.unlink(missing_ok=True)
+    room = shelf.folder / "room"
+    room.mkdir()
+    one = Running([program(), "apply", "--save", room / "kept", "-"])
+    lines = one.sent(example, 2)
+    room.rename(shelf.folder / "old room")
+    room.mkdir()
+    status = one.closed()[0]
+    found = lines, status, sorted(it.name for it in room.iterdir())
+    yield "a folder that is another one by the end", found, (REPORT, 1, ["kept.unsaved"])
+
+
+def all_closed() -> None:
+    for number in 0, 1:
+        os.close(number)
+
+
+def closed_at_first(folder: str) -> Found:
+    """What comes of standard input, output and error that are closed: no other file gets their numbers."""
+    found: object
+    shelf = Shelf(folder)
+    kept = shelf.folder / "kept"
+    for close, shows in (all_closed, "input and output"), (closes(1), "output"):
+        run = subprocess.run([program(), "apply", "--save", kept, STREAM], stderr=subprocess.PIPE, preexec_fn=close)
+        found = run.returncode, fault_in(run.stderr), shelf.state("kept")
+        yield f"a closed standard {shows}", found, (1, WRITE, (None, []))
+    found = ended(["apply", "--save", kept, "-"], preexec_fn=closes(0)), shelf.state("kept")
+    yield "a closed standard input that is read", found, ((1, b"", READ), (None, []))
+    run = subprocess.run([program(), "apply", "--save", kept, STREAM], stdout=subprocess.PIPE, preexec_fn=closes(2))
+    yield "a closed standard error", ((run.returncode, run.stdout), shelf.state("kept")), ((0, REPORT), (SAVED, []))
+
+
 def named(folder: str) -> Found:
     """What comes of names of ledgers."""
     shelf = Shelf(folder)
@@ -600,4 +664,5 @@ def read_only(top: str) -> Found:
 
 
 SAVING: List[Callable[[str], Found]] = [
-    loaded_and_saved, in_use, slips, found_before, leftovers, migrated, replaced, written_to, named, full_disk, read_only]
+    loaded_and_saved, in_use, slips, found_before, leftovers, migrated, replaced, written_to, led_elsewhere, closed_at_first, named, full_disk,
+    read_only]

@@ -16,6 +16,7 @@ from exits_run import (
     no_bytes, program)
 
 ENDS = signal.SIGTERM, signal.SIGINT, signal.SIGHUP
+MORE = signal.SIGQUIT, signal.SIGUSR1, signal.SIGUSR2, signal.SIGALRM
 # A second signal within so many seconds is the first one: scripts/until-signal says why.
 AT_ONCE = 0.2
 SPUN = b"".join(b"%d exhausted steps 10000000\n" % n for n in range(2, 2_000))
@@ -23,7 +24,7 @@ SPUN = b"".join(b"%d exhausted steps 10000000\n" % n for n in range(2, 2_000))
 
 def heard() -> None:
     """Signals as they come, whatever this process was told to ignore."""
-    for number in ENDS:
+    for number in (*ENDS, *MORE):
         signal.signal(number, signal.SIG_DFL)
 
 
@@ -85,6 +86,11 @@ def told_to_end(folder: str) -> Found:
             found = lines, signalled(run), shelf.state("kept")
             yield f"{number.name} to {shows}", found, (REPORT, (128 + number, b"", told(number)), (SAVED, []))
             kept.unlink(missing_ok=True)
+    for number in MORE:
+        run, lines = begun(kept, example + b"\4", 2)
+        run.run.send_signal(number)
+        yield f"{number.name}", (lines, signalled(run), shelf.state("kept")), (REPORT, (128 + number, b"", told(number)), (SAVED, []))
+        kept.unlink(missing_ok=True)
     run, lines = begun(kept, example[:FIRST], 1)
     os.kill(child(run), signal.SIGTERM)
     found = lines, run.sent(example[FIRST:]), run.closed(), shelf.state("kept")

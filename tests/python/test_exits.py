@@ -50,7 +50,7 @@ HELP = {
     b"Options:\n  -h, --help  Print help\n\n"
     b"Version: moveledger --version prints it\n\n"
     b"Exit status: 0 done; 1 a fault, which standard error names; 2 a mistake in the command line, or\n"
-    b"help was asked for; 3 a module, a certificate or a saved ledger is refused, or a module is too\ncomplex.\n",
+    b"help was asked for; 3 a module, a certificate or a saved ledger is refused, a module is too\ncomplex, or a search too long.\n",
     "apply --help": b"Answer the records of a stream, and print the report\n\n"
     b"Usage: moveledger apply [OPTIONS] <FILE>\n\n"
     b"Arguments:\n  <FILE>  The stream of records; - is standard input\n\n"

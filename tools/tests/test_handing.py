@@ -3,6 +3,7 @@
 import fcntl
 import os
 import pty
+import resource
 import runpy
 import select
 import signal
@@ -27,6 +28,8 @@ COPIES = "cat"
 WAITS = 'until [ -e "$0.goes-on" ]; do sleep 0.1; done; cat'
 # More seconds than the busiest machine takes for what is awaited.
 PATIENCE = 600
+# The longest payload.
+LONGEST = 33_554_432
 # What begins as no record does.
 LOST = b"\2" + 10 * b"\x80" + bytes(200)
 
@@ -206,11 +209,22 @@ class Runs(unittest.TestCase):
         self.assertEqual((run.communicate(timeout=PATIENCE), run.returncode), ((b"", b""), 0))
 
     def test_the_status_is_the_programs(self) -> None:
-        ends = [("exit 0", 0), ("exit 1", 1), ("exit 3", 3), ("exit 255", 255), ("kill -KILL $$", 137), ("kill -USR1 $$", 138)]
+        ends = [("exit 0", 0), ("exit 1", 1), ("exit 3", 3), ("exit 255", 255), ("kill -KILL $$", 137), ("kill -SEGV $$", 139)]
         for commands, status in ends:
             with self.subTest(commands):
                 self.assertEqual(self.ended(self.program(commands), *APPLY), (status, b"", b""))
                 self.assertEqual(self.ended(self.program(commands), *APPLY, data=100_000 * record(5)), (status, b"", b""))
+
+    def test_a_record_for_which_there_is_no_memory_ends_it_and_nothing_is_saved(self) -> None:
+        program = self.program('cat && : > "$0.saved"')
+        limit = 40 << 20
+        run = self.started(program, *APPLY, env={**os.environ, "LC_ALL": "C"}, preexec_fn=lambda: resource.setrlimit(resource.RLIMIT_AS, (limit, limit)))
+        try:
+            printed, said = run.communicate(record(5) + record(LONGEST), PATIENCE)
+        except BrokenPipeError:
+            printed, said = run.communicate(None, PATIENCE)
+        wanted = (1, record(5), b"fault: memory\nmoveledger: a record can't be read whole; nothing was saved\n", False)
+        self.assertEqual((run.returncode, printed, said, Path(f"{program}.saved").exists()), wanted)
 
     def test_a_program_that_ends_by_itself_ends_it_too(self) -> None:
         run = self.started(self.program("exit 4"), *APPLY)

@@ -19,7 +19,7 @@ pub const STANDARD_INPUT: &str = "-";
 pub const STANDARD_INPUT_FILE: &str = "/dev/stdin";
 
 /// Where standard output is found by a name, to see what it is.
-const STANDARD_OUTPUT_FILE: &str = "/dev/stdout";
+pub const STANDARD_OUTPUT_FILE: &str = "/dev/stdout";
 
 /// What is said where a read failed that had begun.
 const NOT_READ: &str = "it can't be read to its end";

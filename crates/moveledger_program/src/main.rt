@@ -10,6 +10,7 @@
 #![tactic(auto)]
 
 mod buffered;
+mod closed;
 mod files;
 mod following;
 mod kinds;
@@ -18,8 +19,12 @@ mod program;
 mod saving;
 mod told;
 
+use closed::Closed;
 use std::process::ExitCode;
 
 fn main(rt: HostRuntime) -> ExitCode {
-    ExitCode::from(program::run(&rt))
+    let closed = Closed::taken(&rt);
+    let status = program::run(&rt);
+    closed.end();
+    ExitCode::from(status)
 }

@@ -6,7 +6,7 @@ use crate::bytes::{MARK, filled, is_mark};
 use crate::error::KeepError;
 use crate::holding::{Found, Hold, Lock, Looks, Place, Sort, held, is_one};
 use crate::on_disk::{OnDisk, Whose, set_aside};
-use crate::own_names::{IS_FOLDER, folder_of, lock_name, may_be_saved, new_name};
+use crate::own_names::{EXISTS, IS_FOLDER, folder_of, lock_name, may_be_saved, new_name};
 use crate::telling::Tell;
 use std::fs::{self, File, OpenFile, OpenOptions, Permissions};
 use std::io::{self, ErrorKind, Read};
@@ -28,10 +28,8 @@ const OTHERS_WRITE: u32 = 0o022;
 /// The bit of a folder's mode by which only a file's owner takes it away.
 const STICKY: u32 = 0o1000;
 
-/// The system's numbers of "Operation not permitted", "File exists" and "Invalid cross-device link".
+/// The system's numbers of "Operation not permitted" and "Invalid cross-device link".
 const NOT_PERMITTED: i32 = 1;
-
-const EXISTS: i32 = 17;
 
 const OTHER_DISK: i32 = 18;
 
@@ -40,6 +38,8 @@ const OTHER_DISK: i32 = 18;
 pub struct Claim<F> {
     /// The file that the name leads to by its links.
     pub(crate) target: PathBuf,
+    /// What stood there when the place was claimed.
+    pub(crate) stood: Option<Found>,
     pub(crate) lock_path: PathBuf,
     /// The file that is to take its place.
     pub(crate) new: PathBuf,
@@ -50,8 +50,8 @@ pub struct Claim<F> {
 /// What a ledger is put into.
 #[derive(Drop)]
 pub enum Stand<F> {
-    /// What is no regular file, or is standard output: it is written to as it is.
-    AsItIs,
+    /// What is no regular file, or is standard output, and lies here: it is written to as it is.
+    AsItIs(Place),
     /// The place of a regular file, or of none that is there.
     Place(Claim<F>),
 }
@@ -78,16 +78,18 @@ where
     ensures held { IfOk result (λ stand. (c : _) → stand ≡ Stand.Place c → R.File.is_held c.lock.file) }
 {
     may_be_saved(path)?;
-    let mode = match rt.look_through(path)? {
-        None => 0,
-        Some(found) => match found.sort {
+    let stood = rt.look_through(path)?;
+    if let Some(found) = stood {
+        match found.sort {
             Sort::Folder => return Err(KeepError::Write(Some(IS_FOLDER))),
-            Sort::Other => return Ok(Stand::AsItIs),
-            Sort::File if is_one(found.seen.place, output) => return Ok(Stand::AsItIs),
-            Sort::File => found.mode,
-        },
-    };
-    let claim = locked_place(rt, led_to(rt, path)?, mode)?;
+            Sort::Other => return Ok(Stand::AsItIs(found.seen.place)),
+            Sort::File if is_one(found.seen.place, output) => {
+                return Ok(Stand::AsItIs(found.seen.place));
+            }
+            Sort::File => {}
+        }
+    }
+    let claim = locked_place(rt, led_to(rt, path)?, stood)?;
     match made_ready(rt, &claim, path, load, tell) {
         Ok(()) => Ok(Stand::Place(claim)),
         Err(e) => {
@@ -122,11 +124,11 @@ fn led_to<R: Files + AllocGlobal>(rt: &R, path: &str) -> Result<PathBuf, KeepErr
     Err(KeepError::Write(None))
 }
 
-/// Locks the place of a file where one of this mode stands; 0 where none does.
+/// Locks the place of a file where this one stands, or none.
 fn locked_place<R: Files + Looks + AllocGlobal>(
     rt: &R,
     target: PathBuf,
-    mode: u32,
+    stood: Option<Found>,
 ) -> Result<Claim<R::File>, KeepError>
 where
     R::File: Hold,
@@ -140,9 +142,14 @@ where
     let lock_path = folder_path.join(rt.alloc(), lock_name(rt.alloc(), name)?)?;
     let new = folder_path.join(rt.alloc(), new_name(rt.alloc(), name)?)?;
     let folder = File::open(rt, folder_path)?;
+    let mode = match stood {
+        Some(found) => found.mode,
+        None => 0,
+    };
     let lock = locked(rt, lock_path.as_path(), lock_mode(mode))?;
     Ok(Claim {
         target,
+        stood,
         lock_path,
         new,
         folder,

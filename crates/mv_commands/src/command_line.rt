@@ -177,8 +177,8 @@ fn ledger_commands<'a>(alloc: Global) -> Result<Command<'a>, AllocError>
         .after_help(
             "Version: moveledger --version prints it\n\n\
              Exit status: 0 done; 1 a fault, which standard error names; 2 a mistake in the command line, or\n\
-             help was asked for; 3 a module, a certificate or a saved ledger is refused, or a module is too\n\
-             complex.",
+             help was asked for; 3 a module, a certificate or a saved ledger is refused, a module is too\n\
+             complex, or a search too long.",
         )
         .subcommand_required(true)
         .subcommand(apply_command(alloc)?)?

@@ -4,7 +4,7 @@ ghost use Rattle.std.specs.Prelude.{◌≡◌, ◌↔◌, IfOk, IsTrue, Some, �
 use std::alloc::Allocator;
 use std::fs::{self, File, Metadata, TryLockError};
 use std::io::{self, ErrorKind};
-use std::os::unix::fs::MetadataExt;
+use std::os::unix::fs::{MetadataExt, fchown};
 
 /// Where a file lies: the number of its disk, and its own number there.
 #[derive(Clone, Copy, Debug, PartialEq, Eq)]
@@ -140,6 +140,13 @@ pub trait Hold {
 
     /// What is found of it.
     fn found(&self) -> io::Result<Found>;
+
+    /// Gives it this group, and this owner if one is named. It goes by the open file: a name could lead to another one by now.
+    ///
+    /// # Errors
+    ///
+    /// If this program may not.
+    fn give_to(&self, owner: Option<u32>, group: u32) -> io::Result<()>;
 }
 
 impl Hold for File {
@@ -156,6 +163,10 @@ impl Hold for File {
 
     fn found(&self) -> io::Result<Found> {
         Ok(Found::of(&self.metadata()?))
+    }
+
+    fn give_to(&self, owner: Option<u32>, group: u32) -> io::Result<()> {
+        fchown(self, owner, Some(group))
     }
 }
 

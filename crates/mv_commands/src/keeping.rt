@@ -7,13 +7,13 @@ use crate::bytes::MARK;
 use crate::claim::{Claim, Stand, is_ledger};
 use crate::error::KeepError;
 use crate::fresh::{NewFile, fill};
-use crate::holding::{Found, Hold, Looks, Seen, Sort, is_as_loaded};
+use crate::holding::{Found, Hold, Looks, Place, Seen, Sort, is_as_loaded, is_one};
 use crate::names::{NotPut, put, put_first};
 use crate::on_disk::{OnDisk, Whose, number_of, set_aside};
 use crate::telling::{Notice, Tell};
 use std::fs::{self, File, OpenFile, OpenOptions, Permissions};
 use std::io::{self, Write};
-use std::os::unix::fs::{OpenOptionsExt, PermissionsExt, lchown};
+use std::os::unix::fs::{OpenOptionsExt, PermissionsExt};
 use std::path::Path;
 use std::rt::Files;
 
@@ -39,7 +39,7 @@ const OTHER_BITS: u32 = 0o007;
 /// # Errors
 ///
 /// `NoLedger` if what stands there isn't what was loaded, isn't empty and isn't a saved ledger; `InUse` if another program has
-/// changed it meanwhile; `Write` if it can't be replaced for another reason; `Memory` if an allocation failed. The file that stood
+/// changed it meanwhile, or if the name leads to something else than what is written to as it is; `Write` if it can't be replaced for another reason; `Memory` if an allocation failed. The file that stood
 /// there is as it was, unless only the last step failed, which is told. Where the new file is whole it isn't removed: it stays by a
 /// name that is told.
 pub fn keep<R: Files + Looks + AllocGlobal, T: Tell>(
@@ -54,12 +54,24 @@ where
     R::File: Hold,
 {
     match stand {
-        Stand::AsItIs => {
-            let mut file = OpenOptions::new().append(true).open(rt, path)?;
+        Stand::AsItIs(place) => {
+            let mut file = still_there(rt, path, *place)?;
             Ok(as_it_is(&mut file, text)?)
         }
         Stand::Place(claim) => replace(rt, claim, loaded, text, tell),
     }
+}
+
+/// Opens what was found by this name when it was claimed. What has the name by now may be somebody's ledger.
+fn still_there<R: Files>(rt: &R, path: &str, place: Place) -> Result<R::File, KeepError>
+where
+    R::File: Hold,
+{
+    let file = OpenOptions::new().append(true).open(rt, path)?;
+    if !is_one(file.found()?.seen.place, Some(place)) {
+        return Err(KeepError::InUse);
+    }
+    Ok(file)
 }
 
 /// Writes a text to what is written to as it is.
@@ -80,7 +92,7 @@ fn replace<R: Files + Looks + AllocGlobal, T: Tell>(
 where
     R::File: Hold,
 {
-    let found = rt.look(claim.target.as_str())?;
+    let found = like(rt.look(claim.target.as_str())?, claim.stood);
     let file = match filled_file(rt, claim.new.as_path(), found, text) {
         Ok(file) => file,
         Err(NotFilled::NotMade(e)) => return Err(e),
@@ -101,6 +113,15 @@ where
     Err(e)
 }
 
+/// The file whose mode, owner and group the new one gets: the one that stands in its place, and where none does by now, the one that
+/// stood there when the place was claimed.
+fn like(stands: Option<Found>, stood: Option<Found>) -> Option<Found> {
+    match stands {
+        Some(found) if found.sort == Sort::File => stands,
+        _ => stood,
+    }
+}
+
 /// Why there is no new file that is whole.
 #[derive(Clone, Copy, Debug, PartialEq, Eq)]
 enum NotFilled {
@@ -110,13 +131,16 @@ enum NotFilled {
     Part(KeepError),
 }
 
-/// A new file with a text, with the mode of what stands in its place, and its owner and group if the program may set them.
+/// A new file with a text, with the mode of this one, and its owner and group if the program may set them.
 fn filled_file<R: Files>(
     rt: &R,
     new: Path<'_>,
     found: Option<Found>,
     text: &[u8],
-) -> Result<R::File, NotFilled> {
+) -> Result<R::File, NotFilled>
+where
+    R::File: Hold,
+{
     let mode = found.map(|found| found.mode);
     let mut options = OpenOptions::new();
     options
@@ -128,7 +152,7 @@ fn filled_file<R: Files>(
         Err(e) => return Err(NotFilled::NotMade(KeepError::from(e))),
     };
     let permissions = match found {
-        Some(found) => Some(given(rt, new, &found)),
+        Some(found) => Some(given(&file, &found)),
         None => None,
     };
     if text.len() < MARK {
@@ -143,9 +167,8 @@ fn filled_file<R: Files>(
 }
 
 /// Gives a new file the owner and the group of the old one, as far as the program may, and says which permissions it gets then.
-fn given<R: Files>(rt: &R, new: Path<'_>, old: &Found) -> Permissions {
-    let (owner, group) = (Some(old.owner), Some(old.group));
-    if lchown(rt, new, owner, group).is_ok() || lchown(rt, new, None, group).is_ok() {
+fn given<F: Hold>(new: &F, old: &Found) -> Permissions {
+    if new.give_to(Some(old.owner), old.group).is_ok() || new.give_to(None, old.group).is_ok() {
         return Permissions::from_mode(old.mode);
     }
     Permissions::from_mode(mode_without_group(old.mode))

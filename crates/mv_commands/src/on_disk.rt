@@ -5,7 +5,7 @@ use crate::claim::{Claim, leads_to};
 use crate::error::KeepError;
 use crate::holding::{Hold, Looks, Seen};
 use crate::names::{Names, NotPut, put_aside};
-use crate::own_names::{MOST_NAMES, named_too, numbered, previous_name, unsaved_name};
+use crate::own_names::{EXISTS, MOST_NAMES, named_too, numbered, previous_name, unsaved_name};
 use crate::telling::{Notice, Tell};
 use std::fs::{self, OpenFile};
 use std::io::ErrorKind;
@@ -114,6 +114,7 @@ where
     }
 
     fn place_too(&mut self) -> Result<(), NotPut> {
+        self.look_again()?;
         match fs::hard_link(
             self.rt,
             self.claim.new.as_path(),
@@ -218,7 +219,7 @@ fn renamed_once<R: Files + Looks + AllocGlobal, T: Tell>(
             return Ok(claim.folder.sync_all()?);
         }
     }
-    Err(KeepError::Write(None))
+    Err(KeepError::Write(Some(EXISTS)))
 }
 
 /// The system's number of what is told.

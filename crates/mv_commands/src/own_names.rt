@@ -17,6 +17,9 @@ const OWN: &str = ".moveledger-";
 /// How many names are tried for a file that stays.
 pub const MOST_NAMES: u32 = 10_000;
 
+/// The system's number of "File exists".
+pub const EXISTS: i32 = 17;
+
 /// The system's number of "Is a directory".
 pub const IS_FOLDER: i32 = 21;
 
@@ -109,7 +112,7 @@ pub fn may_be_saved(path: &str) -> Result<(), KeepError> {
 ///
 /// # Errors
 ///
-/// If it can't have another name, or if the first 10,000 are taken.
+/// If it can't have another name; with the system's number of "File exists" if the first 10,000 are taken.
 pub fn named_too<R: Files + AllocGlobal>(
     rt: &R,
     path: Path<'_>,
@@ -125,5 +128,5 @@ pub fn named_too<R: Files + AllocGlobal>(
             Err(e) => return Err(KeepError::from(e)),
         }
     }
-    Err(KeepError::Write(None))
+    Err(KeepError::Write(Some(EXISTS)))
 }

@@ -417,6 +417,10 @@ impl Hold for Open<'_> {
         self.disk.call(self.who)?;
         Ok(self.disk.found(self.number.unwrap_or(0)))
     }
+
+    fn give_to(&self, _owner: Option<u32>, _group: u32) -> io::Result<()> {
+        self.disk.call(self.who)
+    }
 }
 
 /// A program on this disk.
