@@ -1,10 +1,17 @@
-"""Puts records at the end of a log, those of several submitters in one transaction."""
+"""Puts records at the end of a log, those of several submitters in one transaction.
 
-from typing import TYPE_CHECKING, Dict, List, NamedTuple, Optional, Sequence, Set, Tuple, Union
+A large record's pieces are put before it, and only while nothing was put by its id. Another one may put other pieces by the same id meanwhile,
+or a clear remove them. So what puts the record compares that each piece is as its own submitter left it, by the change that put it: it puts
+the record with its own bytes or not at all. Where it doesn't, since the pieces are another one's by then, it leaves that one the time to put
+its record, and tries again from the pieces on."""
 
-from .errors import LogError, OtherRecord, Refused, Unfit
+import random
+import time
+from typing import TYPE_CHECKING, Dict, List, Mapping, NamedTuple, Optional, Sequence, Set, Tuple, Union
+
+from .errors import LogError, OtherRecord, Refused, Unfit, Unreachable
 from .keys import Keys, number_in, numbered, size_in
-from .requests import Body, Entry, absent, equal, get, put, there, value_of
+from .requests import Body, Entry, absent, after, equal, get, put, ranged, unchanged, value_of
 from .settings import Settings
 from .times import untimely
 from .written import count_of_pieces, counted_size, put_pieces, written
@@ -17,8 +24,11 @@ MOST_APPENDED = 60
 MOST_OPERATIONS = 128
 # What nodes say that take fewer.
 TOO_MANY = "too many operations"
-# It compares at most 128 keys: the last number, the quota, and for each record its id and its pieces, of which a record has at most 32.
+# It compares at most 128 keys: the last number, the quota, and for each record its id and its pieces, of which a record has at most 33.
 MOST_COMPARED = 126
+# Who finds another one's pieces in the place of its own waits so many times as long as it took to put them, and at least so long; twice as long
+# each time. So one of two that are as fast puts its record when the other has found its pieces overwritten once.
+AWAITED, LEAST_AWAITED = (1.0, 2.0), 0.05
 
 
 class Offer(NamedTuple):
@@ -29,11 +39,17 @@ class Offer(NamedTuple):
 
 
 class Waiting(NamedTuple):
-    """A record on its way, who puts it, and what is to stand under its number."""
+    """A record on its way, who puts it, and what is to stand under its number. Where it lies in pieces, the changes that have put them, as
+    far as they are known to be there."""
 
     offer: Offer
     submitter: str
     value: bytes
+    changes: Tuple[int, ...] = ()
+
+    def has_pieces(self) -> bool:
+        """Whether all its pieces are known to be there."""
+        return len(self.changes) == count_of_pieces(self.offer.record)
 
 
 # The number that a record has, or why it isn't put.
@@ -97,10 +113,16 @@ class Batch:
         return {who: str(size).encode() for who, size in self.sums().items()}
 
     def conditions(self) -> List[Body]:
-        pieces = [there(self.keys.piece(one.offer.id, at)) for one in self.ones for at in range(count_of_pieces(one.offer.record))]
+        assert all(one.has_pieces() for one in self.ones)
+        pieces = [unchanged(self.keys.piece(one.offer.id, at), change) for one in self.ones for at, change in enumerate(one.changes)]
         last = numbered(self.last) if self.last else None
         used = [equal(self.keys.used(who), text) for who, text in self.used.items()]
         return [*map(absent, self.ids()), equal(self.keys.last, last), *used, *pieces]
+
+    def looks_at_pieces(self) -> List[Body]:
+        """What asks which changes have put the pieces that are there."""
+        prefixes = [self.keys.pieces(one.offer.id) for one in self.ones if one.changes]
+        return [{"request_range": ranged(prefix, after(prefix), keys_only=True)} for prefix in prefixes]
 
     def puts(self) -> List[Body]:
         numbers = range(self.first, self.end + 1)
@@ -126,6 +148,10 @@ class Appending:
         self.used: Used = {}
         # What was cleared of what submitters ever put, where that is counted beside it: read when a quota seems to be used up.
         self.gone: Dict[str, int] = {}
+        # How long it took to put pieces, how often others stood in their place since, and until when that is borne.
+        self.seconds = 0.0
+        self.overwritten = 0
+        self.until = float("inf")
 
     def put_after(self, last: int) -> List[Outcome]:
         """Puts them after the record that is taken for the last, or after the one that is. What became of each."""
@@ -141,29 +167,43 @@ class Appending:
     def batch(self) -> Batch:
         return Batch(self.keys, self.left, self.last, self.used)
 
-    def refuse(self, refused: Dict[str, LogError]) -> None:
-        """Leaves out those of these ids."""
-        self.outcomes.update(refused)
-        self.left = [one for one in self.left if one.offer.id not in refused]
+    def leave_out(self, outcomes: Mapping[str, Outcome]) -> None:
+        """Leaves out those of these ids, of which is known what becomes of them."""
+        self.outcomes.update(outcomes)
+        self.left = [one for one in self.left if one.offer.id not in outcomes]
 
     def put_pieces(self) -> None:
-        """Puts the pieces of those that have any, where the quota has room for them."""
-        for one in list(self.left):
-            if count_of_pieces(one.offer.record) and self.etcd.get(self.keys.id(one.offer.id)) is None:
-                self.look_at_gone()
-                if one.submitter in self.above_quota():
-                    self.refuse(self.over_quota({one.submitter}))
-                else:
-                    put_pieces(self.etcd, self.keys, one.offer.id, one.offer.record)
+        """Puts the pieces of those that have any, where the quota has room for them. Those whose ids are in the log already are told."""
+        while True:
+            one = next((one for one in self.left if not one.has_pieces()), None)
+            if one is None:
+                return
+            text = self.etcd.get(self.keys.id(one.offer.id))
+            if text is not None:
+                self.leave_out({one.offer.id: self.number_of(one, text)})
+                continue
+            self.look_at_gone()
+            if one.submitter in self.above_quota():
+                self.leave_out(self.over_quota({one.submitter}))
+            else:
+                self.put_pieces_of(one)
+
+    def put_pieces_of(self, one: Waiting) -> None:
+        """Puts the pieces of one, unless its id comes into the log meanwhile."""
+        began = time.monotonic()
+        changes = put_pieces(self.etcd, self.keys, one.offer.id, one.offer.record)
+        self.seconds = time.monotonic() - began
+        if changes is not None:
+            self.left = [one._replace(changes=changes) if other is one else other for other in self.left]
 
     def check_fit(self) -> None:
         """Leaves out what may not be put."""
         refused: Dict[str, LogError] = {}
-        for offer, _, _ in self.left:
-            why = why_unfit(offer, self.settings)
-            if why and self.etcd.get(self.keys.id(offer.id)) is None:
-                refused[offer.id] = Unfit(why)
-        self.refuse(refused)
+        for one in self.left:
+            why = why_unfit(one.offer, self.settings)
+            if why and self.etcd.get(self.keys.id(one.offer.id)) is None:
+                refused[one.offer.id] = Unfit(why)
+        self.leave_out(refused)
 
     def above_quota(self) -> Set[str]:
         """Those who would have too many bytes in the log."""
@@ -186,7 +226,7 @@ class Appending:
         already is found at the quota too."""
         self.look_at_gone()
         batch = self.batch()
-        asked = [*map(get, batch.ids()), get(self.keys.last), *(get(self.keys.used(who)) for who in batch.used)]
+        asked = [*map(get, batch.ids()), get(self.keys.last), *(get(self.keys.used(who)) for who in batch.used), *batch.looks_at_pieces()]
         if self.above_quota():
             found = self.etcd.transact([], asked, [])[1]
         else:
@@ -205,15 +245,37 @@ class Appending:
             text = value_of(entries)
             if text is not None:
                 known[one.offer.id] = self.number_of(one, text)
-        self.outcomes.update(known)
         count = len(self.left)
-        self.left = [one for one in self.left if one.offer.id not in known]
+        self.leave_out(known)
         self.last = self.log.last_of(value_of(found[count]))
         now = dict(zip(batch.used, map(value_of, found[count + 1:])))
         self.used.update(now)
         if not known and (batch.last, batch.used) == (self.last, now):
-            self.refuse(self.over_quota(self.above_quota()))
-            self.put_pieces()
+            self.leave_out(self.over_quota(self.above_quota()))
+        self.look_at_pieces({entry.key: entry.changed for entries in found[count + 1 + len(now):] for entry in entries})
+        self.put_pieces()
+
+    def look_at_pieces(self, found: Dict[bytes, int]) -> None:
+        """Has those put their pieces again of which some are lost, by the changes that have put what stands there now. Waits where others stand
+        in their place."""
+        own = {one.offer.id: {self.keys.piece(one.offer.id, at): change for at, change in enumerate(one.changes)} for one in self.left}
+        lost = {name for name, pieces in own.items() if any(found.get(key) != change for key, change in pieces.items())}
+        others = sorted(name for name in lost if any(found.get(key, change) != change for key, change in own[name].items()))
+        self.left = [one._replace(changes=()) if one.offer.id in lost else one for one in self.left]
+        if others:
+            self.wait_for_other(others[0])
+
+    def wait_for_other(self, name: str) -> None:
+        """Leaves another one that puts other pieces by an id the time to put its record. Unreachable where that is the case for as long as the
+        client of etcd has patience."""
+        now = time.monotonic()
+        if self.overwritten == 0:
+            self.until = min(self.etcd.until, now + self.etcd.patience)
+        pause = random.uniform(*AWAITED) * max(self.seconds, LEAST_AWAITED) * 2 ** self.overwritten
+        self.overwritten += 1
+        time.sleep(max(0.0, min(pause, self.until - now)))
+        if time.monotonic() >= self.until:
+            raise Unreachable(f"another record is being put by the id {name}")
 
     def number_of(self, one: Waiting, text: bytes) -> Outcome:
         number = number_in(text)

@@ -34,11 +34,6 @@ def none_between(first: bytes, end: bytes) -> Body:
     return {**absent(first), "range_end": coded(end)}
 
 
-def there(key: bytes) -> Body:
-    """A comparison: something stands there."""
-    return {**absent(key), "result": "GREATER"}
-
-
 def unchanged(key: bytes, revision: int) -> Body:
     """A comparison: the last change of this key is this one; none where it is 0."""
     return {"key": coded(key), "target": "MOD", "result": "EQUAL", "mod_revision": str(revision)}

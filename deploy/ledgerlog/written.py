@@ -3,13 +3,13 @@ rule by which anything else is skipped."""
 
 import hashlib
 import re
-from typing import List, NamedTuple, Optional
+from typing import List, NamedTuple, Optional, Tuple
 
 from .errors import NotWhole
 from .etcd import Etcd
 from .keys import Keys
 from .records import check_one, is_question
-from .requests import Entry
+from .requests import Body, Entry, absent, get, put, unchanged
 
 # Records of up to so many bytes stand under their key, and so a hundred of them fit into one answer.
 INLINE_BYTES = 16_384
@@ -63,10 +63,33 @@ def written(name: str, submitter: str, record: bytes) -> bytes:
     return IN_PIECES + head + hashlib.sha256(record).digest() + count.to_bytes(2, "big")
 
 
-def put_pieces(etcd: Etcd, keys: Keys, name: str, record: bytes) -> None:
-    """Puts a record's pieces, which are durable when this comes back."""
+def put_piece(etcd: Etcd, key: bytes, piece: bytes, condition: Body) -> Optional[int]:
+    """Puts a piece, unless it stands there already: in place of nothing, or of what was read there, so that one that is late puts nothing.
+    The change that has put it, which is durable; None where the condition doesn't hold."""
+    seen = 0
+    while True:
+        is_done, found, revision = etcd.transacted([condition, unchanged(key, seen)], [put(key, piece)], [get(key)])
+        if is_done:
+            return revision
+        changed = found[0][0].changed if found[0] else 0
+        if found[0] and found[0][0].value == piece:
+            return changed
+        if changed == seen:
+            return None
+        seen = changed
+
+
+def put_pieces(etcd: Etcd, keys: Keys, name: str, record: bytes, condition: Optional[Body] = None) -> Optional[Tuple[int, ...]]:
+    """Puts a record's pieces, as long as nothing was put by its id, or as long as another condition holds. The change that has put each;
+    None where the condition doesn't hold."""
+    changes: List[int] = []
     for place in range(count_of_pieces(record)):
-        etcd.put(keys.piece(name, place), record[place * PIECE_BYTES:(place + 1) * PIECE_BYTES])
+        piece = record[place * PIECE_BYTES:(place + 1) * PIECE_BYTES]
+        changed = put_piece(etcd, keys.piece(name, place), piece, condition or absent(keys.id(name)))
+        if changed is None:
+            return None
+        changes.append(changed)
+    return tuple(changes)
 
 
 def head_of(value: bytes) -> Optional[Head]:
