@@ -26,8 +26,8 @@ MOST_OPERATIONS = 128
 TOO_MANY = "too many operations"
 # It compares at most 128 keys: the last number, the quota, and for each record its id and its pieces, of which a record has at most 33.
 MOST_COMPARED = 126
-# Who finds another one's pieces in the place of its own waits so many times as long as it took to put them, and at least so long; twice as long
-# each time. So one of two that are as fast puts its record when the other has found its pieces overwritten once.
+# Who finds another one's pieces in the place of its own waits so many times as long as it took to put them, and at least so many seconds; twice
+# as long each time. So of two that are about as fast, one puts its record after a few tries at most.
 AWAITED, LEAST_AWAITED = (1.0, 2.0), 0.05
 
 
