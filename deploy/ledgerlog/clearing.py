@@ -227,15 +227,18 @@ class Clearing:
                 self.delete_up_to(name, PROGRAM, min(programs[0].number, upto))
 
     def remove_ids(self) -> None:
-        """Removes the ids that are so old that no record is left that was put by them. Others stand among them, and stay."""
+        """Removes the ids that are so old that no record is left that was put by them. Others stand among them, and stay, and so do those of the
+        last records, which are kept however old they are."""
         if not self.settings.is_chaining() or self.settings.hours == 0:
             return
+        cleared = self.log.cleared()
         first, end = self.keys.id("t"), self.keys.id(f"t{max(0, int(self.now - ID_HOURS * self.settings.hours * HOUR)):08x}")
         while first < end:
-            found = self.etcd.range(first, end, self.most_removed, keys_only=True)
+            found = self.etcd.range(first, end, self.most_removed)
             runs: List[List[bytes]] = [[]]
             for entry in found.entries:
-                if TIMED.fullmatch(entry.key[len(self.keys.ids):].decode("ascii", "replace")):
+                is_timed = TIMED.fullmatch(entry.key[len(self.keys.ids):].decode("ascii", "replace"))
+                if is_timed and (number_in(entry.value) or 0) <= cleared:
                     runs[-1].append(entry.key)
                 elif runs[-1]:
                     runs.append([])

@@ -259,12 +259,26 @@ class ClearingAChainedLog(ClearingALog):
         with self.assertRaisesRegex(Unfit, "more than half of the 2"):
             list(self.log.append([Offer(f"t{now - 3700:08x}-0", run(0))], "anyone", self.log.settings()))
 
+    def test_a_record_that_is_kept_keeps_its_id_and_its_pieces_however_old_it_is(self) -> None:
+        self.store.put(self.log.keys.log, self.log.settings()._replace(hours=2).text())
+        now = int(time.time())
+        record = large(INLINE_BYTES)
+        offers = [Offer(f"t{now:08x}-{at}", run(at)) for at in range(3)] + [Offer(f"t{now:08x}-large", record)]
+        list(self.log.append(offers, "anyone", self.log.settings()))
+        self.agree(4)
+        for hours in range(0, 12, 2):
+            done = Clearing(self.log, 2, now + hours * 3600).run()
+            self.assertEqual((done.orphans, self.log.read(4).taken[0].record), (0, record))
+        self.assertEqual((done.upto, self.store.count(self.log.keys.ids)), (2, 2))
+        Clearing(self.log, 0, now + 12 * 3600).run()
+        self.assertEqual((self.store.count(self.log.keys.ids), self.store.count(b"L/piece/")), (0, 0))
+
     def test_an_id_that_comes_among_those_that_go_stays(self) -> None:
         self.store.put(self.log.keys.log, self.log.settings()._replace(hours=2).text())
         keys, now = self.log.keys, int(time.time())
         fill(self.log, 4)
         for name in ("t00000001-1", "t00000002-2"):
-            self.store.put(keys.id(name), numbered(1))
+            self.store.put(keys.id(name), numbered(0))
         self.agree(4)
         real = self.store.done
 
