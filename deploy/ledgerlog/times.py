@@ -11,7 +11,10 @@ HOUR = 3600
 GAP_SECONDS = 600
 # Two clocks differ by no more than this.
 AHEAD_SECONDS = 600
+# Ids that say when they were made. A clear goes by the order of keys, in which lower case alone is the order of time: what says it in upper
+# case goes with its record.
 TIMED = re.compile(r"t([0-9a-f]{8})-.*")
+IN_EITHER_CASE = re.compile(r"t([0-9a-fA-F]{8})-.*")
 
 
 class Mark(NamedTuple):
@@ -51,7 +54,7 @@ def new_record_id() -> str:
 
 def untimely(record_id: str, hours: int) -> Optional[str]:
     """Why a record can't be put by an id that isn't in the log: a record that was put by it may be cleared by now. None where it can."""
-    found = TIMED.fullmatch(record_id)
+    found = IN_EITHER_CASE.fullmatch(record_id)
     if found is None or hours == 0:
         return None
     age = time.time() - int(found.group(1), 16)

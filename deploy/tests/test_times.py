@@ -4,7 +4,7 @@ from typing import List
 
 from ledgerlog.clearing import Cleared, Clearing
 from ledgerlog.errors import LogError, Refused
-from ledgerlog.keys import SAVED
+from ledgerlog.keys import SAVED, numbered
 from ledgerlog.log import Offer
 from ledgerlog.times import GAP_SECONDS, HOUR, Mark, marked, marks_in, new_record_id, newest_before, text_of, untimely
 
@@ -84,6 +84,20 @@ class Keeping(unittest.TestCase):
         self.assertIsNotNone(untimely(made(12.1), 24))
         self.assertIsNotNone(untimely(made(-0.5), 24))
         self.assertIsNone(untimely(made(100), 0))
+
+    def test_upper_case_says_when_an_id_was_made_too(self) -> None:
+        for hours, is_refused in (0, False), (11.9, False), (12.1, True), (-0.5, True):
+            record_id = "t" + made(hours)[1:].upper()
+            with self.subTest(record_id):
+                self.assertEqual(untimely(record_id, 24) is not None, is_refused)
+
+    def test_an_id_in_upper_case_does_not_go_by_the_order_of_keys(self) -> None:
+        self.store.put(self.log.keys.log, self.log.settings()._replace(protocol=4).text())
+        keys = [self.log.keys.id(name) for name in (f"t{NOW:08x}-x", f"t{NOW + 47 * HOUR:08X}-x")]
+        for key in keys:
+            self.store.put(key, numbered(1))
+        Clearing(self.log, 2, NOW + 48 * HOUR).remove_ids()
+        self.assertEqual([self.store.get(key) for key in keys], [None, numbered(1)])
 
     def test_the_command_makes_such_ids_and_refuses_old_ones(self) -> None:
         node = Served(self.store)
