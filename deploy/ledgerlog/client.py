@@ -9,12 +9,15 @@ import socket
 import ssl
 import threading
 import time
-from typing import Any, Dict, List, NamedTuple, Optional
+from typing import Any, Callable, Dict, List, NamedTuple, Optional, Union
 
 PAUSE_SECONDS = 0.1
 CONNECT_SECONDS = 5.0
 PART, LINE_BYTES = 1 << 16, 1 << 26
 ADDRESS = re.compile(r"([^/]+):(\d{1,5})")
+# What the log takes for an id, and for a submitter's name.
+ID, NAME = re.compile(r"[A-Za-z0-9-]{1,96}"), re.compile(r"[A-Za-z0-9-]{1,64}")
+ID_IS, NAME_IS = "an id has 1 to 96 letters, digits and -", "a submitter's name has 1 to 64 letters, digits and -"
 
 
 class Tls(NamedTuple):
@@ -48,13 +51,20 @@ class Lost(Exception):
     """The connection ended before the answer."""
 
 
+class NotHeard(Exception):
+    """The service refuses the connection itself, or something on it that it can't read."""
+
+
 def connected(place: str, tls: Optional[Tls]) -> socket.socket:
     """A connection to the socket of a service, or to its address, HOST:PORT. OSError where there is none."""
     address = ADDRESS.fullmatch(place)
     if address is None:
         made = socket.socket(socket.AF_UNIX)
         try:
+            # A service that takes no more clients is tried again, and not waited for.
+            made.settimeout(CONNECT_SECONDS)
             made.connect(place)
+            made.settimeout(None)
         except OSError:
             made.close()
             raise
@@ -76,10 +86,8 @@ def connected(place: str, tls: Optional[Tls]) -> socket.socket:
 class Stream:
     """A connection over which one thread reads while others write. TLS takes no two at once: whoever would wait lets the others go on."""
 
-    def __init__(self, connection: socket.socket, seconds: Optional[float] = None) -> None:
-        """`seconds` is for how long the other side may take nothing of what is written."""
+    def __init__(self, connection: socket.socket) -> None:
         self.connection = connection
-        self.seconds = seconds
         self.is_tls = isinstance(connection, ssl.SSLSocket)
         self.busy, self.writing = threading.Lock(), threading.Lock()
         self.buffer = b""
@@ -133,84 +141,166 @@ class Stream:
         self.buffer = found[size:]
         return found[:size]
 
-    def write(self, data: bytes) -> None:
-        """Writes all of it. OSError where the connection is lost, or the other side takes nothing."""
-        with self.writing:
-            if not self.is_tls:
-                self.connection.sendall(data)
-                return
+    def offer(self, data: Union[bytes, memoryview]) -> int:
+        """Writes as much as is taken at once; how many bytes that is. OSError where the connection is lost."""
+        if not self.is_tls:
+            try:
+                return self.connection.send(data, socket.MSG_DONTWAIT)
+            except BlockingIOError:
+                return 0
+        with self.busy:
+            try:
+                return self.connection.send(data)
+            except (ssl.SSLWantWriteError, ssl.SSLWantReadError):
+                return 0
+
+    def wait_until_taken(self, ends: float) -> None:
+        """Waits until the other side may take more. TimeoutError where it takes nothing in time."""
+        self.wait(select.POLLOUT, ends - time.monotonic())
+        if self.is_tls:
+            # What has to be read first comes by the thread that reads.
+            time.sleep(0.001)
+
+    def write(self, data: bytes, ends: float) -> None:
+        """Writes all of it. OSError where the connection is lost, TimeoutError where the other side doesn't take it in time."""
+        if not self.writing.acquire(timeout=max(0.0, ends - time.monotonic())):
+            raise TimeoutError("the time is over")
+        try:
             left = memoryview(data)
             while left:
-                with self.busy:
-                    try:
-                        left = left[self.connection.send(left):]
-                        continue
-                    except ssl.SSLWantWriteError:
-                        what = select.POLLOUT
-                    except ssl.SSLWantReadError:
-                        what = select.POLLIN
-                self.wait(what, self.seconds if what == select.POLLOUT else None)
+                taken = self.offer(left)
+                left = left[taken:]
+                if not taken:
+                    self.wait_until_taken(ends)
+        finally:
+            self.writing.release()
+
+
+class Request:
+    """A record that was sent, and what was told of it so far."""
+
+    def __init__(self, record_id: str) -> None:
+        self.id = record_id
+        self.answer: Optional[Dict[str, Any]] = None
+        self.lines: Optional[str] = None
 
 
 class Line:
-    """One connection, over which any number of threads ask at once. One of those that wait reads for all."""
+    """One connection, over which any number of threads ask at once. One of those that wait reads for all. The service names the id alone to
+    which an answer belongs, so of one id no two requests at once wait for their numbers. Its lines are the same for all."""
 
     def __init__(self, place: str, tls: Optional[Tls] = None) -> None:
         self.socket = connected(place, tls)
         self.stream = Stream(self.socket)
-        self.told: Dict[str, List[Dict[str, Any]]] = {}
+        self.requests: Dict[str, List[Request]] = {}
         self.changed = threading.Condition()
         self.is_reading = self.is_lost = False
+        self.refusal: Optional[str] = None
 
-    def send(self, head: Dict[str, Any], record: bytes) -> None:
+    def ask(self, head: Dict[str, Any], record: bytes, ends: float) -> Request:
+        """Sends a record, once no other request for its id waits for its number. Lost where that takes too long."""
+        request = Request(str(head["id"]))
+        self.wait(lambda: self.is_begun(request), ends)
         try:
-            self.stream.write(json.dumps(head).encode() + b"\n" + record)
+            self.stream.write(json.dumps(head).encode() + b"\n" + record, ends)
         except OSError:
-            self.is_lost = True
+            self.give_up()
+            self.forget(request)
             raise
+        return request
 
-    def answer(self, record_id: str, ends: float) -> Dict[str, Any]:
-        """The next that is told of an id. Lost where that doesn't come in time."""
+    def is_begun(self, request: Request) -> bool:
+        others = self.requests.setdefault(request.id, [])
+        if any(one.answer is None for one in others):
+            return False
+        others.append(request)
+        return True
+
+    def answer(self, request: Request, ends: float) -> Dict[str, Any]:
+        """What became of a record. Lost where that isn't told in time. The connection is given up then: what comes later on it would be taken
+        for the answer to another request for this id."""
+        try:
+            self.wait(lambda: request.answer is not None, ends)
+        except Lost:
+            self.give_up()
+            raise
+        return request.answer or {}
+
+    def lines(self, request: Request, ends: float) -> bytes:
+        """The final lines of a record. Lost where they aren't told in time."""
+        self.wait(lambda: request.lines is not None, ends)
+        return (request.lines or "").encode("latin-1")
+
+    def forget(self, request: Request) -> None:
+        """Drops a request that waits for nothing any more."""
+        with self.changed:
+            left = [one for one in self.requests.pop(request.id, []) if one is not request]
+            if left:
+                self.requests[request.id] = left
+            self.changed.notify_all()
+
+    def wait(self, is_over: Callable[[], bool], ends: float) -> None:
+        """Waits until something is so, and reads meanwhile unless another thread does. Lost where it doesn't become so in time."""
         while True:
             with self.changed:
-                while self.is_reading and not self.told.get(record_id) and time.monotonic() < ends:
+                while not is_over():
+                    if self.refusal is not None:
+                        raise NotHeard(self.refusal)
+                    if self.is_lost or time.monotonic() >= ends:
+                        raise Lost("the connection ended" if self.is_lost else "the time is over")
+                    if not self.is_reading:
+                        break
                     self.changed.wait(ends - time.monotonic())
-                if self.told.get(record_id):
-                    return self.taken(record_id)
-                if self.is_lost or time.monotonic() >= ends:
-                    raise Lost("the connection ended" if self.is_lost else "the time is over")
+                else:
+                    return
                 self.is_reading = True
             self.read(ends)
 
-    def taken(self, record_id: str) -> Dict[str, Any]:
-        told = self.told[record_id].pop(0)
-        if not self.told[record_id]:
-            del self.told[record_id]
-        return told
-
     def read(self, ends: float) -> None:
         """Reads the next that is told, of whichever id."""
-        told: Optional[Dict[str, Any]] = None
+        told: Dict[str, Any] = {}
         is_lost = False
         try:
             line = self.stream.line(LINE_BYTES, ends)
-            told, is_lost = (json.loads(line), False) if line else (None, True)
+            told, is_lost = (dict(json.loads(line)), False) if line else ({}, True)
         except TimeoutError:
             pass
-        except (OSError, ValueError):
+        except (OSError, ValueError, TypeError):
             is_lost = True
         with self.changed:
             self.is_reading = False
             self.is_lost |= is_lost
-            if told is not None:
-                self.told.setdefault(str(told.get("id")), []).append(told)
+            self.take(told)
             self.changed.notify_all()
 
-    def close(self) -> None:
+    def take(self, told: Dict[str, Any]) -> None:
+        """Gives what is told to those for whom it is. What nobody waits for any more is dropped."""
+        if "id" not in told and "refused" in told:
+            self.refusal, self.is_lost = str(told["refused"]), True
+        requests = self.requests.get(str(told.get("id")), [])
+        if "lines" in told:
+            for request in requests:
+                request.lines = str(told["lines"])
+            return
+        for request in requests:
+            if request.answer is None:
+                request.answer = told
+
+    def give_up(self) -> None:
+        """Ends the connection for all who use it: whoever waits is told so."""
+        with self.changed:
+            self.is_lost = True
+            self.changed.notify_all()
+        self.shut()
+
+    def shut(self) -> None:
         try:
-            self.socket.shutdown(socket.SHUT_RDWR)
+            socket.socket.shutdown(self.socket, socket.SHUT_RDWR)
         except OSError:
             pass
+
+    def close(self) -> None:
+        self.shut()
         self.socket.close()
 
 
@@ -230,7 +320,8 @@ class Ledger:
     def submit(self, record: bytes, record_id: Optional[str] = None, wait: bool = False) -> Placed:
         """Puts a record. Refused where it isn't put, Unknown where that isn't known when the time is over: with the same id it is put once,
         however often it's tried."""
-        name = record_id or f"t{int(time.time()):08x}-{secrets.token_hex(16)}"
+        name = f"t{int(time.time()):08x}-{secrets.token_hex(16)}" if record_id is None else record_id
+        self.check(name)
         ends = time.monotonic() + self.seconds
         why = "no service answers"
         while time.monotonic() < ends:
@@ -238,6 +329,8 @@ class Ledger:
             try:
                 line = self.connected()
                 return self.tried(line, record, name, wait, ends)
+            except NotHeard as error:
+                raise Unknown(name, str(error)) from None
             except (OSError, Lost) as error:
                 why = str(error)
                 if line is not None:
@@ -245,15 +338,24 @@ class Ledger:
                 time.sleep(PAUSE_SECONDS)
         raise Unknown(name, why)
 
+    def check(self, record_id: str) -> None:
+        """Refused where the service can't take such an id or such a name."""
+        if not ID.fullmatch(record_id):
+            raise Refused(f"the id {record_id[:100]!r} is none: {ID_IS}")
+        if self.tls is None and not NAME.fullmatch(self.submitter):
+            raise Refused(f"the name {self.submitter[:100]!r} is none: {NAME_IS}")
+
     def tried(self, line: Line, record: bytes, name: str, wait: bool, ends: float) -> Placed:
-        line.send({"id": name, "as": self.submitter, "bytes": len(record), "wait": wait}, record)
-        told = line.answer(name, ends)
-        if "refused" in told:
-            raise Refused(told["refused"])
-        if "number" not in told:
-            raise Lost(str(told.get("unknown", told)))
-        lines = line.answer(name, ends)["lines"].encode("latin-1") if wait else None
-        return Placed(int(told["number"]), lines)
+        request = line.ask({"id": name, "as": self.submitter, "bytes": len(record), "wait": wait}, record, ends)
+        try:
+            told = line.answer(request, ends)
+            if "refused" in told:
+                raise Refused(str(told["refused"]))
+            if "number" not in told:
+                raise Lost(str(told.get("unknown", told)))
+            return Placed(int(told["number"]), line.lines(request, ends) if wait else None)
+        finally:
+            line.forget(request)
 
     def connected(self) -> Line:
         with self.lock:

@@ -156,12 +156,10 @@ class Serving(unittest.TestCase):
     def test_a_refused_record_leaves_its_connection_to_the_others(self) -> None:
         line = Line(self.path)
         self.addCleanup(line.close)
-        for name, record in ("show", b"\3\0"), ("run", run(1)):
-            line.send({"id": name, "bytes": len(record)}, record)
         ends = time.monotonic() + PATIENCE
-        self.assertIn("refused", line.answer("show", ends))
-        self.assertEqual(line.answer("run", ends), {"id": "run", "number": 1})
-        self.assertEqual(line.told, {})
+        asked = [line.ask({"id": name, "bytes": len(record)}, record, ends) for name, record in (("show", b"\3\0"), ("run", run(1)))]
+        self.assertIn("refused", line.answer(asked[0], ends))
+        self.assertEqual(line.answer(asked[1], ends), {"id": "run", "number": 1})
 
     def test_one_service_at_a_time_and_its_socket_is_its_groups(self) -> None:
         self.assertEqual(os.stat(self.path).st_mode & 0o777, 0o660)
