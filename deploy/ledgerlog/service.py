@@ -25,7 +25,7 @@ from .status import bound
 
 LINE_BYTES = 4096
 WAITING = 128
-# So long may a client at the port take to say who it is, may any client take nothing of what it is told, and stays one that isn't heard any more.
+# So long may a client at the port take to say who it is, may any client take nothing of what it is told, and stays one that is refused.
 CLIENT_SECONDS = 10.0
 # So many clients there are at most, and so many descriptors are left for the log and all else, where fewer are allowed. Where another client
 # comes, the one is closed that has been idle for longest; where each has a record on its way, the new one.
