@@ -4,7 +4,7 @@ from typing import Any, Callable, Dict, List, NoReturn, Union
 
 from . import habits, opcodes, scanner, syntax
 from .errors import Note, TextError, nearest, unknown
-from .model import write_leaf
+from .model import STRUCT, write_leaf
 from .limits import INDEX, INSTRUCTION_COUNT
 from .opcodes import BY_NAME
 from .parsing import TermParser, TextEnds
@@ -119,14 +119,15 @@ class CodeParser(TermParser):
         """Fails, since there is no instruction of this name."""
         if word == "let":
             self.fail("a local is declared after an instruction", help="write each `let` before the first instruction")
-        if self.kinds[self.at + 1] == scanner.WRONG and word not in habits.INSTRUCTIONS:
+        help = habits.of_instruction(word)
+        if self.kinds[self.at + 1] == scanner.WRONG and (word in habits.MEANT or not help):
             self.at += 1
             self.wanted("an instruction")
         told = f"no instruction `{word}`"
-        if word in habits.MEANT:
-            self.fail(told, help=f"did you mean `{habits.MEANT[word]}`?")
-        if word in habits.INSTRUCTIONS:
-            self.fail(told, help=habits.INSTRUCTIONS[word])
+        if help:
+            self.fail(told, help=help)
+        if self.texts[self.at + 1] == "." and not nearest(word, BY_NAME):
+            self.fail_as(habits.of_field(word, self.texts[self.at + 2]))
         if self.texts[self.at + 1] == "(" and not nearest(word, BY_NAME):
             self.fail(told, help=f"a function is called by `Call {word}`, with its arguments on the stack")
         if self.kinds[self.at + 1] == scanner.LINE_END and not nearest(word, BY_NAME):
@@ -209,7 +210,9 @@ class CodeParser(TermParser):
             return syntax.Literal(syntax.Type(value.kind, None, None, start), write_leaf(value.kind, value.value), start)
         if self.kind == scanner.FILE:
             self.fail("there are no strings", help='a value is a bool, a number with its type, or an address, as `@0x1`')
-        kind = self.type()
+        word, kind = self.at, self.type()
+        if self.kind not in (scanner.HEX, scanner.WRONG) and kind.kind == STRUCT and self.kinds[word] == scanner.NAME:
+            self.fail(f"no constant `{''.join(self.texts[word:self.at])}`", start, habits.CONSTANT)
         if self.kind != scanner.HEX:
             self.wanted('bytes as `x"01"`')
         return syntax.Literal(kind, self.hex(), start)

@@ -11,11 +11,16 @@ EXPRESSION = Help("there are no expressions", "code is instructions, which take 
                   "`LdU64 1`, `Add` for `x + 1`")
 ASSIGNED = Help("nothing is assigned with `=`", "a local gets its value from instructions, as `LdU64 1` and `StLoc x` for `x = 1`; a "
                 "`let` has a name and a type alone")
+# Where the value of a field or a parameter comes from.
+VALUES = {"field": "Pack takes the value of each field from the stack", "parameter": "the caller gives each argument"}
 CONTROL = "control flow uses labels: `BrTrue done`, `BrFalse done` or `Branch done`, and `done:` before an instruction"
 CONSTANT = "constants have no names: write the value where it is loaded, as `LdU64 7` or `LdConst @0x1`"
 ASSERT = "write `BrTrue fine`, `LdU64 1`, `Abort`, and `fine:` before what follows"
 NUMBERS = "numbers are u8, u16, u32, u64 and u128"
 STRINGS = Help("there are no strings and no characters")
+
+# What stands before a number, which is then no operand of an expression.
+LOADED = re.compile(r"\b(LdU[0-9]+|LdConst|budget|version)\s*\Z")
 
 # What is said of the marks that begin no word here.
 MARKS = {
@@ -59,6 +64,8 @@ MEANT = {
     "Rem": "Mod", "Modulo": "Mod", "Minus": "Sub", "Plus": "Add", "Times": "Mul", "Divide": "Div", "ShiftLeft": "Shl",
     "ShiftRight": "Shr", "BitXor": "Xor", "Store_Global": "MoveTo", "Freeze": "FreezeRef", "Deref": "ReadRef",
 }
+# The words of control flow in the sources of many languages, which begin no function.
+CONTROLS = frozenset(word for word, help in INSTRUCTIONS.items() if help is CONTROL)
 for kind in ("Call", "Pack", "Unpack", "MoveTo", "MoveFrom", "Exists", "MutBorrowGlobal", "ImmBorrowGlobal", "MutBorrowField",
              "ImmBorrowField"):
     INSTRUCTIONS[f"{kind}Generic"] = f"there are no generics: write `{kind}`, and one struct or function for each type"
@@ -87,6 +94,32 @@ for bits in (8, 16, 32, 64, 128):
     TYPES[f"i{bits}"] = Help(f"there is no `i{bits}`", f"numbers are unsigned: write `u{bits}`")
 
 
+# The same words with other letters, as `If`.
+ANY_CASE = {word.lower(): help for word, help in INSTRUCTIONS.items()}
+
+
+def of_instruction(word: str) -> str:
+    """What to write for a word in the place of an instruction; nothing where that isn't known."""
+    if word in MEANT:
+        return f"did you mean `{MEANT[word]}`?"
+    return INSTRUCTIONS.get(word) or ANY_CASE.get(word.lower(), "")
+
+
+def of_field(word: str, field: str) -> Help:
+    """What is said of a field that is named as in a source, as `coin.value`."""
+    return Help(EXPRESSION.fact, f"`{word}.{field}` is read by instructions: `ImmBorrowField Coin.{field}` and `ReadRef`, with a reference to "
+                "the struct, as `Coin`, on the stack")
+
+
+def of_name(before: str, behind: str) -> Optional[Help]:
+    """What is said of a dash between two letters of what may be a name, by the text before and behind it; None where it is none."""
+    first, last = re.search(r"[A-Za-z_][\w-]*\Z", before), re.match(r"-[A-Za-z_][\w-]*", behind)
+    if first is None or last is None:
+        return None
+    is_line = not before[:first.start()].rpartition("\n")[2].strip() and behind[last.end():].lstrip(" \t\r")[:1] in ("", "\n", ";", "}")
+    return None if is_line else Help("a name has letters, digits and `_`", f"write `{(first.group() + last.group()).replace('-', '_')}`")
+
+
 def of_mark(text: str, at: int) -> Optional[Help]:
     """What is said of a mark that begins no word, by what stands around it; None where nothing is."""
     line = text[text.rfind("\n", 0, at) + 1:at].split()
@@ -96,8 +129,11 @@ def of_mark(text: str, at: int) -> Optional[Help]:
         return Help("no word begins with `->`", "results stand after a colon, as `f(x: u64): u64`")
     if text.startswith("=>", at):
         return Help("no word begins with `=>`", CONTROL)
-    if text[at] == "-" and re.match(r"-\s*[0-9]", text[at:at + 9]) and not re.search(r"[\w)]\s*\Z", text[max(0, at - 99):at]):
+    before = text[max(0, at - 99):at]
+    if re.match(r"-\s*[0-9]", text[at:at + 9]) and (LOADED.search(before) or not re.search(r"[\w)]\s*\Z", before)):
         return Help("there is no negative number", "numbers are unsigned: Sub aborts the run below 0")
+    if text[at] == "-" and of_name(before, text[at:at + 99]):
+        return of_name(before, text[at:at + 99])
     if text[at] == "/" and re.search(r"[\w)]\s*\Z", text[max(0, at - 99):at]):
         return EXPRESSION
     if text[at] in "<>" and re.search(r"\bvector\s*\Z", text[max(0, at - 99):at]):

@@ -214,7 +214,20 @@ class ModuleParser(TableParser):
         """A name, or for a field its index, and a type."""
         name = self.entry(what)
         self.expect(":")
-        return syntax.Variable(name, self.type())
+        variable = syntax.Variable(name, self.type())
+        self.check_assigned("field")
+        return variable
+
+    def check_assigned(self, what: str) -> None:
+        """Fails where a value is given to a name with a type."""
+        if self.kind == scanner.WRONG and self.text == "=":
+            self.fail(f"a {what} has a name and a type alone", self.start, f"take the value out: {habits.VALUES[what]}")
+
+    def parameter(self) -> syntax.Local:
+        """The name and the type of a parameter."""
+        parameter = self.local_variable()
+        self.check_assigned("parameter")
+        return parameter
 
     def local_variable(self) -> syntax.Local:
         """The name and the type of a parameter or another local."""
@@ -235,7 +248,7 @@ class ModuleParser(TableParser):
         if isinstance(function.name, syntax.Name):
             self.shape(function)
         if self.accept_word("acquires"):
-            function.acquires = self.listed(lambda: self.entry("a struct"))
+            function.acquires = self.listed(self.acquired)
         if self.accept_word("locals"):
             function.locals_index = self.index()
         self.open_brace()
@@ -243,6 +256,15 @@ class ModuleParser(TableParser):
         self.form = ""
         self.code(function)
         return function
+
+    def acquired(self) -> syntax.Entry:
+        """A struct of the module after `acquires`."""
+        start, is_address = self.start, self.kind == scanner.NUMBER
+        struct = syntax.Name(self.text, start) if is_address else self.entry("a struct")
+        if is_address or self.is_mark("::") or self.is_mark("."):
+            self.fail("`acquires` names structs of its own module, by their names alone", start,
+                      "what a function of another module acquires isn't listed")
+        return struct
 
     def modifiers(self, function: syntax.Function) -> None:
         """What stands before a function's name."""
@@ -267,7 +289,7 @@ class ModuleParser(TableParser):
         """A function's parameters and results."""
         if not self.is_mark("("):
             self.no_item(function)
-        function.parameters = self.in_parentheses(self.local_variable)
+        function.parameters = self.in_parentheses(self.parameter)
         function.results = self.results()
 
     def no_item(self, function: syntax.Function) -> NoReturn:

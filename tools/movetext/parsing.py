@@ -237,7 +237,8 @@ class WordParser:
         if word in MODIFIERS and (following == scanner.NAME or self.texts[self.at + 1] == "(") and (
                 not is_import or self.has_brace()):
             return "function"
-        is_call = self.texts[self.at + 1] == "(" and word not in BY_NAME and word not in habits.INSTRUCTIONS
+        is_call = self.texts[self.at + 1] == "(" and word not in BY_NAME and word not in habits.INSTRUCTIONS and \
+            word.lower() not in habits.CONTROLS
         return "function" if is_call and self.has_brace() else None
 
     def has_brace(self) -> bool:
@@ -462,6 +463,8 @@ class TermParser(WordParser):
         bits = 0
         for bit in self.listed(self.ability):
             bits |= bit
+        if self.text in ("+", "|", "&") or self.kind == scanner.NAME and self.text in [word for _, word in model.ABILITIES]:
+            self.fail("abilities are separated by commas", self.start, "write `has store, key`, and so on")
         return bits
 
     def ability(self) -> int:

@@ -38,7 +38,7 @@ WRONG_WORDS = {
     '"': Help("the quotes aren't closed on their line", 'a file is `"coin.text"`, bytes are `x"01 ff"`'),
     "`": Help("the backquotes aren't closed on their line", "a name in backquotes is as `` `u64` ``"),
     "/": Help("no word begins with `/`", "a comment is `// ...` or `/* ... */`"),
-    "#": Help("no word begins with `#` alone", "an index is `#` and a number, as `#3`"),
+    "#": Help("no word begins with `#` alone", "an index is `#` and a number, as `#3`; a comment is `// ...`"),
 }
 
 

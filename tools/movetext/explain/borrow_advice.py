@@ -2,11 +2,11 @@
 
 from typing import Optional, Tuple
 
-from ..model import GLOB, OWN, SLOT, STRUCT, known
+from ..model import COPY, DROP, GLOB, OWN, SLOT, STRUCT, Token, known
 from ..states import definition_of
 from .borrows import Borrows
 from .edges import TEMP, Edge, Node
-from .failures import Advice, Spot
+from .failures import Advice, Spot, listed
 from .history import maker
 
 # What can't be done with what is borrowed, by the instruction.
@@ -32,7 +32,7 @@ def of_edge(domain: Borrows, at: int, edge: Edge) -> Advice:
     else:
         fact = f"{what} is still {how} here, so it can't be {CANT[name]}"
     kind = "operand" if edge.source[0] != TEMP or "Field" in name else "instruction"
-    return Advice(fact, end_of(domain, edge.target), Spot(kind, domain.function, at), made_notes(domain, edge, made))
+    return Advice(fact, end_of(domain, at, edge.target), Spot(kind, domain.function, at), made_notes(domain, edge, made))
 
 
 def told(domain: Borrows, at: int, node: Node) -> str:
@@ -48,13 +48,20 @@ def told(domain: Borrows, at: int, node: Node) -> str:
     return f"`{domain.subject.local(domain.function, index)}`"
 
 
-def end_of(domain: Borrows, node: Node) -> str:
-    """How a borrow is ended."""
+def end_of(domain: Borrows, at: int, node: Node) -> str:
+    """How a borrow is ended, before an instruction."""
     kind, index = node
     if kind == SLOT:
-        name = domain.subject.local(domain.function, index)
-        return f"use `{name}` up before this, by `MoveLoc {name}` and `ReadRef`, `WriteRef` or `Pop`; or do this before it is borrowed"
-    return "use up the reference on the stack before this, by `ReadRef`, `WriteRef` or `Pop`"
+        name, users = domain.subject.local(domain.function, index), users_of(domain, domain.types[index])
+        return f"use `{name}` up before this, by `MoveLoc {name}` and {users}; or do this before it is borrowed"
+    return f"use up the reference on the stack before this, by {users_of(domain, domain.stacks[at][index])}"
+
+
+def users_of(domain: Borrows, reference: Token) -> str:
+    """The instructions that use up a reference of a type."""
+    abilities = domain.subject.abilities(reference.inner)
+    can_write = reference.is_mutable and abilities & DROP
+    return listed([name for name, can in (("ReadRef", abilities & COPY), ("WriteRef", can_write), ("Pop", True)) if can], "or")
 
 
 def made_notes(domain: Borrows, edge: Edge, made: Optional[int]) -> Tuple[Tuple[Spot, str], ...]:
@@ -93,12 +100,16 @@ def field_of(domain: Borrows, edge: Edge, made: int) -> str:
 def of_result(domain: Borrows, at: int, edge: Edge, made: Optional[int]) -> Advice:
     """What is said of a reference that a function mustn't return."""
     spot, notes = Spot("instruction", domain.function, at), made_notes(domain, edge, made)
+    can_copy = domain.subject.abilities(domain.stacks[at][edge.target[1]].value_type) & COPY
     if edge.source[0] == OWN:
         name = domain.subject.local(domain.function, edge.source[1])
+        is_whole = not edge.positions and not edge.is_open
+        value = "return the value: `ReadRef` before Ret; or " if can_copy else f"return the value, by `MoveLoc {name}`; or " if is_whole else ""
         return Advice(f"this returns a reference to the local `{name}`, which ends here",
-                      "return the value: `ReadRef` before Ret; or borrow from a parameter that is a reference", spot, notes)
+                      f"{value}borrow from a parameter that is a reference", spot, notes)
     if edge.source[0] == GLOB:
         name = domain.subject.names.definitions[edge.source[1]]
-        return Advice(f"this returns a reference to a stored `{name}`",
-                      "return what is read from it, by `ReadRef`; only this function may hold a reference to the storage", spot, notes)
+        value = "return what is read from it, by `ReadRef`; the reference" if can_copy else "it"
+        return Advice(f"this returns a reference to a stored `{name}`", f"{value} may be passed to a called function, but not returned",
+                      spot, notes)
     return Advice("this returns a mutable reference, and another one into what it points to", "return one of the two", spot, notes)

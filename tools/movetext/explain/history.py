@@ -39,6 +39,17 @@ def latest(subject: Subject, function: int, at: int, is_it: Callable[[int], bool
     return sorted(found)
 
 
+def changes(subject: Subject, function: int, at: int, local: int) -> Tuple[List[int], bool]:
+    """The last instructions before one that give a local a value or take it away, on each path that leads there, and whether a path from
+    the function's beginning has none."""
+    code = subject.module.functions[function].code
+
+    def is_change(place: int) -> bool:
+        return code[place].name in ("MoveLoc", "StLoc") and code[place].operand == local
+    first = latest(subject, function, at, lambda place: place == 0 or is_change(place))
+    return latest(subject, function, at, is_change), at == 0 or 0 in first and not is_change(0)
+
+
 def pairs(edges: Edges) -> Set[Pair]:
     return {(target, origin) for target, some in edges.into.items() for origin in edges.table.members(some)}
 

@@ -5,7 +5,7 @@ from typing import List, Sequence, Tuple
 from ..model import AVAILABLE, COPY, MAYBE
 from .availability import READING, Locals
 from .failures import Advice, Spot, a_type
-from .history import latest
+from .history import changes
 
 Notes = Tuple[Tuple[Spot, str], ...]
 
@@ -17,32 +17,26 @@ def of_local(domain: Locals, state: Sequence[int], at: int, local: int) -> Advic
     return of_loss(domain, state, at, local)
 
 
-def changes(domain: Locals, at: int, local: int) -> List[int]:
-    """The last instructions before one that give a local a value or take it away."""
-    code = domain.code
-    return latest(domain.subject, domain.function, at,
-                  lambda place: code[place].name in ("MoveLoc", "StLoc") and code[place].operand == local)
-
-
 def of_use(domain: Locals, state: Sequence[int], at: int, local: int) -> Advice:
     """What is said of a local that is used without a value."""
     function, name = domain.function, domain.subject.local(domain.function, local)
-    moves = [one for one in changes(domain, at, local) if domain.code[one].name == "MoveLoc"]
-    spot = Spot("operand", function, at)
+    last, is_first = changes(domain.subject, function, at, local)
+    moves, is_given = [one for one in last if domain.code[one].name == "MoveLoc"], domain.start()[local] == AVAILABLE or not is_first
+    spot, declared = Spot("operand", function, at), (Spot("local", function, local), f"`{name}` is declared here, without a value")
     notes: Notes = tuple((Spot("instruction", function, one), move_said(name, one, at)) for one in moves)
+    can_copy = domain.subject.abilities(domain.types[local]) & COPY
+    copied = f"write `CopyLoc {name}` there: `MoveLoc` is for the last use" if can_copy and is_given else ""
     if state[local] == MAYBE:
-        fact = f"`{name}` has no value on one of the paths that lead here"
-        notes = notes or ((Spot("local", function, local), f"`{name}` is declared here, without a value"),)
         how = f"give `{name}` a value again before the next round, or leave the loop after it is moved" if any(
             one >= at for one in moves) else f"give `{name}` a value on every path that leads here, or use it before the paths part"
-        return Advice(fact, how, spot, notes)
+        return Advice(f"`{name}` has no value on one of the paths that lead here", copied or how, spot, notes or (declared,))
     if not moves:
-        return Advice(f"`{name}` has no value yet", f"give it one before, by `StLoc {name}`", spot,
-                      ((Spot("local", function, local), f"`{name}` is declared here, without a value"),))
-    can_copy = domain.subject.abilities(domain.types[local]) & COPY
-    how = f"write `CopyLoc {name}` there: `MoveLoc` is for the last use" if can_copy else \
-        f"{a_type(domain.subject.type(domain.types[local]))} can't be copied: borrow it there, by `ImmBorrowLoc {name}`, or use it once"
-    return Advice(f"`{name}` has no value here: it was moved before", how, spot, notes)
+        return Advice(f"`{name}` has no value yet", f"give it one before, by `StLoc {name}`", spot, (declared,))
+    if not is_given:
+        return Advice(f"`{name}` has no value here", f"give it one on every path that leads here, by `StLoc {name}`", spot,
+                      (declared, *notes))
+    how = f"{a_type(domain.subject.type(domain.types[local]))} can't be copied: borrow it there, by `ImmBorrowLoc {name}`, or use it once"
+    return Advice(f"`{name}` has no value here: it was moved before", copied or how, spot, notes)
 
 
 def move_said(name: str, move: int, at: int) -> str:
@@ -53,9 +47,9 @@ def of_loss(domain: Locals, state: Sequence[int], at: int, local: int) -> Advice
     """What is said of a local whose value can't be dropped, where it is overwritten or left behind."""
     function, name = domain.function, domain.subject.local(domain.function, local)
     type_ = domain.subject.type(domain.types[local])
-    stores = [one for one in changes(domain, at, local) if domain.code[one].name == "StLoc"]
+    stores = [one for one in changes(domain.subject, function, at, local)[0] if domain.code[one].name == "StLoc"]
     notes: Notes = tuple((Spot("instruction", function, one), f"`{name}` gets it here") for one in stores[:1])
-    notes = notes or ((Spot("local", function, local), f"`{name}` comes with it"),)
+    notes = notes or ((Spot("local", function, local), f"`{name}` is a parameter, and holds one from the start"),)
     holds = "still holds" if state[local] == AVAILABLE else "may still hold"
     fact = f"`{name}` {holds} {a_type(type_)} here, which can't be dropped"
     if domain.code[at].name == "StLoc":

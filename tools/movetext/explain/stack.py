@@ -114,7 +114,7 @@ class Step:
         if self.instruction.name == "Ret" and base:
             left = types_text(self.subject, self.stack[:base])
             self.fail("nothing else is on the stack", f"Ret takes the results, and leaves {left}",
-                      of_rest(self.subject, self.function, self.at, self.stack[:base]))
+                      of_rest(self, self.stack[:base]))
         given = self.listed(self.row.gives)
         return self.stack[:base] + tuple(map(self.token, given))
 

@@ -2,9 +2,11 @@
 
 from typing import TYPE_CHECKING, List, Optional, Sequence, Tuple, Union
 
-from ..model import ADDRESS, BOOL, DROP, LEAF_NAMES, SIGNER, STRUCT, Instruction, Token
+from ..model import (ABILITIES, ADDRESS, BOOL, DROP, KEY, LEAF_KINDS, LEAF_NAMES, MUTABLE, REFERENCE, SIGNER, STORE, STRUCT, Instruction,
+                     Token, known)
 from ..opcodes import OPCODES
 from .failures import Advice, Spot, a_type, listed
+from .history import changes
 
 if TYPE_CHECKING:
     from .stack import Step
@@ -15,6 +17,9 @@ LOADS = {name[2:].lower(): name for name in (one.name for one in OPCODES) if nam
 GLOBAL = ("Exists", "MutBorrowGlobal", "ImmBorrowGlobal", "MoveFrom")
 ON_BOOLS = {"BitAnd": "And", "BitOr": "Or", "Xor": "Neq", "Eq": "Eq"}
 ON_NUMBERS = {"And": "BitAnd", "Or": "BitOr"}
+TESTED = "take an address too, and test that it is the signer's (docs/AUTHORS.md#who-may-do-it)"
+# So many second places are told of operands that are left.
+MOST_NOTES = 4
 
 
 def makers(step: "Step") -> List[int]:
@@ -97,7 +102,8 @@ def takes_said(step: "Step") -> str:
         return "two values of one type"
     if row == ("T", "&mut_T"):
         return "a value and a `&mut` reference to its type"
-    said = [{"&?T": "a reference", "&mut_T": "a `&mut` reference"}.get(word, step.said(word)) for word in row]
+    said = [{"&?T": "a reference", "&mut_T": "a `&mut` reference", "T": "" if "T" in step.types else "a value"}.get(word) or step.said(word)
+            for word in row]
     return " and ".join(said) or "nothing"
 
 
@@ -111,6 +117,9 @@ def help_of(finds: Finds) -> str:
             name, f"put them in the order {order_said(finds)}")
     wrong = finds.wrong or 0
     wanted, found = finds.wanted[wrong] if finds.wanted else "", finds.found[wrong]
+    order = stored_reversed(finds)
+    if order:
+        return order
     if len(finds.wanted) > 2 or name in ("Call", "Pack") and len(finds.wanted) > 1:
         return f"put them in the order {order_said(finds)}"
     return of_one(finds, wanted, found) or f"put {wanted_said(step, wanted)} there"
@@ -123,7 +132,67 @@ def of_few(finds: Finds) -> str:
     if finds.name in ("Call", "Pack"):
         what = "argument" if finds.name == "Call" else "field"
         return f"put each {what} on the stack before it, in the order {order_said(finds)}"
-    return "put what it takes on the stack before it, as by `MoveLoc x` or `LdU64 1`"
+    # Where some are there, those that are missing are known if the others are the first ones.
+    step = type(finds.step)(finds.subject, finds.step.function, finds.step.at, ())
+    fit = all(map(step.fits, finds.wanted, finds.found))
+    makes = makes_of(step, finds.wanted[len(finds.found)]) if fit else []
+    return "put what it takes on the stack before it" + (f", as by {listed(makes, 'or')}" if makes else "")
+
+
+def makes_of(step: "Step", wanted: Union[Token, str]) -> List[str]:
+    """Instructions that put an operand on the stack, as far as there are any for its type."""
+    token = wanted if isinstance(wanted, Token) else type_of(step, wanted)
+    if token is None:
+        return {"&?T": ["ImmBorrowLoc x"], "&mut_T": ["MutBorrowLoc x"]}.get(str(wanted), ["MoveLoc x", "LdU64 1"])
+    tokens = [token, Token(MUTABLE, token.inner)] if str(wanted).startswith("&?") else [token]
+    found = [f"MoveLoc {local}" for one in tokens for local in locals_of(step, one)]
+    if token.is_reference:
+        borrow = "MutBorrowLoc" if token.is_mutable else "ImmBorrowLoc"
+        found += [f"{borrow} {local}" for local in locals_of(step, token.inner)]
+    type_ = step.subject.type(token)
+    return found[:1] or {"bool": ["LdTrue"], "address": ["LdConst @0x1"]}.get(type_, [f"{LOADS[type_]} 1"] if type_ in LOADS else [])
+
+
+def type_of(step: "Step", word: str) -> Optional[Token]:
+    """The type that a word of a row means, or None where it isn't known."""
+    if word in LEAF_KINDS or word == "&signer":
+        leaf = Token(LEAF_KINDS[word.lstrip("&")])
+        return Token(REFERENCE, leaf) if word.startswith("&") else leaf
+    inner = step.types.get(word[-1])
+    if inner is None or not word.startswith("&"):
+        return inner
+    return Token(MUTABLE if word.startswith("&mut_") else REFERENCE, inner)
+
+
+def locals_of(step: "Step", token: Token) -> List[str]:
+    """The locals of a type that have a value before an instruction, by name."""
+    subject, function = step.subject, step.function
+    definition = subject.module.functions[function]
+    count = len(known(subject.module.parameters(definition)))
+    found = []
+    for local, one in enumerate(known(subject.module.local_types(definition))):
+        if one == token and (step.instruction.name, step.instruction.operand) != ("StLoc", local):
+            last, is_first = changes(subject, function, step.at, local)
+            if all(definition.code[at].name == "StLoc" for at in last) and (local < count or not is_first):
+                found.append(subject.local(function, local))
+    return found
+
+
+def stored_reversed(finds: Finds) -> str:
+    """What to write where the fields of what is unpacked, or the results of a call, are put into locals from the first to the last;
+    nothing where they aren't."""
+    if finds.name != "StLoc" or finds.maker() not in ("Unpack", "Call"):
+        return ""
+    made, subject = finds.makers[finds.wrong or 0], finds.subject
+    step = type(finds.step)(subject, finds.step.function, made, ())
+    given = step.listed(step.row.gives)
+    function = subject.module.functions[step.function]
+    stores = [one.operand for one in function.code[made + 1:made + 1 + len(given)] if one.name == "StLoc"]
+    types = known(subject.module.local_types(function))
+    if [types[one] for one in stores] != given:
+        return ""
+    order = ", then ".join(f"`StLoc {subject.local(step.function, one)}`" for one in reversed(stores))
+    return f"the last {'field' if finds.maker() == 'Unpack' else 'result'} comes off first: {order}"
 
 
 def order_said(finds: Finds) -> str:
@@ -148,7 +217,7 @@ def of_one(finds: Finds, wanted: Union[Token, str], found: Token) -> str:
         how = "MutBorrowLoc" if "mut" in str(wanted) and "?" not in str(wanted) else "ImmBorrowLoc"
         return f"borrow it: `{how} {local or 'x'}`" + (f" in place of `{finds.text(finds.makers[finds.wrong or 0])}`" if local else "")
     if name in GLOBAL and found.value_type.kind == SIGNER:
-        return "a signer isn't turned into an address: take an address too, and test that it is the signer's (docs/AUTHORS.md)"
+        return f"a signer isn't turned into an address: {TESTED}"
     if found.is_reference:
         return "read it: `ReadRef` gives what the reference points to"
     return of_numbers(finds, wanted, found)
@@ -197,31 +266,72 @@ def of_need(step: "Step", token: Token, need: str) -> Advice:
             return Advice(f"`{name}` compares values, and `{type_}` is a reference", "read both, each by `ReadRef` after it", spot)
         return Advice(f"`{local}` is a reference already, which isn't borrowed again", f"write `CopyLoc {local}` or `MoveLoc {local}`", spot)
     if need == "key":
-        return Advice(f"`{type_}` lacks key, so that none is stored by itself", f"write `struct {type_} has key`, with store in its fields",
-                      spot, notes)
+        return Advice(f"`{type_}` lacks key, so that none is stored by itself", key_said(subject, step.instruction.operand), spot, notes)
+    is_own = subject.module.is_own_struct(token.struct)
     if need == "copy":
-        how = f"move it, by `MoveLoc {local}`, or borrow it, by `ImmBorrowLoc {local}`" if name == "CopyLoc" else \
-            "borrow a field of it, and read that: `ImmBorrowField` before `ReadRef`"
+        how = f"move it, by `MoveLoc {local}`, or borrow it, by `ImmBorrowLoc {local}`" if name == "CopyLoc" else of_read(token, is_own)
         return Advice(f"{a_type(type_)} can't be copied", how, spot, notes)
-    return Advice(*of_drop(name, type_), spot, notes)
+    return Advice(*of_drop(name, type_, is_own), spot, notes)
 
 
-def of_drop(name: str, type_: str) -> Tuple[str, str]:
+def key_said(subject: "Subject", struct: int) -> str:
+    """How a struct of the module is given key, beside the abilities that it has."""
+    definition = subject.module.structs[struct]
+    abilities = subject.module.struct_handles[definition.handle].abilities | KEY
+    words = ", ".join(word for bit, word in ABILITIES if abilities & bit)
+    have_store = all(subject.abilities(one.type) & STORE for one in definition.fields)
+    return f"write `struct {subject.names.definitions[struct]} has {words}`" + ("" if have_store else ", with store in its fields")
+
+
+def of_read(token: Token, is_own: bool) -> str:
+    """What to write where a value that can't be copied is read."""
+    if token.kind == SIGNER:
+        return f"no instruction gives a signer's address: {TESTED}"
+    if not is_own:
+        return "only its own module reads its fields: call a function of that"
+    return "borrow a field of it, and read that: `ImmBorrowField` before `ReadRef`"
+
+
+def of_drop(name: str, type_: str, is_own: bool) -> Tuple[str, str]:
     """What is said of a value that can't be dropped."""
     if name == "WriteRef":
-        return f"what is there is {a_type(type_)}, which can't be dropped", "write its fields one by one, by `MutBorrowField`"
+        return f"what is there is {a_type(type_)}, which can't be dropped", \
+            "write its fields one by one, by `MutBorrowField`" if is_own else "only its own module writes its fields: call a function of that"
     if name in ("Eq", "Neq"):
-        return f"{a_type(type_)} can't be dropped, as `{name}` does with what it compares", "borrow a field of each, and compare these"
+        return f"{a_type(type_)} can't be dropped, as `{name}` does with what it compares", \
+            "borrow a field of each, and compare these" if is_own else "only its own module reads its fields: call a function of that"
     return f"{a_type(type_)} can't be dropped", f"unpack it, by `Unpack {type_}` in its own module; or store it, or return it"
 
 
-def of_rest(subject: "Subject", function: int, at: int, rest: Sequence[Token]) -> Advice:
+def of_rest(step: "Step", rest: Sequence[Token]) -> Advice:
     """What is said of operands that Ret leaves."""
-    types = [subject.type(one) for one in rest]
-    can_drop = all(subject.abilities(one) & DROP for one in rest)
-    off = f"take {'it' if len(rest) == 1 else 'them'} off, by {'`Pop` or ' if can_drop else ''}`StLoc`"
+    subject, types = step.subject, [step.subject.type(one) for one in rest]
+    it = "it" if len(rest) == 1 else "them"
+    by = f"by {'`Pop` or ' if all(subject.abilities(one) & DROP for one in rest) else ''}`StLoc`"
+    off = f"take {it} off, {by}"
+    notes: Tuple[Tuple[Spot, str], ...] = ()
+    if len(rest) < len(step.stack):
+        notes = below_notes(step, types)
+        below = "the result is" if len(step.stack) == len(rest) + 1 else "the results are"
+        off = f"{below} on top of {it}: {off_below(step, len(rest), by)}"
     return Advice(f"`Ret` leaves {listed(types)} on the stack", f"{off}; or declare {'it as a result' if len(rest) == 1 else 'results'} "
-                  f"in the function's head", Spot("instruction", function, at))
+                  f"in the function's head", Spot("instruction", step.function, step.at), notes)
+
+
+def below_notes(step: "Step", types: Sequence[str]) -> Tuple[Tuple[Spot, str], ...]:
+    """Where operands below the results come from."""
+    found = [(Spot("instruction", step.function, at), f"the `{type_}` is from here") for at, type_ in zip(makers(step), types)]
+    return tuple(dict.fromkeys(found[:MOST_NOTES]))
+
+
+def off_below(step: "Step", count: int, by: str) -> str:
+    """How operands below the results are taken off."""
+    made = makers(step)[:count]
+    if any(type(step)(step.subject, step.function, at, ()).counts()[1] != 1 for at in made):
+        return f"`StLoc` what is on top, take {'it' if count == 1 else 'them'} off, {by}, and `MoveLoc` what was on top"
+    if count == 1:
+        return f"take it off right after `{step.subject.instruction_text(step.function, made[0])}`, {by}"
+    return f"take each off right after the instruction that puts it there, {by}"
 
 
 def of_block(subject: "Subject", function: int, at: int, rest: Sequence[Token]) -> Advice:
