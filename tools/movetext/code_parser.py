@@ -120,14 +120,14 @@ class CodeParser(TermParser):
         if word == "let":
             self.fail("a local is declared after an instruction", help="write each `let` before the first instruction")
         help = habits.of_instruction(word)
-        if self.kinds[self.at + 1] == scanner.WRONG and (word in habits.MEANT or not help):
+        if self.kinds[self.at + 1] == scanner.WRONG and word not in habits.INSTRUCTIONS and word.lower() not in habits.CONTROLS:
             self.at += 1
             self.wanted("an instruction")
         told = f"no instruction `{word}`"
         if help:
             self.fail(told, help=help)
-        if self.texts[self.at + 1] == "." and not nearest(word, BY_NAME):
-            self.fail_as(habits.of_field(word, self.texts[self.at + 2]))
+        if self.texts[self.at + 1] == "." and self.texts[self.at + 3] != "(":
+            self.fail_as(habits.FIELD_READ)
         if self.texts[self.at + 1] == "(" and not nearest(word, BY_NAME):
             self.fail(told, help=f"a function is called by `Call {word}`, with its arguments on the stack")
         if self.kinds[self.at + 1] == scanner.LINE_END and not nearest(word, BY_NAME):

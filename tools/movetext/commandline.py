@@ -98,6 +98,7 @@ class CommandLine:
     def understood(self, words: List[str]) -> Dict[str, Optional[str]]:
         """What was given, by the names of arguments and values; None for what wasn't. WordsError where it isn't understood."""
         found: Dict[str, Optional[str]] = {}
+        self.more = []
         places = list(self.arguments)
         rest, are_options_over = list(words), False
         while rest:

@@ -9,6 +9,8 @@ GENERICS = Help("there are no generics", "a struct or a function has no types in
 NO_VECTOR = Help("there are no vectors", "a struct has a fixed number of fields")
 EXPRESSION = Help("there are no expressions", "code is instructions, which take their operands from the stack: `MoveLoc x`, "
                   "`LdU64 1`, `Add` for `x + 1`")
+FIELD_READ = Help(EXPRESSION.fact, "code is instructions, which take their operands from the stack: `ImmBorrowLoc coin`, "
+                  "`ImmBorrowField Coin.value`, `ReadRef` for `coin.value`")
 ASSIGNED = Help("nothing is assigned with `=`", "a local gets its value from instructions, as `LdU64 1` and `StLoc x` for `x = 1`; a "
                 "`let` has a name and a type alone")
 # Where the value of a field or a parameter comes from.
@@ -103,12 +105,6 @@ def of_instruction(word: str) -> str:
     if word in MEANT:
         return f"did you mean `{MEANT[word]}`?"
     return INSTRUCTIONS.get(word) or ANY_CASE.get(word.lower(), "")
-
-
-def of_field(word: str, field: str) -> Help:
-    """What is said of a field that is named as in a source, as `coin.value`."""
-    return Help(EXPRESSION.fact, f"`{word}.{field}` is read by instructions: `ImmBorrowField Coin.{field}` and `ReadRef`, with a reference to "
-                "the struct, as `Coin`, on the stack")
 
 
 def of_name(before: str, behind: str) -> Optional[Help]:

@@ -102,18 +102,35 @@ def types_of_locals(frame: Frame) -> Sequence[Token]:
     return known(frame.owner.module.local_types(frame.owner.module.functions[frame.function]))
 
 
+# A local or an operand, which has no name: its name, its type and its value.
+Holder = Tuple[str, Token, Value]
+
+
+def local_holders(frame: Frame) -> List[Holder]:
+    """The locals of a frame that hold something."""
+    types = types_of_locals(frame)
+    return [(frame.owner.subject.local(frame.function, index), types[index], value)
+            for index, value in enumerate(frame.locals) if value is not None]
+
+
+def held(ledger: Ledger, frame: Frame, places: Optional[Places], some: Sequence[Holder]) -> Iterator[Held]:
+    """What operands or locals of a frame hold. Places are given where one is a reference."""
+    for name, token, value in some:
+        refers = places.name(value) if places is not None and token.is_reference else None
+        yield Held(name, frame.owner.subject.type(token), said_value(ledger, frame.owner, token, value), refers)
+
+
 def holdings(ledger: Ledger, machine: Machine, frame: Frame) -> Tuple[List[Held], List[Held]]:
     """What the operands of a frame hold, the last on top, and its locals that hold something, before its next instruction."""
-    subject = frame.owner.subject
-    operands = [("", token, value) for token, value in zip(stacks_of(subject, frame.function)[frame.at], frame.stack)]
-    types = types_of_locals(frame)
-    others = [(subject.local(frame.function, index), types[index], value)
-              for index, value in enumerate(frame.locals) if value is not None]
+    operands = [("", token, value) for token, value in zip(stacks_of(frame.owner.subject, frame.function)[frame.at], frame.stack)]
+    others = local_holders(frame)
     has_references = any(token.is_reference for _, token, _ in operands + others)
     places = Places(ledger, machine, frame) if has_references else None
+    return list(held(ledger, frame, places, operands)), list(held(ledger, frame, places, others))
 
-    def held(some: Sequence[Tuple[str, Token, Value]]) -> Iterator[Held]:
-        for name, token, value in some:
-            refers = places.name(value) if places is not None and token.is_reference else None
-            yield Held(name, subject.type(token), said_value(ledger, frame.owner, token, value), refers)
-    return list(held(operands)), list(held(others))
+
+def local_holdings(ledger: Ledger, machine: Machine, frame: Frame, most: int) -> Tuple[List[Held], int]:
+    """What the locals of a frame hold that hold something, at most so many of them, and how many more there are."""
+    holders = local_holders(frame)
+    first = held(ledger, frame, Places(ledger, machine, frame), holders[:most])
+    return list(first), max(0, len(holders) - most)

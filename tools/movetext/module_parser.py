@@ -1,6 +1,6 @@
 """Modules: their imports, structs, functions and tables."""
 
-from typing import List, NoReturn
+from typing import Callable, List, NoReturn
 
 from . import habits, scanner, syntax
 from .errors import Note, TextError, one_of
@@ -39,7 +39,7 @@ class ModuleParser(TableParser):
         module = syntax.Module(name, self.version, start)
         self.whole_functions = module.functions
         before = len(self.errors)
-        self.open_brace()
+        self.open_block(self.is_item)
         while not self.accept_close():
             if self.kind == scanner.NAME and self.text in OUTSIDE and self.begins_line() and not self.is_named():
                 self.ends_before(self.text if self.text in ("module", "certificate") else "record")
@@ -165,7 +165,7 @@ class ModuleParser(TableParser):
         struct = syntax.Struct(name, self.abilities(), [], start)
         if isinstance(name, syntax.Index) and struct.abilities:
             self.fail("a struct by its index has the abilities of its handle", name.at)
-        self.open_brace()
+        self.open_block(self.is_field)
         while not self.accept_close():
             what = self.head()
             if what:
@@ -251,16 +251,41 @@ class ModuleParser(TableParser):
             function.acquires = self.listed(self.acquired)
         if self.accept_word("locals"):
             function.locals_index = self.index()
-        self.open_brace()
+        function.is_broken = self.open_block(self.is_code)
         self.declarations(function)
         self.form = ""
         self.code(function)
         return function
 
+    def open_block(self, is_within: Callable[[], bool]) -> bool:
+        """The brace at the end of a head. Where it is missing, and the next line is one of the block, that is kept as an error, and reading
+        goes on. Answers whether it is missing."""
+        head_end = self.at
+        try:
+            self.open_brace()
+            return False
+        except TextError as error:
+            self.skip_lines()
+            if self.at == head_end or not is_within():
+                self.at = head_end
+                raise
+            self.note(error)
+            self.opened.append(head_end)
+            return True
+
+    def is_field(self) -> bool:
+        """Whether the next word is a field's name, since its type follows."""
+        return self.kind in (scanner.NAME, scanner.QUOTED, scanner.INDEX) and self.texts[self.at + 1] == ":"
+
+    def is_code(self) -> bool:
+        """Whether the next word begins a line of a function."""
+        return self.kind == scanner.NAME and (self.text in BY_NAME or self.text == "let" or self.texts[self.at + 1] == ":") and \
+            not self.is_named()
+
     def acquired(self) -> syntax.Entry:
         """A struct of the module after `acquires`."""
         start, is_address = self.start, self.kind == scanner.NUMBER
-        struct = syntax.Name(self.text, start) if is_address else self.entry("a struct")
+        struct: syntax.Entry = syntax.Name(self.text, start) if is_address else self.entry("a struct")
         if is_address or self.is_mark("::") or self.is_mark("."):
             self.fail("`acquires` names structs of its own module, by their names alone", start,
                       "what a function of another module acquires isn't listed")

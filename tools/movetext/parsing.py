@@ -175,8 +175,10 @@ class WordParser:
             self.wanted("the end of the line")
 
     def open_brace(self) -> None:
+        head_end = self.at
         self.skip_lines()
         if not self.is_mark("{"):
+            self.at = head_end
             self.wanted("`{`")
         self.opened.append(self.at)
         self.at += 1
@@ -464,7 +466,7 @@ class TermParser(WordParser):
         for bit in self.listed(self.ability):
             bits |= bit
         if self.text in ("+", "|", "&") or self.kind == scanner.NAME and self.text in [word for _, word in model.ABILITIES]:
-            self.fail("abilities are separated by commas", self.start, "write `has store, key`, and so on")
+            self.fail("abilities are separated by commas", self.start, "as `has store, key`")
         return bits
 
     def ability(self) -> int:

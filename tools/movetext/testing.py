@@ -42,7 +42,8 @@ class Session:
         self.given, self.program = given, program
         self.counts = Counts()
         self.cases = self.wrong = self.files = 0
-        self.is_broken = False
+        # Whether a file couldn't be tried, and whether some of its cases were begun.
+        self.is_broken = self.is_begun = False
 
     def file(self, name: str) -> Iterator[str]:
         """Does a file's cases. Yields what is printed."""
@@ -75,6 +76,9 @@ class Session:
         else:
             compared = "; not compared with the program" + (f": {NONE}" if self.given["--alone"] is None else "")
         cases = f"{self.cases} case{'s' if self.cases != 1 else ''}"
+        if not self.cases and not self.wrong:
+            return f"movetest: no case was {'tried to its end' if self.is_begun else 'run'}"
+        compared += "; not every case was tried" if self.is_broken else ""
         return f"movetest: {self.wrong} wrong of {cases}{compared}" if self.wrong else f"movetest: {cases} as wanted{compared}"
 
     def status(self) -> int:
@@ -117,16 +121,16 @@ def try_files(session: Session, names: List[str], write: Write) -> None:
         except OSError as error:
             broken(session, f"{name}: can't be read: {error.strerror or error}")
         except NotAsked as error:
-            broken(session, f"{name}: {error}")
+            broken(session, f"{name}: {error}", is_begun=True)
         except Spent as error:
-            broken(session, f"{name}: {error}")
+            broken(session, f"{name}: {error}", is_begun=True)
         except RecursionError:
-            broken(session, f"{name}: it is nested too deep")
+            broken(session, f"{name}: it is nested too deep", is_begun=True)
 
 
-def broken(session: Session, message: str) -> None:
-    """Says that a file couldn't be tried."""
-    session.is_broken = True
+def broken(session: Session, message: str, is_begun: bool = False) -> None:
+    """Says that a file couldn't be tried, or not to its end."""
+    session.is_broken, session.is_begun = True, session.is_begun or is_begun
     sys.stdout.flush()
     print(message, file=sys.stderr, flush=True)
 

@@ -4,11 +4,12 @@ from typing import List, NamedTuple, NoReturn, Optional, Sequence, Tuple
 
 from .. import model
 from ..errors import and_meant
+from ..held import local_holdings
 from ..model import LEAF_NAMES, SIGNER, Token, known
 from ..naming import quoted
 from ..limits import RUN_COUNT, STEP_COUNT
 from .failures import Failure, Fails, Place, a_type, counted
-from .ledger import Ledger, said_value
+from .ledger import Ledger
 from .link import Published, name_text
 from .machine import Frame, Machine
 from .signatures import is_given
@@ -43,7 +44,7 @@ def answered(ledger: Ledger, record: model.Run, offset: int) -> Outcome:
         ledger.packed.update(machine.packed)
         ledger.unpacked.update(machine.unpacked)
         return Outcome(ending.words)
-    return Outcome(ending.words, given_up(ledger, ending.frames, ending.words, ending.why))
+    return Outcome(ending.words, given_up(ledger, machine, ending.words, ending.why))
 
 
 def begun(ledger: Ledger, record: model.Run, offset: int) -> Tuple[Published, int]:
@@ -93,9 +94,9 @@ def types_said(types: Sequence[Token]) -> str:
     return "(" + ", ".join(LEAF_NAMES[one.kind] for one in types) + ")" if types else "no arguments"
 
 
-def given_up(ledger: Ledger, frames: List[Frame], words: str, why: str) -> Failure:
+def given_up(ledger: Ledger, machine: Machine, words: str, why: str) -> Failure:
     """That a run was given up: where, why, and what the locals of the function at work hold."""
-    frame = frames[-1]
+    frames, frame = machine.frames, machine.frames[-1]
     # An instruction that isn't begun any more is the next one.
     at = frame.at if words.startswith("exhausted steps") else frame.at - 1
     place = place_of(frame, at)
@@ -103,7 +104,7 @@ def given_up(ledger: Ledger, frames: List[Frame], words: str, why: str) -> Failu
         why = "the budget is used up before this instruction" if words.startswith("exhausted steps") \
             else f"the Call would make a {len(frames) + 1}th frame"
     calls = [f"called by {told(one, place_of(one, one.at - 1))}" for one in reversed(frames[:-1])]
-    lines = locals_said(ledger, frame) + calls[:MOST_TOLD]
+    lines = locals_said(ledger, machine, frame) + calls[:MOST_TOLD]
     if len(calls) > MOST_TOLD:
         lines.append(f"and {counted(len(calls) - MOST_TOLD, 'frame')} more")
     return Failure(None, place, "", why, tuple(lines), frame.owner.subject.source_place(place), words)
@@ -120,15 +121,10 @@ def told(frame: Frame, place: Place) -> str:
     return place.text + (f", {source}" if source else "")
 
 
-def locals_said(ledger: Ledger, frame: Frame) -> List[str]:
+def locals_said(ledger: Ledger, machine: Machine, frame: Frame) -> List[str]:
     """What the locals of a frame hold, a line each."""
-    subject = frame.owner.subject
-    types = known(frame.owner.module.local_types(frame.owner.module.functions[frame.function]))
-    held = [(index, value) for index, value in enumerate(frame.locals) if value is not None]
-    lines = [f"    {subject.local(frame.function, index)}: {said_value(ledger, frame.owner, types[index], value)}"
-             for index, value in held[:MOST_TOLD]]
-    if len(held) > MOST_TOLD:
-        lines.append(f"    and {counted(len(held) - MOST_TOLD, 'local')} more")
+    held, more = local_holdings(ledger, machine, frame, MOST_TOLD)
+    lines = [f"    {one.name}: {one.text}" for one in held]
+    if more:
+        lines.append(f"    and {counted(more, 'local')} more")
     return ["its locals hold:", *lines] if lines else []
-
-
