@@ -108,12 +108,14 @@ def of_instruction(word: str) -> str:
 
 
 def of_name(before: str, behind: str) -> Optional[Help]:
-    """What is said of a dash between two letters of what may be a name, by the text before and behind it; None where it is none."""
+    """What is said of a dash between two letters, by the text before and behind it; None where that is a line of its own, as `x-y`, which
+    is no name."""
     first, last = re.search(r"[A-Za-z_][\w-]*\Z", before), re.match(r"-[A-Za-z_][\w-]*", behind)
     if first is None or last is None:
         return None
-    is_line = not before[:first.start()].rpartition("\n")[2].strip() and behind[last.end():].lstrip(" \t\r")[:1] in ("", "\n", ";", "}")
-    return None if is_line else Help("a name has letters, digits and `_`", f"write `{(first.group() + last.group()).replace('-', '_')}`")
+    if re.search(r"(\A|[\n;{}])[ \t\r]*\Z", before[:first.start()]) and re.match(r"[ \t\r]*(\Z|[\n;}])", behind[last.end():]):
+        return None
+    return Help("a name has letters, digits and `_`", f"write `{(first.group() + last.group()).replace('-', '_')}`")
 
 
 def of_mark(text: str, at: int) -> Optional[Help]:

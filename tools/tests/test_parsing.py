@@ -3,12 +3,16 @@
 import unittest
 from typing import List, Tuple
 
+from movetext import habits
 from movetext.errors import Source, TextError
 from movetext.model import U64, Value
 from movetext.stream_parser import parse
 from movetext.syntax import Ask, Index, Module, Name, Path, Publish, Raw, Run, Stream
 
 Rows = List[Tuple[str, str]]
+EXPRESSION = f"{habits.EXPRESSION.fact}; {habits.EXPRESSION.help}"
+FIELD_READ = f"{habits.FIELD_READ.fact}; {habits.FIELD_READ.help}"
+NEGATIVE = "there is no negative number; numbers are unsigned: Sub aborts the run below 0"
 
 
 def in_module(*items: str) -> str:
@@ -32,8 +36,10 @@ WORDS: Rows = [
     ("module 0x1:: { }", "1:14: wanted the module's name, found `{`"),
     ("module 0x1::M version x { }", "1:23: wanted a version, found `x`"),
     ("module 0x1::M version 7 { }", "1:23: there is no version 7; write `version 6`, or none for 5"),
+    ("module 0x1::M version -6 { }", f"1:23: {NEGATIVE}"),
     ("module 0x1::M version 6u8 { }", "1:23: wanted a version without a type, found `6u8`; write `6`"),
     ("module 0x1::M version 300 { }", "1:23: `300` is too great: it is at most 255"),
+    ("module 0x1::M-N { }", "1:14: a name has letters, digits and `_`; write `M_N`"),
     ("module 0x1::M [ }", "1:15: wanted `{`, found `[`"),
     ("module 0x1::M {", "1:15: this `{` isn't closed; write `}` where its block ends"),
 ]
@@ -41,10 +47,14 @@ MODULES: Rows = [
     (in_module("import 0x2::N as 7"), "2:18: wanted a name, found `7`"),
     (in_module("import 0x2::N { f(u8"), "1:15: this `{` isn't closed; write `}` where its block ends"),
     (in_module("import 0x2::N { f(u8 u8) }"), "2:22: wanted `,` or `)`, found `u8`"),
-    (in_module("import 0x2::N { struct S has drop copy }"), "2:35: wanted the end of the line, found `copy`"),
+    (in_module("import 0x2::N { struct S has drop copy }"), "2:35: abilities are separated by commas; as `has store, key`"),
+    (in_module("import 0x2::N { struct S has drop | copy }"), "2:35: abilities are separated by commas; as `has store, key`"),
+    (in_module("import 0x2::N { struct S has drop & copy }"), "2:35: abilities are separated by commas; as `has store, key`"),
+    (in_module("import 0x2::N { struct S has drop mint() }"), "2:35: wanted the end of the line, found `mint`"),
     (in_module("import 0x2::N { struct S has store, dorp }"),
      "2:37: wanted `copy`, `drop`, `store` or `key`, found `dorp`; did you mean `drop`?"),
-    (in_module("struct S"), "3:1: wanted `{`, found `}`"),
+    (in_module("struct S"), "2:9: wanted `{`, found the end of the line"),
+    (in_module("struct S }"), "2:10: wanted `{`, found `}`"),
     (in_module("struct 7 { }"), "2:8: wanted the struct's name, found `7`"),
     (in_module("struct #0 has copy { }"), "2:8: a struct by its index has the abilities of its handle"),
     (in_module("struct S { a b }"), "2:14: wanted `:`, found `b`"),
@@ -71,6 +81,10 @@ MODULES: Rows = [
     (in_module("#0 { let x: u64; Ret }"),
      "2:6: a function by the index of its handle has `locals` with the index of a signature, and no `let`"),
     (in_module("f() { let mut x: u64; Ret }"), "2:11: there is no `mut` after `let`; leave it out: every local may be written"),
+    (in_module("f() acquires N::S { Ret }"), "2:14: `acquires` names structs of its own module, by their names alone; what a "
+     "function of another module acquires isn't listed"),
+    (in_module("f() acquires S, N.S { Ret }"), "2:17: `acquires` names structs of its own module, by their names alone; what a "
+     "function of another module acquires isn't listed"),
     (in_module("f() acquires { Ret }"), "2:14: wanted a struct, found `{`"),
     (in_module("f(): { Ret }"), "2:6: wanted a type, found `{`"),
 ]
@@ -88,6 +102,30 @@ CODE: Rows = [
     (in_code('LdConst u16 x"00"'),
      "3:9: `u16` needs version 6, and this module has version 5; write `version 6` after the module's name"),
     (in_code('LdConst u64 x"0"'), '3:13: these are no bytes; bytes are pairs of hexadecimal digits, as `x"01 ff"`'),
+    (in_code("LdConst Max"),
+     "3:9: no constant `Max`; constants have no names: write the value where it is loaded, as `LdU64 7` or `LdConst @0x1`"),
+    (in_code("LdConst &Max"), '3:13: wanted bytes as `x"01"`, found the end of the line'),
+    (in_code("LdConst `Max`"), '3:14: wanted bytes as `x"01"`, found the end of the line'),
+    (in_code("LdConst Max + 1"), f"3:13: {EXPRESSION}"),
+    (in_code("LdConst -1u64"), f"3:9: {NEGATIVE}"),
+    (in_code("LdU8(-1)"), f"3:6: {NEGATIVE}"),
+    (in_code("v -1"), f"3:3: {EXPRESSION}"),
+    (in_code("v -w"), f"3:3: {EXPRESSION}"),
+    (in_code("v-w"), f"3:2: {EXPRESSION}"),
+    (in_code("v-w; Ret"), f"3:2: {EXPRESSION}"),
+    (in_code("Nop; v-w"), f"3:7: {EXPRESSION}"),
+    (in_module("f() { v-w }"), f"2:8: {EXPRESSION}"),
+    (in_module("f() { v-w: Ret }"), "2:8: a name has letters, digits and `_`; write `v_w`"),
+    (in_code("CopyLoc v-w"), "3:10: a name has letters, digits and `_`; write `v_w`"),
+    (in_code("CopyLoc v-1"), f"3:10: {EXPRESSION}"),
+    (in_code("coin.value"), f"3:1: {FIELD_READ}"),
+    (in_code("Coin.mint(v)"), "3:1: no instruction `Coin`"),
+    (in_code("if v"), f"3:1: no instruction `if`; {habits.CONTROL}"),
+    (in_code("While v < 3"), f"3:1: no instruction `While`; {habits.CONTROL}"),
+    (in_code("While !v"), f"3:1: no instruction `While`; {habits.CONTROL}"),
+    (in_code("push = 3"), f"3:6: {habits.ASSIGNED.fact}; {habits.ASSIGNED.help}"),
+    (in_code("push 3"), f"3:1: no instruction `push`; {habits.INSTRUCTIONS['Push']}"),
+    (in_code("Drop"), "3:1: no instruction `Drop`; did you mean `Pop`?"),
     (in_code("LdConst u64"), '3:12: wanted bytes as `x"01"`, found the end of the line'),
     (in_code("LdConst"), "3:8: wanted a type, found the end of the line"),
     (in_code("MovLoc v"), "3:1: no instruction `MovLoc`; did you mean `MoveLoc`?"),
@@ -132,6 +170,7 @@ RECORDS: Rows = [
     ("run 0x1::`a b`::f() by 0x2 budget 1", "1:10: `a b` is no identifier"),
     ("run 0x1::M::f() by 0x2",
      "1:23: wanted `budget`, found the end of the line; write how many steps it may take, as `budget 1000`"),
+    ("run 0x1::M::f() by 0x2 budget -1", f"1:31: {NEGATIVE}"),
     ("run 0x1::M::f() by 0x2 budget x", "1:31: wanted a number of steps, found `x`"),
     (f"run 0x1::M::f({', '.join(17 * ['true'])}) by 0x2 budget 1", "1:1: a run has at most 16 arguments, and this one has 17"),
     ("show text", "1:6: wanted the end of the line, found `text`"),

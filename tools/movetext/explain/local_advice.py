@@ -1,6 +1,6 @@
 """What is said to an author of a local that has no value where it is used, or one that can't be dropped."""
 
-from typing import List, Sequence, Tuple
+from typing import Sequence, Tuple
 
 from ..model import AVAILABLE, COPY, MAYBE
 from .availability import READING, Locals

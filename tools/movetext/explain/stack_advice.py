@@ -20,6 +20,8 @@ ON_NUMBERS = {"And": "BitAnd", "Or": "BitOr"}
 TESTED = "take an address too, and test that it is the signer's (docs/AUTHORS.md#who-may-do-it)"
 # So many second places are told of operands that are left.
 MOST_NOTES = 4
+# So many locals are tried in search of one that may be an operand.
+MOST_LOCALS = 16
 
 
 def makers(step: "Step") -> List[int]:
@@ -145,12 +147,12 @@ def makes_of(step: "Step", wanted: Union[Token, str]) -> List[str]:
     if token is None:
         return {"&?T": ["ImmBorrowLoc x"], "&mut_T": ["MutBorrowLoc x"]}.get(str(wanted), ["MoveLoc x", "LdU64 1"])
     tokens = [token, Token(MUTABLE, token.inner)] if str(wanted).startswith("&?") else [token]
-    found = [f"MoveLoc {local}" for one in tokens for local in locals_of(step, one)]
-    if token.is_reference:
-        borrow = "MutBorrowLoc" if token.is_mutable else "ImmBorrowLoc"
-        found += [f"{borrow} {local}" for local in locals_of(step, token.inner)]
+    for name, one in [("MoveLoc", one) for one in tokens] + borrows_of(token):
+        local = local_of(step, one)
+        if local:
+            return [f"{name} {local}"]
     type_ = step.subject.type(token)
-    return found[:1] or {"bool": ["LdTrue"], "address": ["LdConst @0x1"]}.get(type_, [f"{LOADS[type_]} 1"] if type_ in LOADS else [])
+    return {"bool": ["LdTrue"], "address": ["LdConst @0x1"]}.get(type_, [f"{LOADS[type_]} 1"] if type_ in LOADS else [])
 
 
 def type_of(step: "Step", word: str) -> Optional[Token]:
@@ -164,18 +166,23 @@ def type_of(step: "Step", word: str) -> Optional[Token]:
     return Token(MUTABLE if word.startswith("&mut_") else REFERENCE, inner)
 
 
-def locals_of(step: "Step", token: Token) -> List[str]:
-    """The locals of a type that have a value before an instruction, by name."""
+def borrows_of(token: Token) -> List[Tuple[str, Token]]:
+    """The borrow of a local that gives a type, and the local's type, where it is a reference."""
+    return [("MutBorrowLoc" if token.is_mutable else "ImmBorrowLoc", token.inner)] if token.is_reference else []
+
+
+def local_of(step: "Step", token: Token) -> str:
+    """A local of a type that has a value before an instruction, by name; nothing where there is none."""
     subject, function = step.subject, step.function
     definition = subject.module.functions[function]
-    count = len(known(subject.module.parameters(definition)))
-    found = []
-    for local, one in enumerate(known(subject.module.local_types(definition))):
-        if one == token and (step.instruction.name, step.instruction.operand) != ("StLoc", local):
-            last, is_first = changes(subject, function, step.at, local)
-            if all(definition.code[at].name == "StLoc" for at in last) and (local < count or not is_first):
-                found.append(subject.local(function, local))
-    return found
+    count, types = len(known(subject.module.parameters(definition))), known(subject.module.local_types(definition))
+    fitting = [local for local, one in enumerate(types)
+               if one == token and (step.instruction.name, step.instruction.operand) != ("StLoc", local)]
+    for local in fitting[:MOST_LOCALS]:
+        last, is_first = changes(subject, function, step.at, local)
+        if all(definition.code[at].name == "StLoc" for at in last) and (local < count or not is_first):
+            return subject.local(function, local)
+    return ""
 
 
 def stored_reversed(finds: Finds) -> str:
