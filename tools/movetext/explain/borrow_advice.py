@@ -103,8 +103,9 @@ def of_result(domain: Borrows, at: int, edge: Edge, made: Optional[int]) -> Advi
     can_copy = domain.subject.abilities(domain.stacks[at][edge.target[1]].value_type) & COPY
     if edge.source[0] == OWN:
         name = domain.subject.local(domain.function, edge.source[1])
-        is_whole = not edge.positions and not edge.is_open
-        value = "return the value: `ReadRef` before Ret; or " if can_copy else f"return the value, by `MoveLoc {name}`; or " if is_whole else ""
+        # What can't be copied is returned by itself, unless the reference is to a part of it.
+        moved = "" if edge.positions or edge.is_open else f"return the value, by `MoveLoc {name}`; or "
+        value = "return the value: `ReadRef` before Ret; or " if can_copy else moved
         return Advice(f"this returns a reference to the local `{name}`, which ends here",
                       f"{value}borrow from a parameter that is a reference", spot, notes)
     if edge.source[0] == GLOB:

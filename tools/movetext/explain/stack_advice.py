@@ -18,6 +18,9 @@ GLOBAL = ("Exists", "MutBorrowGlobal", "ImmBorrowGlobal", "MoveFrom")
 ON_BOOLS = {"BitAnd": "And", "BitOr": "Or", "Xor": "Neq", "Eq": "Eq"}
 ON_NUMBERS = {"And": "BitAnd", "Or": "BitOr"}
 TESTED = "take an address too, and test that it is the signer's (docs/AUTHORS.md#who-may-do-it)"
+# What is said of a struct of another module.
+NOT_READ = "only its own module reads its fields: call a function of that"
+NOT_WRITTEN = "only its own module writes its fields: call a function of that"
 # So many second places are told of operands that are left.
 MOST_NOTES = 4
 # So many locals are tried in search of one that may be an operand.
@@ -104,8 +107,8 @@ def takes_said(step: "Step") -> str:
         return "two values of one type"
     if row == ("T", "&mut_T"):
         return "a value and a `&mut` reference to its type"
-    said = [{"&?T": "a reference", "&mut_T": "a `&mut` reference", "T": "" if "T" in step.types else "a value"}.get(word) or step.said(word)
-            for word in row]
+    words = {"&?T": "a reference", "&mut_T": "a `&mut` reference", **({} if "T" in step.types else {"T": "a value"})}
+    said = [words.get(word) or step.said(word) for word in row]
     return " and ".join(said) or "nothing"
 
 
@@ -276,7 +279,7 @@ def of_need(step: "Step", token: Token, need: str) -> Advice:
         return Advice(f"`{type_}` lacks key, so that none is stored by itself", key_said(subject, step.instruction.operand), spot, notes)
     is_own = subject.module.is_own_struct(token.struct)
     if need == "copy":
-        how = f"move it, by `MoveLoc {local}`, or borrow it, by `ImmBorrowLoc {local}`" if name == "CopyLoc" else of_read(token, is_own)
+        how = of_read(token, is_own) if name == "ReadRef" else f"move it, by `MoveLoc {local}`, or borrow it, by `ImmBorrowLoc {local}`"
         return Advice(f"{a_type(type_)} can't be copied", how, spot, notes)
     return Advice(*of_drop(name, type_, is_own), spot, notes)
 
@@ -295,7 +298,7 @@ def of_read(token: Token, is_own: bool) -> str:
     if token.kind == SIGNER:
         return f"no instruction gives a signer's address: {TESTED}"
     if not is_own:
-        return "only its own module reads its fields: call a function of that"
+        return NOT_READ
     return "borrow a field of it, and read that: `ImmBorrowField` before `ReadRef`"
 
 
@@ -303,10 +306,10 @@ def of_drop(name: str, type_: str, is_own: bool) -> Tuple[str, str]:
     """What is said of a value that can't be dropped."""
     if name == "WriteRef":
         return f"what is there is {a_type(type_)}, which can't be dropped", \
-            "write its fields one by one, by `MutBorrowField`" if is_own else "only its own module writes its fields: call a function of that"
+            "write its fields one by one, by `MutBorrowField`" if is_own else NOT_WRITTEN
     if name in ("Eq", "Neq"):
         return f"{a_type(type_)} can't be dropped, as `{name}` does with what it compares", \
-            "borrow a field of each, and compare these" if is_own else "only its own module reads its fields: call a function of that"
+            "borrow a field of each, and compare these" if is_own else NOT_READ
     return f"{a_type(type_)} can't be dropped", f"unpack it, by `Unpack {type_}` in its own module; or store it, or return it"
 
 
@@ -321,8 +324,9 @@ def of_rest(step: "Step", rest: Sequence[Token]) -> Advice:
         notes = below_notes(step, types)
         below = "the result is" if len(step.stack) == len(rest) + 1 else "the results are"
         off = f"{below} on top of {it}: {off_below(step, len(rest), by)}"
-    return Advice(f"`Ret` leaves {listed(types)} on the stack", f"{off}; or declare {'it as a result' if len(rest) == 1 else 'results'} "
-                  f"in the function's head", Spot("instruction", step.function, step.at), notes)
+    if not subject.module.functions[step.function].is_entry:
+        off += f"; or declare {'it as a result' if len(rest) == 1 else 'results'} in the function's head"
+    return Advice(f"`Ret` leaves {listed(types)} on the stack", off, Spot("instruction", step.function, step.at), notes)
 
 
 def below_notes(step: "Step", types: Sequence[str]) -> Tuple[Tuple[Spot, str], ...]:
