@@ -1,6 +1,6 @@
 """Modules: their imports, structs, functions and tables."""
 
-from typing import Callable, List, NoReturn
+from typing import List, NoReturn
 
 from . import habits, scanner, syntax
 from .errors import Note, TextError, one_of
@@ -39,7 +39,7 @@ class ModuleParser(TableParser):
         module = syntax.Module(name, self.version, start)
         self.whole_functions = module.functions
         before = len(self.errors)
-        self.open_block(self.is_item)
+        self.open_block(lambda: self.is_item() and (self.text not in OUTSIDE or self.is_named()))
         while not self.accept_close():
             if self.kind == scanner.NAME and self.text in OUTSIDE and self.begins_line() and not self.is_named():
                 self.ends_before(self.text if self.text in ("module", "certificate") else "record")
@@ -256,22 +256,6 @@ class ModuleParser(TableParser):
         self.form = ""
         self.code(function)
         return function
-
-    def open_block(self, is_within: Callable[[], bool]) -> bool:
-        """The brace at the end of a head. Where it is missing, and the next line is one of the block, that is kept as an error, and reading
-        goes on. Answers whether it is missing."""
-        head_end = self.at
-        try:
-            self.open_brace()
-            return False
-        except TextError as error:
-            self.skip_lines()
-            if self.at == head_end or not is_within():
-                self.at = head_end
-                raise
-            self.note(error)
-            self.opened.append(head_end)
-            return True
 
     def is_field(self) -> bool:
         """Whether the next word is a field's name, since its type follows."""

@@ -24,6 +24,8 @@ HEADS = {
     "publish": ("record", (scanner.NAME,)), "run": ("record", (scanner.NUMBER,)), "struct": ("struct", (scanner.NAME,)),
     "show": ("record", (scanner.LINE_END, scanner.NAME)), "audit": ("record", (scanner.LINE_END, scanner.NAME)),
 }
+# What may go on with a head, though only on its line.
+IN_HEADS = ("acquires", "has", "locals", "version", ":")
 MODIFIERS = ("public", "entry", "fun")
 
 
@@ -178,11 +180,28 @@ class WordParser:
         head_end = self.at
         self.skip_lines()
         if not self.is_mark("{"):
-            self.at = head_end
+            if self.text not in IN_HEADS:
+                self.at = head_end
             self.wanted("`{`")
         self.opened.append(self.at)
         self.at += 1
         self.skip_ends()
+
+    def open_block(self, is_within: Callable[[], bool]) -> bool:
+        """The brace at the end of a head. Where it is missing, and the next line is one of the block, that is kept as an error, and reading
+        goes on. Answers whether it is missing."""
+        head_end = self.at
+        try:
+            self.open_brace()
+            return False
+        except TextError as error:
+            self.skip_lines()
+            if self.at == head_end or not is_within():
+                self.at = head_end
+                raise
+            self.note(error)
+            self.opened.append(head_end)
+            return True
 
     def accept_close(self) -> bool:
         """Whether the next word closes the block, and is then read. Fails where the text ends before that."""

@@ -72,7 +72,7 @@ class StreamParser(ModuleParser):
         self.at += 1
         self.expect_word("by")
         record = syntax.Publish(self.address(), [], start)
-        self.open_brace()
+        self.open_block(lambda: self.is_word("module"))
         errors = len(self.errors)
         while not self.accept_close():
             if len(record.offers) == BUNDLE_MODULES:

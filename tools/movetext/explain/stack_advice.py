@@ -107,7 +107,9 @@ def takes_said(step: "Step") -> str:
         return "two values of one type"
     if row == ("T", "&mut_T"):
         return "a value and a `&mut` reference to its type"
-    words = {"&?T": "a reference", "&mut_T": "a `&mut` reference", **({} if "T" in step.types else {"T": "a value"})}
+    words = {"&?T": "a reference", "&mut_T": "a `&mut` reference"}
+    if "T" not in step.types:
+        words["T"] = "a value"
     said = [words.get(word) or step.said(word) for word in row]
     return " and ".join(said) or "nothing"
 
@@ -155,7 +157,9 @@ def makes_of(step: "Step", wanted: Union[Token, str]) -> List[str]:
         if local:
             return [f"{name} {local}"]
     type_ = step.subject.type(token)
-    return {"bool": ["LdTrue"], "address": ["LdConst @0x1"]}.get(type_, [f"{LOADS[type_]} 1"] if type_ in LOADS else [])
+    if type_ in LOADS:
+        return [f"{LOADS[type_]} 1"]
+    return {"bool": ["LdTrue"], "address": ["LdConst @0x1"]}.get(type_, [])
 
 
 def type_of(step: "Step", word: str) -> Optional[Token]:
