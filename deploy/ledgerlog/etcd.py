@@ -90,7 +90,9 @@ class Etcd:
 
     def another(self) -> "Etcd":
         """A client of the same nodes, for another thread."""
-        return Etcd(list(self.addresses), self.patience, self.access)
+        made = Etcd(list(self.addresses), self.patience, self.access)
+        made.nodes.is_stopping = self.nodes.is_stopping
+        return made
 
     def close(self) -> None:
         self.nodes.close()
@@ -107,7 +109,7 @@ class Etcd:
         self.find(min(ends, time.monotonic() + seconds))
         while True:
             for _ in self.addresses:
-                now = time.monotonic()
+                now, ends = time.monotonic(), self.nodes.ends(ends)
                 if now >= ends:
                     raise Unreachable(f"no node of the log answers ({why})")
                 try:

@@ -14,13 +14,13 @@ from .errors import Behind
 from .etcd import Access
 from .keys import AT
 from .log import Log
+from .nodes import Connection, address_in
 from .requests import get, value_of
 from .saves import Save, Saves, saved_vote_in, saves_in, vote_on
 from .settings import Settings
 from .votes import Vote, Votes
 
 PATH = re.compile(r"/save/(\d{1,16})")
-ADDRESS = re.compile(r"[A-Za-z0-9.:\[\]-]{1,256}:\d{1,5}")
 PART = 1 << 20
 # So long a replica may be silent, and so many bytes a second it has to give behind that.
 SILENT_SECONDS, LEAST_RATE = 10.0, 50_000.0
@@ -91,6 +91,14 @@ def say(log: Log, name: str, what: str, value: Optional[str]) -> None:
         log.etcd.put(key, value.encode())
 
 
+def is_address(text: str) -> bool:
+    try:
+        address_in(text)
+    except ValueError:
+        return False
+    return True
+
+
 class Wrong(Exception):
     """What came isn't the save that was asked for."""
 
@@ -133,14 +141,14 @@ class Fetching:
         names = [name for name in votes.replicas if name != self.name]
         found = map(value_of, self.log.etcd.transact([], [get(self.log.keys.own(name, AT)) for name in names], [])[1])
         told = [(name, value.decode("ascii", "replace")) for name, value in zip(names, found) if value is not None]
-        return [(name, address) for name, address in told if ADDRESS.fullmatch(address)]
+        return [(name, address) for name, address in told if is_address(address)]
 
     def fetched(self, settings: Settings, agreed: List[Vote], given: List[Tuple[str, str]]) -> Tuple[Optional[Save], List[str]]:
         """The newest save that one of them gives, and who didn't answer."""
         silent: List[str] = []
         for vote in agreed:
             for name, address in given:
-                if name in silent:
+                if name in silent or self.is_stopping():
                     continue
                 try:
                     if self.is_taken(vote, address):
@@ -158,10 +166,7 @@ class Fetching:
 
     def is_taken(self, vote: Vote, address: str) -> bool:
         """Whether a replica has a save; it is there then, whole and with the right digest. Wrong where what comes is another one."""
-        context = self.log.etcd.access.context()
-        made: http.client.HTTPConnection = http.client.HTTPConnection(address, timeout=SILENT_SECONDS)
-        if context is not None:
-            made = http.client.HTTPSConnection(address, timeout=SILENT_SECONDS, context=context)
+        made = Connection(address, self.log.etcd.access.context(), time.monotonic() + SILENT_SECONDS, self.is_stopping)
         try:
             made.request("GET", f"/save/{vote.number}")
             answer = made.getresponse()
@@ -169,16 +174,17 @@ class Fetching:
                 return False
             if answer.status != 200:
                 raise OSError(f"it answers with the status {answer.status}")
-            self.take(answer, vote)
+            self.take(made, answer, vote)
             return True
         finally:
             made.close()
 
-    def take(self, answer: http.client.HTTPResponse, vote: Vote) -> None:
+    def take(self, connection: Connection, answer: http.client.HTTPResponse, vote: Vote) -> None:
         wanted = saved_vote_in(vote.value)
         size, began = 0, time.monotonic()
         with open(self.saves.fetched(), "wb") as file:
             while True:
+                connection.give(min(time.monotonic(), began + size / LEAST_RATE) + SILENT_SECONDS)
                 part = answer.read1(PART)
                 if not part:
                     break
@@ -187,8 +193,6 @@ class Fetching:
                     raise Wrong(f"it has more than {wanted.size} bytes")
                 if self.is_stopping():
                     raise OSError("this replica is to stop")
-                if time.monotonic() - began > SILENT_SECONDS + size / LEAST_RATE:
-                    raise OSError(f"{size} bytes came in {time.monotonic() - began:.0f} s")
                 file.write(part)
         if answer.length:
             raise OSError(f"the connection ended {answer.length} bytes too early")
