@@ -1,5 +1,7 @@
 """What the command lines of this folder have in common, over those of tools/."""
 
+import http.client
+import io
 import os
 import re
 import subprocess
@@ -9,14 +11,16 @@ from typing import Callable, Dict, List, NoReturn, Optional, TypeVar
 TOP = os.path.dirname(os.path.dirname(os.path.dirname(os.path.realpath(__file__))))
 sys.path.append(os.path.join(TOP, "tools"))
 
-from movetext.commandline import (DONE, FAULT, REFUSED, WORDS, Argument, CommandLine, Option, WordsError, read_input,  # noqa: E402
+from movetext.commandline import (DONE, FAULT, INTERRUPTED, REFUSED, WORDS, Argument, CommandLine, Option, WordsError, read_input,  # noqa: E402
                                   understood_or_exit)
 
+from .errors import LogError, NeedsPerson  # noqa: E402
 from .etcd import Access, Etcd  # noqa: E402
 from .log import Log  # noqa: E402
+from .nodes import address_in, port_in  # noqa: E402
 
 # What this module has of the tools for those that import it, beside what it uses.
-__all__ = ["DONE", "REFUSED", "Argument", "WordsError", "read_input", "understood_or_exit"]
+__all__ = ["DONE", "REFUSED", "Argument", "WordsError", "port_in", "read_input", "understood_or_exit"]
 
 # Beside the program's and the tools' own: a replica stops until a person has looked.
 LOOK = 4
@@ -34,6 +38,8 @@ FIRST_PORT = 23_791
 NODES = 3
 LOOPBACK = ("127.0.0.1", "localhost", "::1")
 NAME = re.compile(r"[A-Za-z0-9-]{1,64}")
+# Of records, bytes and hours none has more digits.
+NUMBER = re.compile(r"[0-9]{1,16}")
 ADDRESSES = ",".join(f"127.0.0.1:{FIRST_PORT + at}" for at in range(NODES))
 
 Value = TypeVar("Value")
@@ -58,9 +64,16 @@ def value_of(line: CommandLine, given: Given, option: Option, default: Value,
         return refuse(line, f"invalid value '{text}' for '{option.usage}'")
 
 
+def whole_number(text: str) -> int:
+    """A number of at least 0. ValueError where the text is none."""
+    if not NUMBER.fullmatch(text):
+        raise ValueError(text)
+    return int(text)
+
+
 def positive_number(text: str) -> int:
     """A number of at least 1. ValueError where the text is none."""
-    if int(text) < 1:
+    if whole_number(text) < 1:
         raise ValueError(text)
     return int(text)
 
@@ -83,9 +96,7 @@ def addresses(text: str) -> List[str]:
     """Addresses with `,` between. ValueError where the text has none."""
     told = text.split(",")
     for address in told:
-        host, _, port = address.rpartition(":")
-        if not host or not 0 < int(port) < 65_536:
-            raise ValueError(text)
+        address_in(address)
     return told
 
 
@@ -99,7 +110,10 @@ def file_in(given: Given, name: str) -> str:
 def access_of(given: Given) -> Access:
     """How the log is reached, by the words. OSError where a file can't be read."""
     access = Access(given[CA.value], given[CERTIFICATE.value], given[KEY.value], given[USER.value], password_file=given[PASSWORD.value])
-    access.secret()
+    try:
+        access.secret()
+    except UnicodeDecodeError as why:
+        raise OSError(f"{access.password_file} is no text: {why}") from None
     return access
 
 
@@ -131,3 +145,59 @@ def program_of(line: CommandLine, given: Given) -> str:
         sys.stderr.write(f"{line.name}: {there_is}: build it (./moveledger does), or name one by --moveledger\n")
         sys.exit(FAULT)
     return found
+
+
+class Errors(io.TextIOWrapper):
+    """Standard error. What it doesn't take, since a disk is full or nobody reads it any more, is lost: nothing ends by that."""
+
+    def write(self, text: str) -> int:
+        try:
+            return super().write(text)
+        except OSError:
+            return len(text)
+
+    def flush(self) -> None:
+        try:
+            super().flush()
+        except OSError:
+            pass
+
+
+def take_outputs() -> None:
+    """Makes standard error one that may fail, and a standard output that is closed one that can't be written."""
+    sys.stderr = Errors(open(2, "wb", closefd=False) if sys.stderr is not None else open(os.devnull, "wb"),
+                        errors="backslashreplace", line_buffering=True)
+    if sys.stdout is None:
+        os.dup2(os.open(os.devnull, os.O_RDONLY), 1)
+        sys.stdout = open(1, "w", closefd=False)
+    if isinstance(sys.stdout, io.TextIOWrapper):
+        sys.stdout.reconfigure(errors="backslashreplace")
+
+
+def ended(name: str, error: BaseException) -> int:
+    """Says why a command ends, and its status. A reader that has gone away is told nothing."""
+    if isinstance(error, KeyboardInterrupt):
+        return INTERRUPTED
+    if not isinstance(error, BrokenPipeError):
+        print(f"{name}: {error or type(error).__name__}", file=sys.stderr)
+    return FAULT
+
+
+def run(name: str, main: Callable[[], int]) -> NoReturn:
+    """Runs a command, and ends the program with its status. What a user or a machine does is told in one line."""
+    take_outputs()
+    try:
+        status = main()
+    except SystemExit as ends:
+        status = ends.code if isinstance(ends.code, int) else FAULT
+    except (LogError, NeedsPerson, OSError, UnicodeError, MemoryError, http.client.HTTPException, KeyboardInterrupt) as error:
+        status = ended(name, error)
+    try:
+        sys.stdout.flush()
+    except OSError as error:
+        # What is left isn't tried again when the program ends.
+        os.dup2(os.open(os.devnull, os.O_WRONLY), 1)
+        if status in (DONE, WORDS):
+            is_gone = isinstance(error, BrokenPipeError)
+            status = ended(name, error if is_gone else OSError(f"standard output can't be written: {error.strerror}"))
+    sys.exit(status)

@@ -13,6 +13,8 @@ from .records import ASKED
 
 # A question is answered between two records, and one record takes seconds at most.
 ANSWER_SECONDS = 600.0
+# What it says of itself doesn't wait for its program.
+STATUS_SECONDS = 5.0
 MOST_WAITING = 16
 # A log that was read so long ago may have gone on.
 FRESH_SECONDS = 30.0
@@ -201,16 +203,28 @@ def bound(call: Callable[[str], None], path: str) -> None:
         os.close(folder)
 
 
-def ask(path: str, words: str) -> bytes:
-    """What a running replica answers. LogError where none runs there, or it has too many questions."""
+def ask(path: str, words: str, seconds: float = ANSWER_SECONDS) -> bytes:
+    """What a running replica answers within so many seconds. LogError where none runs there, it hangs, or it has too many questions."""
+    ends = time.monotonic() + seconds
     try:
         with socket.socket(socket.AF_UNIX) as one:
-            one.settimeout(ANSWER_SECONDS)
+            one.settimeout(seconds)
             bound(one.connect, path)
             one.sendall(words.encode() + b"\n")
-            told = b"".join(iter(lambda: one.recv(PART), b""))
+            told = b"".join(iter(lambda: received(one, ends), b""))
+    except socket.timeout:
+        raise LogError(f"the replica that runs there doesn't answer within {seconds:.3g} s ({path})") from None
     except OSError as why:
         raise LogError(f"no replica that runs there answers ({path}: {why})") from None
     if not told:
         raise LogError("the replica didn't answer: it is stopping, or has too many questions")
     return told
+
+
+def received(one: socket.socket, ends: float) -> bytes:
+    """What comes next, or nothing at the end. socket.timeout where that isn't known by a time."""
+    left = ends - time.monotonic()
+    if left <= 0:
+        raise socket.timeout("timed out")
+    one.settimeout(left)
+    return one.recv(PART)
