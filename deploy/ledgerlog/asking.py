@@ -91,7 +91,7 @@ class Asking:
 
     def answer(self, folder: str) -> bytes:
         """What a replica answers when it has answered the record that it has to."""
-        while self.least > 0:
+        while True:
             answered = status_of(folder, self.left()).get("answered", "0")
             if answered.isdigit() and int(answered) >= self.least:
                 break
@@ -116,15 +116,17 @@ class Asking:
 
     def ask_again(self, folder: str, told: "queue.Queue[Told]") -> None:
         """Asks a replica again and again while there is time, and hands on what it tells."""
-        while not self.is_over:
-            try:
-                told.put(Told(folder, self.answer(folder)))
-            except LogError as why:
-                told.put(Told(folder, why))
-            if time.monotonic() >= self.ends:
-                break
-            time.sleep(min(PAUSE_SECONDS, self.left()))
-        told.put(Told(folder, None))
+        try:
+            while not self.is_over:
+                try:
+                    told.put(Told(folder, self.answer(folder)))
+                except LogError as why:
+                    told.put(Told(folder, why))
+                if time.monotonic() >= self.ends:
+                    break
+                time.sleep(min(PAUSE_SECONDS, self.left()))
+        finally:
+            told.put(Told(folder, None))
 
     def by_majority(self) -> bytes:
         """What more than half of the replicas answer alike. LogError where that doesn't come. One that hangs holds up no other."""

@@ -1,6 +1,7 @@
 """The store in memory as a node that commands reach over HTTP."""
 
 import json
+import socket
 import threading
 import time
 from http.server import BaseHTTPRequestHandler, ThreadingHTTPServer
@@ -63,3 +64,29 @@ class Served:
     def close(self) -> None:
         self.server.shutdown()
         self.server.server_close()
+
+
+def trickle(place: socket.socket, part: bytes, first: bytes = b"", seconds: float = 0.05) -> threading.Event:
+    """Tells whoever connects the first part, and then another one again and again, with so many seconds between, until what is given back is
+    set."""
+    is_over = threading.Event()
+
+    def tell(connection: socket.socket) -> None:
+        with connection:
+            try:
+                connection.sendall(first)
+                while not is_over.wait(seconds):
+                    connection.sendall(part)
+            except OSError:
+                pass
+
+    def take() -> None:
+        while True:
+            try:
+                connection = place.accept()[0]
+            except OSError:
+                return
+            threading.Thread(target=tell, args=(connection,), daemon=True).start()
+
+    threading.Thread(target=take, daemon=True).start()
+    return is_over

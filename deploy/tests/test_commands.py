@@ -6,7 +6,7 @@ import tempfile
 import unittest
 from typing import Any, Callable, List, Sequence, Tuple
 
-from ledgerlog.line import ADDRESSES, addresses, name, positive_number, positive_seconds
+from ledgerlog.line import ADDRESSES, addresses, name, port_in, positive_number, positive_seconds, whole_number
 
 from .store import PATIENCE
 
@@ -24,7 +24,10 @@ def done(words: List[str], given: bytes = b"") -> "subprocess.CompletedProcess[b
 class Values(unittest.TestCase):
     def test_a_value_at_its_bound_is_read_and_one_beyond_it_is_none(self) -> None:
         rows: List[Tuple[Callable[[str], Any], Sequence[str], Sequence[str]]] = [
-            (addresses, ("h:1", "h:1,[::1]:65535"), ("h:0", "h:65536", ":1", "h", "h:1,")), (positive_number, ("1",), ("0", "x")),
+            (addresses, ("h:1", "h:1,[::1]:65535", "é.x:1"),
+             ("h:0", "h:65536", ":1", "h", "h:1,", "a..b:1", "a" * 80 + ":1", "a b:1", "h:+1", "h:1_0", "h:٣", "h/x:1", "h:1\n")),
+            (port_in, ("1", "65535"), ("0", "65536", "", "+1", "1_0", "٣", "9" * 5000)),
+            (positive_number, ("1", "9" * 16), ("0", "x", "+1", "1_0", "-1", "1" * 17)), (whole_number, ("0",), ("", "-1", "²", "1" * 400)),
             (positive_seconds, ("0.1",), ("0", "1e9")), (name, ("a-1", "a" * 64), ("", "a_", "a" * 65))]
         for read, good, bad in rows:
             for text in good:

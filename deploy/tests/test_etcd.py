@@ -10,6 +10,7 @@ from ledgerlog import etcd
 from ledgerlog.errors import Denied, Full, LogError, Unreachable
 from ledgerlog.etcd import Access, Etcd
 
+from .served import trickle
 from .store import PATIENCE, for_now, until
 
 Answer = Tuple[int, Dict[str, Any]]
@@ -167,6 +168,80 @@ class Hanging(OverNodes):
         client.nodes.addresses = [self.silent(), good.address]
         self.assertIsNone(client.get(b"x"))
         self.assertEqual(client.addresses[0], good.address)
+
+    def trickling(self, first: bytes, part: bytes) -> str:
+        """The address of one whose answer comes in small parts and never ends."""
+        made = socket.create_server(("127.0.0.1", 0))
+        self.addCleanup(made.close)
+        self.addCleanup(trickle(made, part, first).set)
+        return f"127.0.0.1:{made.getsockname()[1]}"
+
+    def slow(self) -> List[str]:
+        """The addresses of some that answer ever more slowly: their status, the line before it, their headers, their bytes or their parts."""
+        ok = b"HTTP/1.1 200 OK\r\n"
+        return [self.trickling(first, part) for first, part in (
+            (b"HTTP/1.1 2", b"0"), (b"", b"HTTP/1.1 100 Continue\r\n\r\n"), (ok, b"X"), (ok + b"Content-Length: 100000\r\n\r\n", b" "),
+            (ok + b"\r\n", b" "), (ok + b"Transfer-Encoding: chunked\r\n\r\n", b"1\r\n \r\n"))]
+
+    def test_an_answer_has_its_time_however_slowly_it_comes(self) -> None:
+        for address in self.slow():
+            client = Etcd([address], 1.0)
+            began = time.monotonic()
+            with self.subTest(address), self.assertRaisesRegex(Unreachable, "timed out"):
+                client.get(b"x")
+            self.assertLess(time.monotonic() - began, PATIENCE / 2)
+
+    def test_one_that_answers_ever_more_slowly_costs_a_first_question_nothing(self) -> None:
+        for address in self.slow():
+            client = Etcd([address, self.node(GOOD).address], 2 * PATIENCE)
+            self.addCleanup(client.close)
+            began = time.monotonic()
+            self.assertIsNone(client.get(b"x"))
+            self.assertLess(time.monotonic() - began, PATIENCE / 2)
+
+    def test_what_is_waited_for_has_its_time_however_slowly_it_comes(self) -> None:
+        for address in self.slow():
+            client = Etcd([address], PATIENCE)
+            began = time.monotonic()
+            client.wait(b"x", b"y", 1, 0.5)
+            self.assertLess(time.monotonic() - began, PATIENCE / 2)
+
+    def test_what_is_asked_that_nobody_takes_has_its_time(self) -> None:
+        client = Etcd([self.silent()], 1.0)
+        began = time.monotonic()
+        with self.assertRaises(Unreachable):
+            client.put(b"x", bytes(16 << 20))
+        self.assertLess(time.monotonic() - began, PATIENCE / 2)
+
+    def test_who_is_to_stop_waits_for_no_node_long(self) -> None:
+        for_now(self, etcd, FIRST_SECONDS=4 * PATIENCE)
+        for address in self.silent(), self.dropping(), self.slow()[0]:
+            client = Etcd([address], 4 * PATIENCE)
+            is_stopping = threading.Event()
+            client.another().nodes.is_stopping = client.nodes.is_stopping = is_stopping.is_set
+            threading.Timer(0.3, is_stopping.set).start()
+            began = time.monotonic()
+            with self.assertRaises(Unreachable):
+                client.another().get(b"x")
+            self.assertLess(time.monotonic() - began, PATIENCE)
+
+    def test_who_is_to_stop_asks_the_other_nodes(self) -> None:
+        for_now(self, etcd, FIRST_SECONDS=4 * PATIENCE)
+        good = self.node(GOOD)
+        client = self.client(good, patience=4 * PATIENCE)
+        self.assertIsNone(client.get(b"x"))
+        client.nodes.addresses, client.nodes.is_stopping = [self.silent(), good.address], lambda: True
+        began = time.monotonic()
+        self.assertIsNone(client.get(b"x"))
+        self.assertLess(time.monotonic() - began, PATIENCE)
+
+    def test_a_host_that_is_none_is_a_node_that_does_not_answer(self) -> None:
+        for host in "a" * 80, "a..b", "a b":
+            client = Etcd([f"{host}:1", self.node(GOOD).address], PATIENCE)
+            self.addCleanup(client.close)
+            self.assertIsNone(client.get(b"x"))
+            with self.assertRaises(Unreachable):
+                Etcd([f"{host}:1"], 0.2).get(b"x")
 
     def test_patience_is_kept_to(self) -> None:
         for address in self.silent(), self.dropping():

@@ -2,6 +2,7 @@ import http.client
 import os
 import socket
 import threading
+import time
 from http.server import BaseHTTPRequestHandler, ThreadingHTTPServer
 from typing import Any, Callable
 
@@ -12,6 +13,7 @@ from ledgerlog.fetching import Giving
 from ledgerlog.keys import AT, VOTE
 from ledgerlog.saves import saves_in
 
+from .served import trickle
 from .store import PATIENCE, SET, fill, for_now, until
 from .test_following import OverStandIn
 
@@ -151,6 +153,47 @@ class Fetches(OverStandIn):
             one = self.start("c")
             self.answered(9, *SET)
             self.assertTrue(one.says("doesn't give a save: timed out"))
+
+    def trickles(self, name: str, first: bytes) -> None:
+        """One that gives a byte now and then, for ever."""
+        place = socket.create_server(("127.0.0.1", 0))
+        self.addCleanup(place.close)
+        self.addCleanup(trickle(place, b"x", first).set)
+        self.given(name, f"127.0.0.1:{place.getsockname()[1]}")
+
+    def test_one_that_answers_ever_more_slowly_costs_its_time_and_no_more(self) -> None:
+        for_now(self, fetching, SILENT_SECONDS=1.0)
+        self.cleared()
+        self.gives("b")
+        for first in b"HTTP/1.1 200 OK\r\n", b"HTTP/1.1 200 OK\r\n\r\n":
+            self.trickles("a", first)
+            one = self.start("c")
+            self.answered(9, *SET)
+            self.assertTrue(one.says("doesn't give a save: timed out"))
+            one.stop()
+            for save in saves_in(self.path("c")):
+                os.remove(save.path)
+            self.store.forget(self.log.keys.own("c", VOTE))
+
+    def test_one_that_is_to_stop_waits_for_no_save(self) -> None:
+        for_now(self, fetching, SILENT_SECONDS=10 * PATIENCE)
+        self.cleared()
+        with socket.create_server(("127.0.0.1", 0)) as silent:
+            self.given("a", f"127.0.0.1:{silent.getsockname()[1]}")
+            one = self.start("c")
+            silent.settimeout(PATIENCE)
+            connection, _ = silent.accept()
+            began = time.monotonic()
+            one.stop()
+            self.assertLess(time.monotonic() - began, PATIENCE)
+            self.assertIsNone(one.error)
+            connection.close()
+
+    def test_what_is_no_address_is_not_asked(self) -> None:
+        self.cleared()
+        for address in "a" * 80 + ":1", "a..b:1", "a:99999", "a b:1", "1", "a:1\n":
+            self.given("a", address)
+            self.assertRegex(str(self.start("c").ends()), "no replica of the set says where it gives its saves")
 
     def test_it_is_asked_again_while_nobody_answers(self) -> None:
         for_now(self, fetching, SILENT_SECONDS=1.0)

@@ -12,13 +12,14 @@ from pathlib import Path
 from typing import Dict, Tuple
 
 from ledgerlog import asking, status
-from ledgerlog.asking import Asking
+from ledgerlog.asking import Asking, Heard, Told
 from ledgerlog.errors import LogError, Unreachable
 from ledgerlog.requests import Body
+from ledgerlog.saves import SOCKET
 from ledgerlog.serving import Metrics
 from ledgerlog.status import Status
 
-from .served import Served
+from .served import Served, trickle
 from .store import PATIENCE, SET, STAND_IN, Store, fill, for_now, made_log, until
 from .test_commands import DEPLOY
 from .test_following import OverStandIn
@@ -102,7 +103,7 @@ class Telling(OverStandIn):
         self.answered(3)
         self.assertTrue(Asking([self.path("a")], "show", 3, PATIENCE).of_one().startswith(b"3 "))
         with self.assertRaisesRegex(LogError, "hasn't answered record 4 yet: it is at 3"):
-            Asking([self.path("a")], "show", 4, 0.1).of_one()
+            Asking([self.path("a")], "show", 4, 1.0).of_one()
 
     def test_an_old_answer_is_said_to_be_one(self) -> None:
         running = self.start()
@@ -121,9 +122,45 @@ class Telling(OverStandIn):
         with socket.socket(socket.AF_UNIX) as one:
             status.bound(one.bind, path)
             one.listen(1)
-            for_now(self, status, ANSWER_SECONDS=0.1)
-            with self.assertRaisesRegex(LogError, "no replica that runs there answers"):
-                status.ask(path, "status")
+            with self.assertRaisesRegex(LogError, "the replica that runs there doesn't answer within 0.1 s"):
+                status.ask(path, "status", 0.1)
+
+    def trickling(self, name: str) -> str:
+        """The folder of a replica that answers by a byte now and then, for ever."""
+        os.makedirs(self.path(name), exist_ok=True)
+        place = socket.socket(socket.AF_UNIX)
+        self.addCleanup(place.close)
+        status.bound(place.bind, os.path.join(self.path(name), SOCKET))
+        place.listen(16)
+        self.addCleanup(trickle(place, b"1").set)
+        return self.path(name)
+
+    def test_one_that_answers_ever_more_slowly_has_its_time_and_no_more(self) -> None:
+        folder = self.trickling("z")
+        with self.assertRaisesRegex(LogError, "doesn't answer within 0.5 s"):
+            status.ask(os.path.join(folder, SOCKET), "show", 0.5)
+        for least in (0, 1):
+            with self.assertRaisesRegex(LogError, "doesn't answer within"):
+                Asking([folder], "show", least, 0.5).of_one()
+
+    def test_a_majority_does_not_wait_for_one_that_hangs(self) -> None:
+        self.three(5)
+        for_now(self, asking, GRACE_SECONDS=0.2)
+        folders = [self.trickling("z"), self.path("a"), self.path("b")]
+        one = Asking(folders, "show", 5, PATIENCE)
+        self.assertIn(b"5 end 1\n", one.by_majority())
+        self.assertEqual(one.doubts, [f"{folders[0]} hasn't answered yet"])
+        with self.assertRaisesRegex(LogError, "no 2 of 3 replicas answer alike.*doesn't answer within"):
+            Asking([folders[0], self.trickling("y"), folders[1]], "show", 5, 1.0).by_majority()
+
+    def test_answers_behind_one_record_count_whenever_they_come(self) -> None:
+        heard = Heard(["a", "b", "c"])
+        self.assertFalse(heard.take(Told("a", b"5 end 1\n")))
+        self.assertFalse(heard.take(Told("a", b"6 end 1\n")))
+        self.assertFalse(heard.take(Told("a", b"6 end 1\n")))
+        self.assertFalse(heard.take(Told("c", LogError("c is gone"))))
+        self.assertTrue(heard.take(Told("b", b"5 end 1\n")))
+        self.assertEqual(heard.others(b"5 end 1\n"), ["c is gone"])
 
     def test_a_majority_is_asked(self) -> None:
         self.three(5)
@@ -133,17 +170,18 @@ class Telling(OverStandIn):
         real = asking.ask
         self.assertIn(b"5 end 1\n", Asking(folders, "show", 5, PATIENCE).by_majority())
 
-        def told(path: str, words: str) -> bytes:
-            return real(path, words) if words == "status" else answers[os.path.dirname(path)]
+        def told(path: str, words: str, seconds: float) -> bytes:
+            return real(path, words, seconds) if words == "status" else answers[os.path.dirname(path)]
 
         setattr(asking, "ask", told)
+        for_now(self, asking, GRACE_SECONDS=PATIENCE)
         answers[folders[0]] = b"5 end 7\n"
         one = Asking(folders, "show", 0, PATIENCE)
         self.assertEqual(one.by_majority(), b"5 end 0\n")
         self.assertEqual(one.doubts, [f"{folders[0]} answers otherwise"])
         self.running["b"].stop()
         with self.assertRaisesRegex(LogError, "no 2 of 3 replicas answer alike"):
-            Asking(folders, "show", 0, 0.1).by_majority()
+            Asking(folders, "show", 0, 1.0).by_majority()
 
 
 class ByCommand(unittest.TestCase):
