@@ -6,9 +6,10 @@ import tempfile
 import unittest
 from typing import Any, Callable, List, Sequence, Tuple
 
-from ledgerlog.line import ADDRESSES, addresses, name, port_in, positive_number, positive_seconds, whole_number
+from ledgerlog.line import ADDRESSES, Errors, addresses, ended, name, port_in, positive_number, positive_seconds, whole_number
 
-from .store import PATIENCE
+from .served import Served
+from .store import PATIENCE, Store, fill, made_log
 
 DEPLOY = os.path.dirname(os.path.dirname(os.path.realpath(__file__)))
 COMMANDS = ("ask", "backup", "serve", "log", "node", "replica", "snapshot", "submit")
@@ -40,6 +41,52 @@ class Values(unittest.TestCase):
         self.assertEqual(ADDRESSES, "127.0.0.1:23791,127.0.0.1:23792,127.0.0.1:23793")
 
 
+def by_shell(words: str) -> "subprocess.CompletedProcess[bytes]":
+    """What the shell does with a command of this folder."""
+    return subprocess.run(["sh", "-c", f"./{words}"], cwd=DEPLOY, stdin=subprocess.DEVNULL, stdout=subprocess.PIPE, stderr=subprocess.PIPE,
+                          timeout=PATIENCE)
+
+
+class Outputs(unittest.TestCase):
+    def setUp(self) -> None:
+        store = Store()
+        fill(made_log(store), 3)
+        self.node = Served(store)
+        self.addCleanup(self.node.close)
+
+    def test_a_fault_of_an_output_is_one_line(self) -> None:
+        words = " ".join(self.node.words())
+        for output in (">/dev/full", ">&-"):
+            for command in (f"log {words} show", "ask --help"):
+                with self.subTest(command + output):
+                    told = by_shell(command + output)
+                    self.assertEqual((told.returncode, told.stdout, told.stderr.count(b"\n")), (1, b"", 1), told.stderr)
+                    self.assertRegex(told.stderr, rb"\A(log|ask): .*(No space left on device|Bad file descriptor)")
+
+    def test_nothing_ends_since_standard_error_takes_nothing(self) -> None:
+        for output in ("2>/dev/full", "2>&-"):
+            told = by_shell(f"log {' '.join(self.node.words())} show {output}")
+            self.assertEqual((told.returncode, told.stderr), (0, b""))
+            self.assertIn(b"last: 3\n", told.stdout)
+            told = by_shell(f"log --log 127.0.0.1:9 unmake {output}")
+            self.assertEqual((told.returncode, told.stdout), (2, b""))
+
+    def test_a_reader_that_goes_away_is_told_nothing(self) -> None:
+        told = by_shell("log --help | :")
+        self.assertEqual((told.returncode, told.stderr), (0, b""))
+
+    def test_standard_error_loses_what_it_cannot_take(self) -> None:
+        with open("/dev/full", "wb") as full:
+            errors = Errors(full, line_buffering=True)
+            for _ in range(3):
+                print("x" * 20_000, file=errors, flush=True)
+            errors.detach()
+
+    def test_what_ends_a_command_is_told_in_a_line(self) -> None:
+        for error, status in (MemoryError(), 1), (OSError("no"), 1), (KeyboardInterrupt(), 130), (BrokenPipeError(), 1):
+            self.assertEqual(ended("log", error), status)
+
+
 class Commands(unittest.TestCase):
     def test_each_lists_its_options(self) -> None:
         for command in COMMANDS:
@@ -51,7 +98,9 @@ class Commands(unittest.TestCase):
     def test_words_that_are_not_understood(self) -> None:
         for words in (["log", "unmake"], ["ask", "x", "why"], ["node", "4"], ["replica"], ["submit", "--seconds", "0", "-"],
                       ["log", "make"], ["log", "make", "--replicas", "a,a"], ["log", "set", "--quota", "x"],
-                      ["node", "--ca", "x", "1"], ["node", "--hosts", "a,b", "1"]):
+                      ["replica", "--metrics-port", "99999", "x"], ["node", "--port", "65531", "1"], ["log", "--log", "a..b:1", "show"],
+                      ["log", "--log", "a" * 80 + ":1", "show"], ["submit", "--service", "a..b:1", "-"], ["serve", "--listen", "a:0", "x"],
+                      ["replica", "--saves-at", "a:65536", "x"], ["log", "set", "--hours", "9" * 400], ["node", "--ca", "x", "1"], ["node", "--hosts", "a,b", "1"]):
             with self.subTest(words):
                 told = done(words)
                 self.assertEqual((told.returncode, told.stdout), (2, b""))

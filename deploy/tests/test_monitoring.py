@@ -21,7 +21,7 @@ from ledgerlog.status import Status
 
 from .served import Served, trickle
 from .store import PATIENCE, SET, STAND_IN, Store, fill, for_now, made_log, until
-from .test_commands import DEPLOY
+from .test_commands import DEPLOY, done
 from .test_following import OverStandIn
 
 
@@ -192,6 +192,50 @@ class ByCommand(unittest.TestCase):
         self.addCleanup(node.close)
         while not self.is_killed(node):
             pass
+
+    def started(self, *words: str) -> Tuple["subprocess.Popen[bytes]", str]:
+        """A replica that runs, and its folder."""
+        holder = tempfile.mkdtemp()
+        self.addCleanup(shutil.rmtree, holder, True)
+        folder = os.path.join(holder, "a")
+        process = subprocess.Popen([os.path.join(DEPLOY, "replica"), *words, "--moveledger", STAND_IN, folder], stderr=subprocess.DEVNULL)
+        self.addCleanup(process.wait)
+        self.addCleanup(process.kill)
+        return process, folder
+
+    def test_a_replica_that_hangs_is_said_not_to_answer(self) -> None:
+        store = Store()
+        fill(made_log(store), 3)
+        node = Served(store)
+        self.addCleanup(node.close)
+        process, folder = self.started(*node.words())
+        until(lambda: b"answered: 3\n" in done(["replica", "--status", folder]).stdout)
+        process.send_signal(signal.SIGSTOP)
+        for words in (["replica", "--status", folder], ["replica", "--metrics", folder], ["ask", "--seconds", "1", folder, "show"],
+                      ["ask", "--seconds", "1", "--at-least", "1", folder, "show"],
+                      ["ask", "--seconds", "1", "--majority", folder, "show"]):
+            with self.subTest(words):
+                told = done(words)
+                self.assertEqual((told.returncode, told.stdout, told.stderr.count(b"\n")), (1, b"", 1))
+                self.assertIn(b"doesn't answer within", told.stderr)
+
+    def test_a_replica_stops_soon_where_a_node_answers_ever_more_slowly(self) -> None:
+        store = Store()
+        fill(made_log(store), 3)
+        node = Served(store)
+        self.addCleanup(node.close)
+        with socket.create_server(("127.0.0.1", 0)) as slow:
+            self.addCleanup(trickle(slow, b"1", b"HTTP/1.1 2").set)
+            address = f"127.0.0.1:{slow.getsockname()[1]}"
+            for log, status_at_end in (f"{address},{node.address}", 0), (address, 1):
+                process, folder = self.started("--log", log, "--ledger", "L")
+                until(lambda: b"answered: 3\n" in done(["replica", "--status", folder]).stdout
+                      or log == address and os.path.exists(os.path.join(folder, SOCKET)))
+                began = time.monotonic()
+                process.send_signal(signal.SIGTERM)
+                self.assertEqual(process.wait(PATIENCE), status_at_end)
+                # Without a stop it would be asked for ten seconds, and then again.
+                self.assertLess(time.monotonic() - began, max(9.0, PATIENCE / 4))
 
     def is_killed(self, node: Served) -> bool:
         """Tries one port. False where another program has taken it meanwhile."""
