@@ -179,7 +179,7 @@ def ended(name: str, error: BaseException) -> int:
     if isinstance(error, KeyboardInterrupt):
         return INTERRUPTED
     if not isinstance(error, BrokenPipeError):
-        print(f"{name}: {error or type(error).__name__}", file=sys.stderr)
+        print(f"{name}: {str(error) or type(error).__name__}", file=sys.stderr)
     return FAULT
 
 

@@ -18,8 +18,8 @@ FIRST_SECONDS, MOST_SECONDS = 2.0, 10.0
 LEAST_SECONDS = 0.05
 # So often it is looked whether the user of a connection is to stop; so long one answer, and then all that is asked, still has.
 LOOK_SECONDS = 0.25
-STOPPING_SECONDS, STOPPING_MOST = 1.0, 3.0
-# A host and a port; of what it may have in place of a name, `[::1]` is one.
+STOPPING_SECONDS, STOPPING_MOST = 2.0, 5.0
+# A host, or what stands in its place as `[::1]`, and a port.
 ADDRESS = re.compile(r"([^\s/?#@,\\]{1,256}):([0-9]{1,5})")
 Headers = Dict[str, str]
 Answer = Tuple[int, bytes]
@@ -88,7 +88,12 @@ class Timed:
     def secure(self, context: ssl.SSLContext, host: str) -> None:
         """Speaks TLS from now on."""
         made = self.socket = context.wrap_socket(self.socket, server_hostname=host, do_handshake_on_connect=False)
-        self.within(lambda: made.do_handshake() or 0)
+
+        def shake() -> int:
+            made.do_handshake()
+            return 0
+
+        self.within(shake)
 
     def sendall(self, data: bytes) -> None:
         left = memoryview(data)

@@ -218,7 +218,7 @@ class Hanging(OverNodes):
         for address in self.silent(), self.dropping(), self.slow()[0]:
             client = Etcd([address], 4 * PATIENCE)
             is_stopping = threading.Event()
-            client.another().nodes.is_stopping = client.nodes.is_stopping = is_stopping.is_set
+            client.nodes.is_stopping = is_stopping.is_set
             threading.Timer(0.3, is_stopping.set).start()
             began = time.monotonic()
             with self.assertRaises(Unreachable):
