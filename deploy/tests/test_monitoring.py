@@ -34,6 +34,14 @@ def got(port: int, path: str = "/metrics") -> Tuple[int, str]:
     return found
 
 
+def says(folder: str, row: bytes) -> bool:
+    """Whether a replica runs in a folder, and says this of itself."""
+    try:
+        return row in status.ask(os.path.join(folder, SOCKET), "status", PATIENCE)
+    except LogError:
+        return False
+
+
 def free_port() -> int:
     with socket.socket() as one:
         one.bind(("127.0.0.1", 0))
@@ -209,7 +217,7 @@ class ByCommand(unittest.TestCase):
         node = Served(store)
         self.addCleanup(node.close)
         process, folder = self.started(*node.words())
-        until(lambda: b"answered: 3\n" in done(["replica", "--status", folder]).stdout)
+        until(lambda: says(folder, b"answered: 3\n"))
         process.send_signal(signal.SIGSTOP)
         for words in (["replica", "--status", folder], ["replica", "--metrics", folder], ["ask", "--seconds", "1", folder, "show"],
                       ["ask", "--seconds", "1", "--at-least", "1", folder, "show"],
@@ -229,8 +237,7 @@ class ByCommand(unittest.TestCase):
             address = f"127.0.0.1:{slow.getsockname()[1]}"
             for log, status_at_end in (f"{address},{node.address}", 0), (address, 1):
                 process, folder = self.started("--log", log, "--ledger", "L")
-                until(lambda: b"answered: 3\n" in done(["replica", "--status", folder]).stdout
-                      or log == address and os.path.exists(os.path.join(folder, SOCKET)))
+                until(lambda: says(folder, b"answered: 3\n" if log != address else b"answered: 0\n"))
                 began = time.monotonic()
                 process.send_signal(signal.SIGTERM)
                 self.assertEqual(process.wait(PATIENCE), status_at_end)
