@@ -4,6 +4,7 @@ import socket
 import subprocess
 import tempfile
 import unittest
+from contextlib import suppress
 from typing import Any, Callable, List, Sequence, Tuple
 
 from ledgerlog.line import ADDRESSES, Errors, addresses, ended, name, port_in, positive_number, positive_seconds, whole_number
@@ -76,11 +77,14 @@ class Outputs(unittest.TestCase):
         self.assertEqual((told.returncode, told.stderr), (0, b""))
 
     def test_standard_error_loses_what_it_cannot_take(self) -> None:
-        with open("/dev/full", "wb") as full:
-            errors = Errors(full, line_buffering=True)
-            for _ in range(3):
-                print("x" * 20_000, file=errors, flush=True)
-            errors.detach()
+        full = open("/dev/full", "wb")
+        errors = Errors(full, line_buffering=True)
+        for _ in range(3):
+            print("x" * 20_000, file=errors, flush=True)
+        errors.detach()
+        # (what it holds still can't be written)
+        with suppress(OSError):
+            full.close()
 
     def test_what_ends_a_command_is_told_in_a_line(self) -> None:
         for error, status in (MemoryError(), 1), (OSError("no"), 1), (KeyboardInterrupt(), 130), (BrokenPipeError(), 1):
