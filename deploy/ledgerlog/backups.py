@@ -18,6 +18,8 @@ from .etcd import Access, Etcd
 from .fetching import Fetching
 from .keys import NAME_TEXT, SAVED, Keys, number_in
 from .log import Log
+from .program import Program
+from .records import ASKED
 from .requests import after, get, value_of
 from .saves import Save, Saves, locked, saved_vote_in, saves_in, sync_file, sync_folder, vote_on
 from .settings import Settings
@@ -356,8 +358,8 @@ def looked_at(log: Log, place: Optional[str], program: Optional[str] = None) -> 
         check_save(log, save)
     if cleared and not saves:
         raise LogError(f"{told}, but it isn't whole: no save stands beside it, so no replica can begin behind record {cleared}")
-    if program is not None and not Verifying(log, program, place or "").run():
-        raise LogError(f"{told}, but {program} answers them otherwise")
+    if program is not None:
+        check_answers(log, program, place, saves)
     return told + "".join(f", and the save behind record {save.number}" for save in saves)
 
 
@@ -372,6 +374,20 @@ def check_save(log: Log, save: Save) -> None:
         raise LogError(f"{save.path} isn't the save that a majority has voted for")
     if not is_usable(settings, votes, Vote(save.number, final)):
         raise LogError(f"{save.path} was saved before a record of it was skipped, or before lines were chained")
+
+
+def check_answers(log: Log, program: str, place: Optional[str], saves: List[Save]) -> None:
+    """LogError where a program makes other lines, or another save, of what is there than the log has for them. ProgramEnded where it doesn't
+    load a save."""
+    for save in saves:
+        running = Program(program, save.number, save.path, None)
+        try:
+            # It answers when it has loaded all.
+            running.ask(ASKED["audit"])
+        finally:
+            running.end()
+    if not Verifying(log, program, place or "").run():
+        raise LogError(f"{program} answers the records of {log.keys.ledger} otherwise than the replicas did")
 
 
 def counted(log: Log) -> str:
