@@ -11,7 +11,7 @@ import subprocess
 import sys
 import time
 from contextlib import closing, contextmanager
-from typing import Dict, Iterator, List, NamedTuple, Optional, Sequence, Tuple
+from typing import Dict, Iterator, List, NamedTuple, Optional, Sequence, Set, Tuple
 
 from .errors import LogError
 from .etcd import Access, Etcd
@@ -169,9 +169,13 @@ class Taking:
         self.log = log
         self.folder = folder
         self.place = place
+        self.told: Set[str] = set()
 
     def tell(self, text: str) -> None:
-        print(f"backup: {text}", file=sys.stderr, flush=True)
+        """Says something, once however often it comes."""
+        if text not in self.told:
+            print(f"backup: {text}", file=sys.stderr, flush=True)
+        self.told.add(text)
 
     def parts(self, names: List[str]) -> List[Part]:
         """Takes the saves of these ledgers, and then a snapshot that has the votes for them and the records behind them."""
@@ -205,7 +209,7 @@ class Taking:
         os.mkdir(path, 0o700)
         saves = Saves(path)
         try:
-            fetching = Fetching(log, saves, NOBODY, self.tell, lambda: False)
+            fetching = Fetching(log, saves, NOBODY, lambda text: self.tell(f"of {log.keys.ledger}: {text}"), lambda: False)
             save = self.given(fetching, settings, votes, agreed) or self.earlier(saves, log.keys.ledger, settings, agreed)
             names = [name for name, _ in fetching.addresses(votes)]
         finally:
