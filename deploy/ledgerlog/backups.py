@@ -192,9 +192,13 @@ class Taking:
         """What there is of a ledger now, with a save where its log was cleared."""
         settings, rules = log.settings_at(True)
         cleared = log.cleared()
-        vote, lacks = self.save(log, settings, cleared) if cleared else (None, "")
-        voters = settings.replicas if vote else ()
-        asked = [get(log.keys.last), get(log.keys.log), *(get(log.keys.vote(name, SAVED, vote.number)) for name in voters if vote)]
+        vote: Optional[Vote] = None
+        lacks = ""
+        if cleared:
+            vote, lacks = self.save(log, settings, cleared)
+        asked = [get(log.keys.last), get(log.keys.log)]
+        if vote is not None:
+            asked += [get(log.keys.vote(name, SAVED, vote.number)) for name in settings.replicas]
         found = log.etcd.transact([], asked, [])[1]
         changed = max(entry.changed for entries in found for entry in entries)
         return Part(log, log.last_of(value_of(found[0])), cleared, rules, changed, vote, lacks)
@@ -214,10 +218,11 @@ class Taking:
             names = [name for name, _ in fetching.addresses(votes)]
         finally:
             saves.close()
-        if save is None:
-            return None, f"none of {', '.join(names)} gives a save from there on that a majority has voted for" if names else \
-                "no replica of the set says where it gives its saves (deploy/replica --saves-at)"
-        return next(vote for vote in agreed if vote.number == save.number), ""
+        if save is not None:
+            return next(vote for vote in agreed if vote.number == save.number), ""
+        if not names:
+            return None, "no replica of the set says where it gives its saves (deploy/replica --saves-at)"
+        return None, f"none of {', '.join(names)} gives a save from there on that a majority has voted for"
 
     def given(self, fetching: Fetching, settings: Settings, votes: Votes, agreed: List[Vote]) -> Optional[Save]:
         """The newest of these saves that a replica gives. The newest of all is waited for a while: a clearing forgets the votes for others."""
@@ -233,12 +238,19 @@ class Taking:
         there = [save for _, name, path in save_folders_in(self.folder) if name == ledger for save in saves_in(path)]
         for vote in agreed:
             for save in there:
-                if save.number == vote.number:
-                    shutil.copyfile(save.path, saves.fetched())
-                    if vote_on(saves.fetched()) == saved_vote_in(vote.value).ledger:
-                        self.tell(f"takes {save.path}, since no replica gives it")
-                        return saves.named(saves.fetched(), vote.number, settings.id)
+                if save.number == vote.number and self.is_copied(save, saves.fetched(), vote):
+                    self.tell(f"takes {save.path}, since no replica gives it")
+                    return saves.named(saves.fetched(), vote.number, settings.id)
         return None
+
+    def is_copied(self, save: Save, path: str, vote: Vote) -> bool:
+        """Whether a save is there under another name then, whole and with the right digest."""
+        try:
+            shutil.copyfile(save.path, path)
+            return vote_on(path) == saved_vote_in(vote.value).ledger
+        except OSError as why:
+            self.tell(f"{save.path} isn't taken: {why}")
+            return False
 
     def snapshot(self, least: int) -> None:
         """Takes a snapshot from a node that has this change. LogError where none gives one."""

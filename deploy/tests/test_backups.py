@@ -22,7 +22,7 @@ from ledgerlog.settings import Past, Settings
 
 from .served import Served
 from .store import LOG_ID, PATIENCE, SET, STAND_IN, Store, fill, for_now, put_vote, script, until
-from .test_commands import DEPLOY
+from .test_commands import DEPLOY, done
 from .test_fetching import Lying, wrong
 from .test_following import OverStandIn
 
@@ -145,8 +145,10 @@ class Taken(WithBackups):
         self.store = restored_store(backup + ".db")
         self.log = Log(self.store, "L")
         self.store.put(self.log.keys.log, self.log.settings()._replace(id="f" * 32, past=(Past(LOG_ID, 9),)).text())
-        save, = saves_in(backup + "-L")
-        shutil.copy(save.path, self.path("a"))
+        node = Served(self.store)
+        self.addCleanup(node.close)
+        told = done(["snapshot", *node.words(), backup + "-L", self.path("a")])
+        self.assertEqual((told.returncode, told.stdout), (0, b"8\n"))
         self.start("a")
         until(lambda: self.running["a"].says("up to its end, record 9"))
         self.gives("a")
@@ -203,10 +205,12 @@ class Taken(WithBackups):
         self.store.forget(self.log.keys.own("a", AT))
         second = self.take()
         self.assertEqual((self.saves_of(first), self.saves_of(second)), ([8], [8]))
-        # Not one that is another save by now.
-        for backup in (first, second):
-            with open(saves_in(backup + "-L")[0].path, "ab") as file:
-                file.write(b"x")
+        # Not one that is another save by now, or can't be read.
+        with open(saves_in(first + "-L")[0].path, "ab") as file:
+            file.write(b"x")
+        path = saves_in(second + "-L")[0].path
+        os.remove(path)
+        os.mkdir(path)
         with self.assertRaisesRegex(LogError, "isn't whole"):
             self.take()
 

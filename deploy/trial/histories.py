@@ -142,10 +142,43 @@ def restored(stage: Stage, place: Place) -> str:
             "`log restored` they set aside what they saved since, and go on behind the backup's last record")
 
 
+def brought_back(stage: Stage, place: Place) -> str:
+    """Clears the log, takes a backup, and puts more records until no replica has a save that is as old; restores it. One replica is given the
+    backup's save, and the others have to fetch it."""
+    backed_up = stage.feed(100)
+    stage.clear(10)
+    folder = stage.folder / "whole"
+    done("backup", *stage.words("root"), folder, says="with the save behind record")
+    done("backup", *stage.words("root"), "--drill", "--moveledger", stage.program, folder, says="and the save behind record")
+    path, = folder.glob("*.db")
+
+    def is_newer() -> bool:
+        stage.feed(20)
+        return all(one.saves() and one.saves()[-1].number > backed_up for one in stage.replicas.values())
+
+    until(is_newer, PATIENCE, f"all saves are of records behind {backed_up}")
+    for one in stage.replicas.values():
+        one.stop()
+    for node in place.nodes:
+        node.kill()
+    restore(place, str(path))
+    place.start()
+    done("log", *stage.words("keeper"), "restored", says="has to have the save that stands beside the backup")
+    stage.put = stage.put[:backed_up]
+    done("snapshot", *stage.words("reader"), str(path)[:-len(".db")] + f"-{stage.ledger}", stage.replicas["first"].folder)
+    for name in list(stage.replicas):
+        stage.again(name)
+    stage.all_answered(stage.feed(40))
+    stage.check_running()
+    return (f"cleared, backed up with its save and restored, when no replica had one that old: one was given the backup's, the others fetched "
+            f"it, and all went on behind record {backed_up}")
+
+
 def histories(stage: Stage, place: Place) -> List[str]:
     """All of this on one ledger. The nodes are taken down meanwhile."""
     stage.make()
     stage.start()
-    told = [made_anew(stage), lost_node(stage, place, stage.random.choice(place.nodes)), restored(stage, place)]
+    told = [made_anew(stage), lost_node(stage, place, stage.random.choice(place.nodes)), restored(stage, place),
+            brought_back(stage, place)]
     until(lambda: stage.verify(), PATIENCE, "the log verifies")
     return told
