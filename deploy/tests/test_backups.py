@@ -144,9 +144,11 @@ class Taken(WithBackups):
         # All is lost, but for what the replicas saved since.
         self.store = restored_store(backup + ".db")
         self.log = Log(self.store, "L")
-        self.store.put(self.log.keys.log, self.log.settings()._replace(id="f" * 32, past=(Past(LOG_ID, 9),)).text())
         node = Served(self.store)
         self.addCleanup(node.close)
+        told = done(["log", *node.words(), "restored"])
+        self.assertIn(b": goes on behind record 9 of " + LOG_ID.encode(), told.stdout)
+        self.assertIn(b"one of them has to have the save that stands beside the backup", told.stderr)
         told = done(["snapshot", *node.words(), backup + "-L", self.path("a")])
         self.assertEqual((told.returncode, told.stdout), (0, b"8\n"))
         self.start("a")
