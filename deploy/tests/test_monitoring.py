@@ -34,6 +34,13 @@ def got(port: int, path: str = "/metrics") -> Tuple[int, str]:
     return found
 
 
+def catches(process: int, number: int) -> bool:
+    """Whether a process has a handler of its own for a signal."""
+    with open(f"/proc/{process}/status", encoding="ascii", errors="replace") as file:
+        caught = next(line.split()[1] for line in file if line.startswith("SigCgt:"))
+    return bool(int(caught, 16) >> number - 1 & 1)
+
+
 def says(folder: str, row: bytes) -> bool:
     """Whether a replica runs in a folder, and says this of itself."""
     try:
@@ -238,6 +245,7 @@ class ByCommand(unittest.TestCase):
             for log, status_at_end in (f"{address},{node.address}", 0), (address, 1):
                 process, folder = self.started("--log", log, "--ledger", "L")
                 until(lambda: says(folder, b"answered: 3\n" if log != address else b"answered: 0\n"))
+                until(lambda: catches(process.pid, signal.SIGTERM))
                 began = time.monotonic()
                 process.send_signal(signal.SIGTERM)
                 self.assertEqual(process.wait(PATIENCE), status_at_end)

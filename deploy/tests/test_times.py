@@ -95,9 +95,9 @@ class Keeping(unittest.TestCase):
         self.store.put(self.log.keys.log, self.log.settings()._replace(protocol=4).text())
         keys = [self.log.keys.id(name) for name in (f"t{NOW:08x}-x", f"t{NOW + 47 * HOUR:08X}-x")]
         for key in keys:
-            self.store.put(key, numbered(1))
+            self.store.put(key, numbered(0))
         Clearing(self.log, 2, NOW + 48 * HOUR).remove_ids()
-        self.assertEqual([self.store.get(key) for key in keys], [None, numbered(1)])
+        self.assertEqual([self.store.get(key) for key in keys], [None, numbered(0)])
 
     def test_the_command_makes_such_ids_and_refuses_old_ones(self) -> None:
         node = Served(self.store)
