@@ -171,7 +171,8 @@ def begins_with(place: Path, folder: Path) -> bool:
     def give(one: str, other: str) -> object:
         if one.endswith(".oantt"):
             with suppress(OSError):
-                return os.link(one, other)
+                os.link(one, other)
+                return other
         return shutil.copy2(one, other)
 
     try:

@@ -63,6 +63,11 @@ def all_of(connection: socket.socket) -> bytes:
     return told
 
 
+def close_all(opened: List[socket.socket]) -> None:
+    for one in opened:
+        one.close()
+
+
 class Dialling(ServiceCase):
     """A service, and clients at its socket that are made by hand."""
 
@@ -221,7 +226,7 @@ class ByCommand(unittest.TestCase):
 
     def test_more_clients_than_descriptors_end_nothing(self) -> None:
         opened: List[socket.socket] = []
-        self.addCleanup(lambda: [one.close() for one in opened])
+        self.addCleanup(close_all, opened)
         number = 0
         for place in (self.path, self.place):
             for _ in range(self.DESCRIPTORS + 50):
@@ -417,7 +422,8 @@ class NotUnderstood(Dialling):
         node = Served(self.store)
         self.addCleanup(node.close)
         for name, place in (("a" * 64, ["--service", self.path]), ("b" * 64, node.words())):
-            for words, data, count in (["--stream"], run(1) + run(2), 2), ([], run(3), 1):
+            rows: List[Tuple[List[str], bytes, int]] = [(["--stream"], run(1) + run(2), 2), ([], run(3), 1)]
+            for words, data, count in rows:
                 it = done(["submit", *place, "--id", name, *words, "-"], data)
                 self.assertEqual((it.returncode, it.stdout.count(b"\n")), (0, count), it.stderr)
             it = done(["submit", *place, "--id", name + "x", "-"], run(1))

@@ -50,7 +50,7 @@ class Way(Store):
         super().__init__()
         self.store = store
         self.before = before
-        self.count = 0
+        self.asked = 0
         self.patience = PATIENCE
         # What puts a piece, and goes this way a second time, late.
         self.late: List[Tuple[str, Body]] = []
@@ -60,8 +60,8 @@ class Way(Store):
 
     def ask(self, path: str, body: Body) -> Body:
         keys = puts_in(path, body)
-        self.before(self.count, keys)
-        self.count += 1
+        self.before(self.asked, keys)
+        self.asked += 1
         if any(b"/piece/" in key for key in keys):
             self.late.append((path, body))
         return self.store.ask(path, body)
@@ -272,8 +272,11 @@ class RepairingARecord(WithPieces):
 
     def test_pieces_that_are_gone_or_were_overwritten_are_put_again(self) -> None:
         self.answered()
-        for lose in self.lose, lambda: self.store.put(self.log.keys.piece("x", 2), b"junk"):
-            lose()
+        for text in None, b"junk":
+            if text is None:
+                self.lose()
+            else:
+                self.store.put(self.log.keys.piece("x", 2), text)
             self.assertEqual(self.taken(), [Taken(b"", PIECES)])
             self.repair()
             self.assertEqual(self.taken(), [Taken(FIRST)])

@@ -186,7 +186,8 @@ def lasting(folder: str, count: int) -> Tuple[Path, int, bytes]:
 
 def watched(folder: str) -> Found:
     """What a terminal shows of a run that takes some six seconds, and of a short one."""
-    whole, began = ["apply", STREAM], time.monotonic()
+    whole: List[Given] = ["apply", STREAM]
+    began = time.monotonic()
     ended(["apply", lasting(folder, 50)[0]])
     count = max(50, int(6 * 50 / (time.monotonic() - began)))
     long, size, report = lasting(folder, count)

@@ -104,7 +104,7 @@ def of_instruction(word: str) -> str:
     """What to write for a word in the place of an instruction; nothing where that isn't known."""
     if word in MEANT:
         return f"did you mean `{MEANT[word]}`?"
-    return INSTRUCTIONS.get(word) or ANY_CASE.get(word.lower(), "")
+    return INSTRUCTIONS.get(word, ANY_CASE.get(word.lower(), ""))
 
 
 def of_name(before: str, behind: str) -> Optional[Help]:

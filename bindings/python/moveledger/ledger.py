@@ -46,7 +46,7 @@ class Opened:
 
     def __init__(self, answered: int, around: Optional["Opened"]) -> None:
         self.answered, self.around = answered, around
-        self.depth = 1 if around is None else around.depth + 1
+        self.depth: int = 1 if around is None else around.depth + 1
         # Whether it was closed by a call of `rollback` or `commit`, and not with a scope around it.
         self.is_asked = False
 

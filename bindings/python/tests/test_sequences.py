@@ -2,11 +2,12 @@
 the model keeps the saved text, and where one is taken back it loads that text. The model's own ledger never has a block.
 usage: python3 -m unittest discover -s bindings/python/tests    from the repository's top, with bindings/python on PYTHONPATH"""
 
+import operator
 import random
 import sys
 import unittest
 from pathlib import Path
-from typing import Callable, Dict, List, NamedTuple, Optional, Set, Tuple
+from typing import Any, Callable, Dict, List, NamedTuple, Optional, Set, Tuple
 
 import moveledger
 from moveledger.ledger import stored_in
@@ -207,7 +208,7 @@ class Sequence:
         old, new = self.open[-1], self.now(self.ledger)
         then, now = shown(old.show), shown(new.show)
         wanted = [moveledger.Change(*key, then.get(key), now.get(key)) for key in sorted({*then, *now}) if then.get(key) != now.get(key)]
-        self.test.assertEqual(sorted(self.ledger.changes(), key=lambda change: change[:2]), wanted)
+        self.test.assertEqual(sorted(self.ledger.changes(), key=operator.itemgetter(0, 1)), wanted)
         modules = [moveledger.ChangedModule(name, name not in old.modules)
                    for name, module in new.modules.items() if old.modules.get(name) != module]
         self.test.assertEqual(self.ledger.changed_modules(), modules)
@@ -301,7 +302,8 @@ class Asked:
         self.test.assertEqual(len(set(names)), count)
         told = [self.ledger.module(name) for name in names]
         self.test.assertEqual([part for module in told if module for part in module], wanted)
-        self.test.assertTrue(all(line.struct.rsplit("::", 1)[0] in names for line in [*self.show, *self.audit]))
+        lines: List[Any] = [*self.show, *self.audit]
+        self.test.assertTrue(all(line.struct.rsplit("::", 1)[0] in names for line in lines))
         self.test.assertIsNone(self.ledger.module("0x99::M"))
 
 
