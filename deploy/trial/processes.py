@@ -17,8 +17,9 @@ SUBREAPER = 36
 NODES = 3
 # The sockets that keep other trials from this one's ports, as long as it runs.
 OURS: List[socket.socket] = []
-# More than the busiest machine takes: nothing that is awaited comes as late as that.
-PATIENCE = 600.0
+# More than the busiest machine takes: nothing that is awaited comes as late as that. (scripts/try-guards, which awaits what never comes, asks
+# for less.)
+PATIENCE = max(60.0, float(os.environ.get("PATIENCE", "600")))
 
 
 class Failed(Exception):
